@@ -1,7 +1,7 @@
 -- What the walk over an argument finds, by its parts.
 use Rattle.std.proofs.Common.{◌≡◌, refl, sym, subst, ap, ◌∙◌, ℕ, Bool, true, false, List, [], ◌∷◌, ◌++◌, Option, Some, None}
 use Rattle.std.proofs.lemmas.Bool.{false≢true}
-use Rattle.std.specs.Prelude.{is_none, if◌then◌else◌, option_map}
+use Rattle.std.specs.Prelude.{not, is_none, if◌then◌else◌, option_map}
 use Rattle.std.proofs.lemmas.Option.{same_Some, none-some}
 use Rattle.c_tree.specs.declared.expression.Name.{Name}
 use Rattle.c_tree.specs.declared.expression.Form.{out-Form}
@@ -16,13 +16,13 @@ use Rattle.c_rules.specs.declared.names.ObjectKind.TheVariants.{Thread}
 use Rattle.c_rules.specs.declared.names.Header.{Header}
 use Rattle.c_rules.specs.declared.names.Scope.{Scope}
 use Rattle.c_rules.specs.Names.{look_up}
-use Rattle.c_rules.specs.Walks.{pure, finds}
+use Rattle.c_rules.specs.Walks.{◌>>◌, pure, finds, finds_if}
 use Rattle.c_expressions.specs.Expressions as e
 use Rattle.c_calls.specs.Arguments as a
 use Rattle.broken_rules.specs.Sight.{Where}
 use Rattle.broken_rules.specs.Parts as p
-use Rattle.broken_rules.specs.Parts.{Part, Parts, if_any, of_each, of_any}
-use Rattle.broken_rules.proofs.Ledgers.{Ledger, Good, good_pure, good_then, good_before, good_with, good_each}
+use Rattle.broken_rules.specs.Parts.{Part, Parts, if_any, of_any}
+use Rattle.broken_rules.proofs.Ledgers.{Ledger, Good, nothing_new, good_pure, good_then, good_before, good_with, good_each}
 use Rattle.broken_rules.proofs.Events.{Events}
 use Rattle.broken_rules.proofs.Unrolled.{argument_is, expression_is, pointer_is, place_name, place_index, argument_of, form_of}
 use Rattle.broken_rules.proofs.Values.{good_argument, good_value, good_index}
@@ -42,9 +42,15 @@ module _ (L : Ledger) (s : Scope) (w : Where) (events : Events L s w) where
   unfolding a.refused_object
   refused_object x = good_before L (a.refused s x) (λ _. pure a.no_object) (p.argument_parts w x) (refused x) (λ _. good_pure L a.no_object)
 
-  refused_routine : (x : ArgumentTree) → Good L (a.refused_routine s x) (p.argument_parts w x)
+  kind_if : (b : Bool) (at : ℕ) → Good L (finds_if b rule.Kind at) []
+  kind_if true at = record { writes = (events.other rule.Kind at tt).writes }
+  kind_if false at = record { writes = λ found. nothing_new L found }
+
+  refused_routine : (is_other : Bool) (x : ArgumentTree) → Good L (a.refused_routine s is_other x) (p.argument_parts w x)
   unfolding a.refused_routine
-  refused_routine x = good_before L (a.refused s x) (λ _. pure None) (p.argument_parts w x) (refused x) (λ _. good_pure L None)
+  refused_routine is_other x =
+      good_then L (finds_if is_other rule.Kind (a.argument_offset x)) (λ _. e.argument s x >> pure None) [] (p.argument_parts w x) (kind_if is_other (a.argument_offset x))
+      (λ _. good_before L (e.argument s x) (λ _. pure None) (p.argument_parts w x) (good_argument L s w events x) (λ _. good_pure L None))
 
   -- ---- values and pointers
 
@@ -146,17 +152,18 @@ module _ (L : Ledger) (s : Scope) (w : Where) (events : Events L s w) where
 
   -- ---- start routines
 
-  named_routine : (x : ArgumentTree) (name : Name) (at : ℕ) (h : Option Header) → a.header_of s (look_up s name.bytes) ≡ h →
-      p.argument_parts w x ≡ Part.Use w name ∷ Part.Read w name ∷ [] → Good L (a.routine_from s x h name.offset at) (Part.Routine w name ∷ p.argument_parts w x)
-  named_routine x name at (Some h) is parts = subst (λ ps. Good L (a.routine h name.offset at) (Part.Routine w name ∷ ps)) (sym parts) (events.routine name h at is)
-  named_routine x name at None is parts = good_with L (Part.Routine w name) (p.argument_parts w x) (events.no_routine name is) (refused_routine x)
+  named_routine : (x : ArgumentTree) (name : Name) (at : ℕ) (is_other : Bool) (h : Option Header) → a.header_of s (look_up s name.bytes) ≡ h →
+      p.argument_parts w x ≡ Part.Use w name ∷ Part.Read w name ∷ [] →
+      Good L (a.routine_from s x h is_other name.offset at) (Part.Routine w name ∷ p.argument_parts w x)
+  named_routine x name at is_other (Some h) is parts = subst (λ ps. Good L (a.routine h name.offset at) (Part.Routine w name ∷ ps)) (sym parts) (events.routine name h at is)
+  named_routine x name at is_other None is parts = good_with L (Part.Routine w name) (p.argument_parts w x) (events.no_routine name is) (refused_routine is_other x)
 
-  routine_place : (x : ArgumentTree) (q : PlaceTree) (at : ℕ) (b : Bool) → is_none (out-Place q).index ≡ b →
+  routine_place : (x : ArgumentTree) (q : PlaceTree) (at : ℕ) (is_other b : Bool) → is_none (out-Place q).index ≡ b →
       (b ≡ true → p.argument_parts w x ≡ Part.Use w (out-Place q).name ∷ Part.Read w (out-Place q).name ∷ []) →
-      Good L (a.routine_from s x (if b then a.header_of s (look_up s (out-Place q).name.bytes) else None) (out-Place q).name.offset at)
+      Good L (a.routine_from s x (if b then a.header_of s (look_up s (out-Place q).name.bytes) else None) is_other (out-Place q).name.offset at)
       (p.routine_by w (if b then Some (out-Place q).name else None) ++ p.argument_parts w x)
-  routine_place x q at true is parts = named_routine x (out-Place q).name at (a.header_of s (look_up s (out-Place q).name.bytes)) refl (parts refl)
-  routine_place x q at false is parts = refused_routine x
+  routine_place x q at is_other true is parts = named_routine x (out-Place q).name at is_other (a.header_of s (look_up s (out-Place q).name.bytes)) refl (parts refl)
+  routine_place x q at is_other false is parts = refused_routine is_other x
 
   -- the parts of a name alone
   two_parts : (n m : Name) (i : Option Parts) → n ≡ m → i ≡ None → (p.place_by w n i).parts ≡ Part.Use w m ∷ Part.Read w m ∷ []
@@ -192,9 +199,9 @@ module _ (L : Ledger) (s : Scope) (w : Where) (events : Events L s w) where
   routine_by : (x : ArgumentTree) (o : Option (PlaceTree × ℕ)) → a.place_in_argument x ≡ o →
       Good L (a.routine_at s x o) (p.routine_by w (p.name_by w (option_map (λ (r : PlaceTree × ℕ). r.0) o)) ++ p.argument_parts w x)
   routine_by x (Some r) is =
-      routine_place x r.0 r.1 (is_none (out-Place r.0).index) refl
+      routine_place x r.0 r.1 (not (a.is_unnamed s r.0)) (is_none (out-Place r.0).index) refl
       (λ none. argument_is w x ∙ alone_layer (out-Argument x) r is ∙ name_parts r.0 none)
-  routine_by x None is = refused_routine x
+  routine_by x None is = refused_routine true x
 
   pub routine_argument : (x : ArgumentTree) → Good L (a.routine_argument s x) (p.routine_by w (p.name_alone w x) ++ p.argument_parts w x)
   unfolding a.routine_argument

@@ -1,7 +1,7 @@
 -- Creates: what a walk notes of them, in the order of the text.
 use Rattle.std.proofs.Common.{◌≡◌, refl, sym, subst, ap, ◌∙◌, inl, inr, ℕ, ◌<◌, Bool, true, false, List, [], ◌∷◌, ◌++◌, length, Option, Some, None}
 use Rattle.std.proofs.Common.{append_assoc, append-nil, arith}
-use Rattle.std.specs.Prelude.{fold, is_none, nat_eq, if◌then◌else◌, option_map, slice_get}
+use Rattle.std.specs.Prelude.{fold, not, is_none, nat_eq, if◌then◌else◌, option_map, slice_get}
 use Rattle.std.proofs.lemmas.Bool.Decides.{nat_tests}
 use Rattle.std.proofs.lemmas.Option.{same_Some, none-some}
 use Rattle.std.proofs.lemmas.Bool.{eq-eqb, false≢true}
@@ -29,7 +29,7 @@ use Rattle.c_rules.specs.Levels.{named_in}
 use Rattle.c_rules.specs.Library.{function_named}
 use Rattle.c_rules.specs.Names as n
 use Rattle.c_rules.specs.Names.{or_else, look_up, declared, declared_outside, known_by, same_kind}
-use Rattle.c_rules.specs.Walks.{Outcome, Finds, pure, finds, calls, creates, place_in_tree, ◌>>=◌, ◌>>◌}
+use Rattle.c_rules.specs.Walks.{Outcome, Finds, pure, finds, finds_if, calls, creates, place_in_tree, ◌>>=◌, ◌>>◌}
 use Rattle.c_expressions.specs.Callees as c
 use Rattle.c_expressions.specs.Expressions as e
 use Rattle.c_calls.specs.Arguments as a
@@ -316,27 +316,31 @@ module _ (D : List (List ℕ × ℕ)) (T : List (List ℕ)) where
   routine_given s None = None
   routine_given s (Some name) = routine_by (a.header_of s (look_up s name.bytes)) name.offset
 
-  refused_routine : (s : Scope) (x : ArgumentTree) (found : Findings) → given (a.refused_routine s x found) ≡ None
+  refused_routine : (s : Scope) (is_other : Bool) (x : ArgumentTree) (found : Findings) → given (a.refused_routine s is_other x found) ≡ None
   unfolding a.refused_routine
-  refused_routine s x found = ap (λ (z : Outcome Findings (Option (ℕ × ℕ))). given z) (turn (a.refused s x found) (λ _. pure None))
+  refused_routine s is_other x found =
+      let first = finds_if is_other rule.Kind (a.argument_offset x) found in
+      ap (λ (z : Outcome Findings (Option (ℕ × ℕ))). given z) (turn first (λ _. e.argument s x >> pure None))
+      ∙ ap (λ (z : Outcome Findings (Option (ℕ × ℕ))). given z) (turn (e.argument s x (left first)) (λ _. pure None))
 
   one_routine : (h : Header) (name_at at : ℕ) (found : Findings) → given (a.routine h name_at at found) ≡ option_map (λ (number : ℕ). (number, name_at)) h.definition
   unfolding a.routine
   one_routine h name_at at found = refl
 
-  routine_from : (s : Scope) (x : ArgumentTree) (h : Option Header) (name_at at : ℕ) (found : Findings) → given (a.routine_from s x h name_at at found) ≡ routine_by h name_at
-  routine_from s x (Some h) name_at at found = one_routine h name_at at found
-  routine_from s x None name_at at found = refused_routine s x found
+  routine_from : (s : Scope) (x : ArgumentTree) (h : Option Header) (is_other : Bool) (name_at at : ℕ) (found : Findings) →
+      given (a.routine_from s x h is_other name_at at found) ≡ routine_by h name_at
+  routine_from s x (Some h) is_other name_at at found = one_routine h name_at at found
+  routine_from s x None is_other name_at at found = refused_routine s is_other x found
 
-  alone : (s : Scope) (x : ArgumentTree) (name : Name) (at : ℕ) (b : Bool) (found : Findings) →
-      given (a.routine_from s x (if b then a.header_of s (look_up s name.bytes) else None) name.offset at found) ≡ routine_given s (if b then Some name else None)
-  alone s x name at true found = routine_from s x (a.header_of s (look_up s name.bytes)) name.offset at found
-  alone s x name at false found = refused_routine s x found
+  alone : (s : Scope) (x : ArgumentTree) (name : Name) (at : ℕ) (is_other b : Bool) (found : Findings) →
+      given (a.routine_from s x (if b then a.header_of s (look_up s name.bytes) else None) is_other name.offset at found) ≡ routine_given s (if b then Some name else None)
+  alone s x name at is_other true found = routine_from s x (a.header_of s (look_up s name.bytes)) is_other name.offset at found
+  alone s x name at is_other false found = refused_routine s is_other x found
 
   routine_at : (s : Scope) (w : Where) (x : ArgumentTree) (o : Option (PlaceTree × ℕ)) (found : Findings) →
       given (a.routine_at s x o found) ≡ routine_given s (p.name_by w (option_map (λ (r : PlaceTree × ℕ). r.0) o))
-  routine_at s w x (Some r) found = alone s x (out-Place r.0).name r.1 (is_none (out-Place r.0).index) found
-  routine_at s w x None found = refused_routine s x found
+  routine_at s w x (Some r) found = alone s x (out-Place r.0).name r.1 (not (a.is_unnamed s r.0)) (is_none (out-Place r.0).index) found
+  routine_at s w x None found = refused_routine s true x found
 
   routine : (s : Scope) (w : Where) (events : Events L s w) (x : ArgumentTree) (found : Findings) → given (a.routine_argument s x found) ≡ routine_given s (p.name_alone w x)
   unfolding a.routine_argument

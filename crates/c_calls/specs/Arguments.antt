@@ -1,5 +1,5 @@
 -- Arguments by the form that a call has at their place (C99 6.5.2.2, POSIX pthread.h).
-use Rattle.std.specs.Prelude.{ℕ, Bool, true, false, not, is_none, if◌then◌else◌, List, slice_get, Option, Some, None, option_map, pos}
+use Rattle.std.specs.Prelude.{ℕ, Bool, true, false, not, ◌&&◌, is_none, if◌then◌else◌, List, slice_get, Option, Some, None, option_map, pos}
 use Rattle.hls_ints.specs.Types.{long_int}
 use Rattle.c_tree.specs.declared.expression.Form.{Form as FormTree, out-Form}
 use Rattle.c_tree.specs.declared.expression.Expression.{Expression as ExpressionTree, out-Expression}
@@ -208,18 +208,24 @@ module _ (s : Scope) where
   abbrev pub header_at : PlaceTree → Option Header
   header_at p = if is_none (out-Place p).index then header_of (look_up s (out-Place p).name.bytes) else None
 
-  unfoldable pub refused_routine : ArgumentTree → Finds (Option (ℕ × ℕ))
-  refused_routine a = do
-    refused a
+  -- whether a place without index has a name that is not declared: it has the form of a start routine
+  abbrev pub is_unnamed : PlaceTree → Bool
+  is_unnamed p = is_none (out-Place p).index && is_unknown (look_up s (out-Place p).name.bytes)
+
+  -- what is no start routine is looked through, and is of another form or not
+  unfoldable pub refused_routine : Bool → ArgumentTree → Finds (Option (ℕ × ℕ))
+  refused_routine is_other a = do
+    finds_if is_other rule.Kind (argument_offset a)
+    argument s a
     pure None
 
-  abbrev pub routine_from : ArgumentTree → Option Header → ℕ → ℕ → Finds (Option (ℕ × ℕ))
-  routine_from a (Some h) name_at at = routine h name_at at
-  routine_from a None name_at at = refused_routine a
+  abbrev pub routine_from : ArgumentTree → Option Header → Bool → ℕ → ℕ → Finds (Option (ℕ × ℕ))
+  routine_from a (Some h) is_other name_at at = routine h name_at at
+  routine_from a None is_other name_at at = refused_routine is_other a
 
   abbrev pub routine_at : ArgumentTree → Option (PlaceTree × ℕ) → Finds (Option (ℕ × ℕ))
-  routine_at a (Some p) = routine_from a (header_at p.0) (out-Place p.0).name.offset p.1
-  routine_at a None = refused_routine a
+  routine_at a (Some p) = routine_from a (header_at p.0) (not (is_unnamed p.0)) (out-Place p.0).name.offset p.1
+  routine_at a None = refused_routine true a
 
   -- the name of a start routine
   unfoldable pub routine_argument : ArgumentTree → Finds (Option (ℕ × ℕ))

@@ -74,16 +74,19 @@ fn refused_object(
     Ok(resolved::ObjectPlace::Single(u32::MAX))
 }
 
+/// An argument that is no start routine, and is of another form than the call has, or not.
 #[tactic(auto, unfolding(crate::specs::Arguments::refused_routine))]
 fn refused_routine(
     alloc: Global,
     scope: &Scope<'_>,
     found: &mut Findings,
+    is_other: bool,
     argument: &Argument,
 ) -> Result<Option<(u32, usize)>, AllocError>
-    ensures { Walks (λ r. r) (spec.refused_routine scope.now argument.now found.old) result found.new }
+    ensures { Walks (λ r. r) (spec.refused_routine scope.now is_other argument.now found.old) result found.new }
 {
-    refuse(alloc, scope, found, argument)?;
+    found.add_if(is_other, Rule::Kind, argument_offset(argument));
+    look_through(alloc, scope, found, argument)?;
     Ok(None)
 }
 
@@ -342,6 +345,13 @@ pub fn thread_argument(
     }
 }
 
+/// Whether a place without index has a name that is not declared.
+fn is_unnamed(scope: &Scope<'_>, place: &Place) -> bool
+    ensures { result ≡ spec.is_unnamed scope.now place.now }
+{
+    place.index.is_none() && is_unknown(scope.look_up(place.name.bytes.as_slice()))
+}
+
 /// The header of the function that a place without index names.
 fn header_at<'s>(scope: &'s Scope<'_>, place: &Place) -> Option<&'s Header>
     ensures { option_copied result ≡ spec.header_at scope.now place.now }
@@ -381,10 +391,13 @@ pub fn routine_argument(
     ensures { Walks (λ r. r) (spec.routine_argument scope.now argument.now found.old) result found.new }
 {
     let Some((place, offset)) = place_in(argument) else {
-        return refused_routine(alloc, scope, found, argument);
+        return refused_routine(alloc, scope, found, true, argument);
     };
     match header_at(scope, place) {
         Some(header) => Ok(routine(found, header, place.name.offset, offset)),
-        None => refused_routine(alloc, scope, found, argument),
+        None => {
+            let is_other = !is_unnamed(scope, place);
+            refused_routine(alloc, scope, found, is_other, argument)
+        }
     }
 }

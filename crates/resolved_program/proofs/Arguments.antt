@@ -198,17 +198,24 @@ module _ (whole : Findings) (P : Program) (number : ℕ) (f : Function) (s : Sco
       (λ _. shows_pure (option_map (λ number. (number, name_at)) h.definition)
       (λ b. routine_with name_at h h.definition refl (not-false (is_start_routine h) b.0.1) (header b.0.0))))
 
-  routine_from_shows : (x : Argument) (h : Option Header) (name_at at : ℕ) → AreValid (argument_leaves x) → (Now → IfAny (IsHeader P) h) →
-      Shows whole Now (IfAny (λ (r : ℕ × ℕ). IsPointerAt P r.0)) (a.routine_from s x h name_at at)
+  refused_routine_shows : (is_other : Bool) (x : Argument) → AreValid (argument_leaves x) →
+      Shows whole Now (IfAny (λ (r : ℕ × ℕ). IsPointerAt P r.0)) (a.refused_routine s is_other x)
   unfolding a.refused_routine
-  routine_from_shows x (Some h) name_at at valid header = routine_shows h name_at at header
-  routine_from_shows x None name_at at valid header = refused_then x None valid
+  refused_routine_shows is_other x valid =
+      shows_then (finds_if is_other rule.Kind (a.argument_offset x)) (λ _. argument s x >> pure None) (shows_if is_other rule.Kind (a.argument_offset x))
+      (λ _. shows_then (argument s x) (λ _. pure None) (shows_as (argument s x) (λ b. b.0) (λ _ _ seen. seen) (argument_shows whole P number f s x valid))
+      (λ _. shows_pure None (λ _. tt)))
+
+  routine_from_shows : (x : Argument) (h : Option Header) (is_other : Bool) (name_at at : ℕ) → AreValid (argument_leaves x) → (Now → IfAny (IsHeader P) h) →
+      Shows whole Now (IfAny (λ (r : ℕ × ℕ). IsPointerAt P r.0)) (a.routine_from s x h is_other name_at at)
+  routine_from_shows x (Some h) is_other name_at at valid header = routine_shows h name_at at header
+  routine_from_shows x None is_other name_at at valid header = refused_routine_shows is_other x valid
 
   routine_at_shows : (x : Argument) (p : Option (PlaceTree × ℕ)) → AreValid (argument_leaves x) →
       Shows whole Now (IfAny (λ (r : ℕ × ℕ). IsPointerAt P r.0)) (a.routine_at s x p)
-  unfolding a.refused_routine
-  routine_at_shows x (Some p) valid = routine_from_shows x (a.header_at s p.0) (out-Place p.0).name.offset p.1 valid (header_at_is p.0)
-  routine_at_shows x None valid = refused_then x None valid
+  routine_at_shows x (Some p) valid =
+      routine_from_shows x (a.header_at s p.0) (not (a.is_unnamed s p.0)) (out-Place p.0).name.offset p.1 valid (header_at_is p.0)
+  routine_at_shows x None valid = refused_routine_shows true x valid
 
   pub routine_argument_shows : (x : Argument) → AreValid (argument_leaves x) →
       Shows whole Now (IfAny (λ (r : ℕ × ℕ). IsPointerAt P r.0)) (a.routine_argument s x)

@@ -41,9 +41,6 @@ positive_all : (list : List LocalVariable) → AllByRecursion (λ (l : LocalVari
 positive_all [] all = tt
 positive_all (l ∷ list) all = (let e = all.0 in omega arith, positive_all list all.1)
 
-number_fits : (n m : ℕ) → n ≤ m → m ≤ 2 ^ 32 → n < 2 ^ 32 → place_in_tree n ≡ n
-number_fits n m le small lt = grind arith
-
 -- what a definition asks for: the names of the file are meant, the headers are in order, and the function is the next one
 pub record IsReady (P : Program) (number : ℕ) (f : FunctionTree) (h : Header) (code : Function) (x : State) : Type 0 where
   pub locals : x.scope.locals ≡ []

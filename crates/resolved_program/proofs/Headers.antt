@@ -99,6 +99,3 @@ routine_same a b same = λ i. is_void_pointer (same.returns i) && is_pointer_alo
 
 pub return_same : (a b : Header) → IsSame a b → y.return_type a ≡ y.return_type b
 return_same a b same = λ i. y.return_by (routine_same a b same i) (same.returns i).base (same.returns i).is_pointer
-
-pub gives_same : (a b : Header) → IsSame a b → y.gives_of a ≡ y.gives_of b
-gives_same a b same = λ i. y.gives_by (routine_same a b same i) (same.returns i).base (same.returns i).is_pointer

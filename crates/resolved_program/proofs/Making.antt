@@ -1,6 +1,6 @@
 -- The creates that a part finds are those of the statements that it stands for.
 use Rattle.std.proofs.Common.{sym, ap, subst, inl, inr, ℕ, Bool, true, false, List, [], ◌∷◌, ◌++◌, map, length, Option, Some, None, arith}
-use Rattle.std.specs.Prelude.{◌⊎◌, not, is_none, is_some, option_map, if◌then◌else◌, Contains}
+use Rattle.std.specs.Prelude.{◌⊎◌, not, is_none, is_some, option_map, Contains}
 use Rattle.std.specs.List.{AllByRecursion}
 use Rattle.std.proofs.lemmas.List.Elements.{Contains-append_cases}
 use Rattle.lists.proofs.Places.{in_one}
@@ -10,7 +10,7 @@ use Rattle.c_tree.specs.declared.expression.Expression.{Expression as Expression
 use Rattle.c_tree.specs.declared.expression.Place.{Place as PlaceTree, out-Place}
 use Rattle.c_tree.specs.declared.expression.Pointer.{Pointer as PointerTree, out-Pointer}
 use Rattle.c_tree.specs.declared.expression.Call.{Call as CallTree, out-Call}
-use Rattle.c_program.specs.Tree.{Expression, ObjectPlace, ThreadCall, RightSide, Piece, Statement}
+use Rattle.c_program.specs.Tree.{Expression, ObjectPlace, ThreadCall, RightSide, Statement}
 use Rattle.c_program.specs.Resolved.{creates_of, object_of}
 use Rattle.c_rules.specs.declared.fault.Rule.TheVariants as rule
 use Rattle.c_rules.specs.declared.findings.Findings.{Findings}
@@ -147,15 +147,19 @@ module _ (s : Scope) where
       (quiet_if (not (is_start_routine h)) rule.Kind at)
       (λ _. quiet_then (finds_if (is_none h.definition) rule.Unknown name_at) (λ _. pure r) (quiet_if (is_none h.definition) rule.Unknown name_at) (λ _. quiet_pure r))
 
-  routine_from : (x : Argument) (h : Option Header) (name_at at : ℕ) → IsQuiet (a.routine_from s x h name_at at)
+  refused_routine : (is_other : Bool) (x : Argument) → IsQuiet (a.refused_routine s is_other x)
   unfolding a.refused_routine
-  routine_from x (Some h) name_at at = routine h name_at at
-  routine_from x None name_at at = refused_then x None
+  refused_routine is_other x =
+      quiet_then (finds_if is_other rule.Kind (a.argument_offset x)) (λ _. argument s x >> pure None) (quiet_if is_other rule.Kind (a.argument_offset x))
+      (λ _. quiet_then (argument s x) (λ _. pure None) (q.quiet_argument s x) (λ _. quiet_pure None))
+
+  routine_from : (x : Argument) (h : Option Header) (is_other : Bool) (name_at at : ℕ) → IsQuiet (a.routine_from s x h is_other name_at at)
+  routine_from x (Some h) is_other name_at at = routine h name_at at
+  routine_from x None is_other name_at at = refused_routine is_other x
 
   routine_at : (x : Argument) (p : Option (PlaceTree × ℕ)) → IsQuiet (a.routine_at s x p)
-  unfolding a.refused_routine
-  routine_at x (Some p) = routine_from x (a.header_at s p.0) (out-Place p.0).name.offset p.1
-  routine_at x None = refused_then x None
+  routine_at x (Some p) = routine_from x (a.header_at s p.0) (not (a.is_unnamed s p.0)) (out-Place p.0).name.offset p.1
+  routine_at x None = refused_routine true x
 
   quiet_routine : (x : Argument) → IsQuiet (a.routine_argument s x)
   unfolding a.routine_argument
@@ -201,10 +205,6 @@ makes_pure x = record { new = λ found k inside. inl inside; kept = λ found k n
 
 makes_nothing : {A : Type 0} (p : Finds A) (make : A → Statement) → IsQuiet p → MakesIt (p >>= (λ x. pure (make x)))
 makes_nothing p make h = makes_quiet p (λ x. pure (make x)) h (λ x. makes_pure (make x))
-
-pub makes_either : (b : Bool) (v w : Finds Statement) → MakesIt v → MakesIt w → MakesIt (if b then v else w)
-makes_either true v w h k = h
-makes_either false v w h k = k
 
 -- ---- calls
 
@@ -292,9 +292,6 @@ module _ (s : Scope) where
       (λ _. makes_nothing (a.value_argument s z) (λ n. made o n) (quiet_value_argument s z)))
   barrier_init_of at (x ∷ y ∷ z ∷ w ∷ more) whole = looked_call whole
 
-  on_object_makes : (function : LibraryFunction) (at : ℕ) (o : ObjectPlace) → MakesIt (pure (Statement.Thread at (c.on_object function o)))
-  on_object_makes function at o = makes_pure (Statement.Thread at (c.on_object function o))
-
   object_of_list : (function : LibraryFunction) (at : ℕ) (list whole : List Argument) → MakesIt (c.object_call_of s function at whole (c.one list))
   unfolding c.object_statement
   object_of_list function at [] whole = looked_call whole
@@ -305,9 +302,6 @@ module _ (s : Scope) where
   object_call : (function : LibraryFunction) (at : ℕ) (list : List Argument) → MakesIt (c.object_call s function at list)
   unfolding c.object_call
   object_call function at list = object_of_list function at list list
-
-  printed_makes : (at : ℕ) (format : Option (List Piece)) (v : List Expression) → MakesIt (pure (c.printed at format v))
-  printed_makes at format v = makes_pure (c.printed at format v)
 
   print_call : (at name_at : ℕ) (list : List Argument) → MakesIt (c.print_call s at name_at list)
   unfolding c.print_call c.print_arguments

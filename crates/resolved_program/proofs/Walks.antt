@@ -1,6 +1,6 @@
 -- What walks that find broken rules give, where no rule is broken in the whole text.
 use Rattle.std.proofs.Common.{◌≡◌, refl, sym, ap, subst, ℕ, suc, Bool, true, false, List, [], ◌∷◌, ◌++◌, length, Option, Some, None, ◌∙◌, add-zero, zero-add, arith}
-use Rattle.std.specs.Prelude.{◌+◌, fold, if◌then◌else◌, unwrap_or, ⊤}
+use Rattle.std.specs.Prelude.{◌+◌, fold, if◌then◌else◌, ⊤}
 use Rattle.std.specs.List.{AllByRecursion}
 use Rattle.std.proofs.lemmas.List.Elements.{Contains-append_left, Contains-append_right}
 use Rattle.std.proofs.lemmas.Option.{same_Some, none-some}
@@ -25,10 +25,6 @@ module _ {S A : Type 0} where
   turn (Outcome.Gives a s) q = refl
 
 -- ---- the first of two faults
-
-abbrev IsNone : {A : Type 0} → Option A → Type 0
-IsNone None = Unit {0}
-IsNone (Some x) = ⊥
 
 chosen : (b : Bool) (x y : Fault) → (if b then Some x else Some y) ≡ None → ⊥
 chosen true x y h = none-some x (sym h)
