@@ -1,7 +1,8 @@
 -- What a parse of the command line says of its words.
 use Rattle.std.proofs.Common.{◌≡◌, ◌≢◌, inl, inr, List, [], ◌∷◌, true, refl, sym, subst, ap, ◌∙◌}
-use Rattle.std.specs.Prelude.{Option, None, option_and_then}
-use Rattle.clap.specs.Words.{App, HasKind, HasMatchesOf, IsAmong, Kinds, Text, fault_of, is_simple, is_simple_and_free, kind_of, subcommand_rows_of}
+use Rattle.std.specs.Prelude.{Result, Ok, IfOk, Option, None, option_and_then}
+use Rattle.clap.specs.Words.{App, HasKind, HasMatchesOf, IsAmong, Kinds, Text, app_of, fault_of, is_simple, is_simple_and_free, kind_of, subcommand_rows_of, with_subcommand}
+use Rattle.clap.specs.declared.builder.command.Command.{Command}
 use Rattle.clap.specs.declared.error.Error.{Error}
 use Rattle.clap.specs.declared.error.kind.ErrorKind.{ErrorKind}
 use Rattle.clap.specs.declared.error.kind.ErrorKind.TheVariants.{OutOfMemory}
@@ -36,3 +37,10 @@ pub task_of-refused : (a : App) (words : List Text) (error : Error) → a ≡ co
 task_of-refused a words error e free other =
     let kind : HasKind (fault_of command_line words) error = subst (λ (x : App). HasKind (fault_of x words) error) e (free (subst (λ (x : App). is_simple_and_free x ≡ true) (sym e) line_is_free)) in
     elim kind [ inl memory ↦ absurd (other memory) | inr among ↦ some_fails (fault_of command_line words) _ _ among ]
+
+-- a command that was added is that of its line
+pub added_is : {E : Type 0} (x : Result Command E) (line : App) (program c : Command) → IfOk x (λ a. app_of a ≡ line)
+    → (added : Command) × (x ≡ Ok added) × (app_of c ≡ with_subcommand (app_of program) (app_of added).top) → app_of c ≡ with_subcommand (app_of program) line.top
+added_is x line program c of is =
+    let at : app_of is.0 ≡ line = subst (λ (y : Result Command _). IfOk y (λ a. app_of a ≡ line)) is.1 of in
+    is.2 ∙ ap (λ (a : App). with_subcommand (app_of program) a.top) at

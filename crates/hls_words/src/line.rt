@@ -1,4 +1,4 @@
-ghost use Rattle.std.specs.Prelude.{◌≡◌, Option, Some, None, false, map, string_bytes, IfOk, IsErrOf, ◌≢◌, is_some, option_and_then, option_map};
+ghost use Rattle.std.specs.Prelude.{◌≡◌, Ok, Option, Some, None, false, map, string_bytes, IfOk, IsErrOf, ◌≢◌, is_some, option_and_then, option_map};
 ghost use Rattle.clap.specs.Words.{app_of, rule_of, rows_of, one_of, first_of, found_of, kind_of, subcommand_rows_of, with_rule, with_subcommand};
 ghost use Rattle.clap.specs.declared.builder.command.Command.TheViews.{out-Command as fields_of};
 ghost use Rattle.clap.specs.declared.error.kind.ErrorKind.TheVariants.{OutOfMemory};
@@ -52,14 +52,16 @@ fn flag_option<'a>(alloc: Global, name: &'a str) -> Arg<'a>
 }
 
 fn build_command<'a>(alloc: Global) -> Result<Command<'a>, AllocError>
-    ensures { IfOk result (λ c. (app_of c ≡ build_line) × ((fields_of c).has_globals ≡ false)) }
+    ensures line { IfOk result (λ c. app_of c ≡ build_line) }
+    ensures local { IfOk result (λ c. (fields_of c).has_globals ≡ false) }
 {
     let jobs = number_option(alloc, "jobs", 1, MOST_JOBS);
     Command::new(alloc, "build").arg(jobs)
 }
 
 fn step_command<'a>(alloc: Global) -> Result<Command<'a>, AllocError>
-    ensures { IfOk result (λ c. (app_of c ≡ step_line) × ((fields_of c).has_globals ≡ false)) }
+    ensures line { IfOk result (λ c. app_of c ≡ step_line) }
+    ensures local { IfOk result (λ c. (fields_of c).has_globals ≡ false) }
 {
     let cycles = required_number(alloc, "cycles", 0, u32::MAX);
     let vcd = flag_option(alloc, "vcd");
@@ -67,7 +69,8 @@ fn step_command<'a>(alloc: Global) -> Result<Command<'a>, AllocError>
 }
 
 fn run_command<'a>(alloc: Global) -> Result<Command<'a>, AllocError>
-    ensures { IfOk result (λ c. (app_of c ≡ run_line) × ((fields_of c).has_globals ≡ false)) }
+    ensures line { IfOk result (λ c. app_of c ≡ run_line) }
+    ensures local { IfOk result (λ c. (fields_of c).has_globals ≡ false) }
 {
     let entries = number_option(alloc, "entries", 1, MOST_ENTRIES);
     let journal = flag_option(alloc, "journal");
@@ -75,7 +78,8 @@ fn run_command<'a>(alloc: Global) -> Result<Command<'a>, AllocError>
 }
 
 fn replay_command<'a>(alloc: Global) -> Command<'a>
-    ensures { (app_of result ≡ replay_line) × ((fields_of result).has_globals ≡ false) }
+    ensures line { app_of result ≡ replay_line }
+    ensures local { (fields_of result).has_globals ≡ false }
 {
     Command::new(alloc, "replay")
 }
@@ -89,25 +93,30 @@ fn required_text<'a>(alloc: Global, name: &'a str) -> Arg<'a>
 }
 
 fn walk_command<'a>(alloc: Global) -> Result<Command<'a>, AllocError>
-    ensures { IfOk result (λ c. (app_of c ≡ walk_line) × ((fields_of c).has_globals ≡ false)) }
+    ensures line { IfOk result (λ c. app_of c ≡ walk_line) }
+    ensures local { IfOk result (λ c. (fields_of c).has_globals ≡ false) }
 {
     let threads = required_text(alloc, "threads");
     Command::new(alloc, "walk").arg(threads)
 }
 
 fn sim_command<'a>(alloc: Global) -> Result<Command<'a>, AllocError>
-    ensures { IfOk result (λ c. (app_of c ≡ sim_line) × ((fields_of c).has_globals ≡ false)) }
+    ensures line { IfOk result (λ c. app_of c ≡ sim_line) }
+    ensures local { IfOk result (λ c. (fields_of c).has_globals ≡ false) }
 {
     let cycles = required_number(alloc, "cycles", 0, u32::MAX);
     Command::new(alloc, "sim").arg(cycles)
 }
 
-/// Adds a command that has no global argument.
-fn with_command<'a>(program: Command<'a>, command: Command<'a>) -> Result<Command<'a>, AllocError>
-    requires { (fields_of command).has_globals ≡ false }
-    ensures { IfOk result (λ c. app_of c ≡ with_subcommand (app_of program.entry) (app_of command.entry).top) }
+/// Adds a command that has no global argument, where there was memory for it.
+fn with_command<'a>(
+    program: Command<'a>,
+    command: Result<Command<'a>, AllocError>,
+) -> Result<Command<'a>, AllocError>
+    requires { IfOk command (λ c. (fields_of c).has_globals ≡ false) }
+    ensures { IfOk result (λ c. (added : _) × (command.entry ≡ Ok added) × (app_of c ≡ with_subcommand (app_of program.entry) (app_of added).top)) }
 {
-    program.subcommand(command)
+    program.subcommand(command?)
 }
 
 /// The program with every command of the table.
@@ -115,12 +124,12 @@ fn whole_command<'a>(alloc: Global) -> Result<Command<'a>, AllocError>
     ensures { IfOk result (λ c. app_of c ≡ command_line) }
 {
     let program = Command::new(alloc, "hls").subcommand_required(true);
-    let build = with_command(program, build_command(alloc)?)?;
-    let step = with_command(build, step_command(alloc)?)?;
-    let run = with_command(step, run_command(alloc)?)?;
-    let replay = with_command(run, replay_command(alloc))?;
-    let walk = with_command(replay, walk_command(alloc)?)?;
-    with_command(walk, sim_command(alloc)?)
+    let program = with_command(program, build_command(alloc))?;
+    let program = with_command(program, step_command(alloc))?;
+    let program = with_command(program, run_command(alloc))?;
+    let program = with_command(program, Ok(replay_command(alloc)))?;
+    let program = with_command(program, walk_command(alloc))?;
+    with_command(program, sim_command(alloc))
 }
 
 fn is_given(matches: &ArgMatches<'_>, id: &str) -> bool
