@@ -71,9 +71,6 @@ length_breaks tree v is.NotConstant e stands h = Breaks.LengthNotConstant v stan
 
 -- ---- initial values of arrays
 
-no_value : (x : Typed) (n : ℕ) → is.Constant x ≡ is.NotConstant → ⊥
-no_value x n h = cc
-
 -- what a length is, if it is one
 pos_same : (m n : ℕ) → pos m ≡ pos n → m ≡ n
 pos_same m n e = cc

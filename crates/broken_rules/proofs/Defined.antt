@@ -1,5 +1,5 @@
 -- The number that the resolver notes for a name is that of the first definition of a function of the name.
-use Rattle.std.proofs.Common.{◌≡◌, refl, sym, subst, ap, ◌∙◌, inl, inr, ℕ, suc, ◌<◌, ◌≤◌, Bool, true, false, List, [], ◌∷◌, ◌++◌, length, Option, Some, None}
+use Rattle.std.proofs.Common.{◌≡◌, refl, sym, subst, ap, ◌∙◌, inl, inr, ℕ, ◌<◌, ◌≤◌, Bool, true, false, List, [], ◌∷◌, ◌++◌, length, Option, Some, None}
 use Rattle.std.proofs.Common.{append-nil, append_assoc, arith}
 use Rattle.std.specs.Prelude.{◌⊎◌, ◌+◌, min, fold, is_some, if◌then◌else◌, slice_get}
 use Rattle.std.specs.Str.{bytes_eq}
@@ -44,10 +44,6 @@ all_noted (x ∷ list) d =
     ap (λ (z : t.Noted). noted_by z list) (one_noted d x) ∙ all_noted list (fold note d (definition_in x)) ∙ sym (fold-append note d (definition_in x) (definitions list))
 
 -- ---- one more definition
-
-shifted : (A B C : Type 0) (n m : ℕ) → A ⊎ ((n ≡ m) × B) → A ⊎ ((suc n ≡ suc m) × B)
-shifted A B C n m (inl h) = inl h
-shifted A B C n m (inr h) = inr (ap suc h.0, h.1)
 
 -- the first function of the name
 record IsFirst (list : List Function) (key : List ℕ) (n : ℕ) : Type 0 where

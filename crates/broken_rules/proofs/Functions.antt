@@ -56,9 +56,6 @@ in_scope_keeps scope (Outcome.Gives a found) = refl
 keeps_finding : {A : Type 0} (walk : Scope → Finds A) → Keeps (finding walk)
 keeps_finding walk x = in_scope_keeps x.scope (walk x.scope x.found)
 
-keeps_pure : {A : Type 0} (a : A) → Keeps (pure a)
-keeps_pure a x = refl
-
 keeps_scoping : (change : Scope → Scope) → ((s : Scope) → (change s).gives ≡ s.gives) → Keeps (scoping change)
 keeps_scoping change h x = h x.scope
 

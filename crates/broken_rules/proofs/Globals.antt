@@ -36,7 +36,7 @@ use Rattle.c_resolution.specs.Files.{File, Tables, Declares, in_file, going, tab
 use Rattle.c_resolution.specs.Globals as g
 use Rattle.broken_rules.specs.Sight.{Declared, Names, Where, behind}
 use Rattle.broken_rules.specs.Parts as p
-use Rattle.broken_rules.specs.Parts.{Part, Parts, of_any, of_each}
+use Rattle.broken_rules.specs.Parts.{Part, Parts, of_any}
 use Rattle.broken_rules.proofs.Ledgers.{Ledger, Good, Writes, given, left, turn, after_one, good_pure, good_then, good_before, good_visited}
 use Rattle.broken_rules.proofs.Ledgers.{nothing_new, writes_both}
 use Rattle.broken_rules.proofs.Events.{Events, length_given, length_by}
@@ -184,10 +184,6 @@ going_tables walk x = in_file_tables x.tables (walk (state x.scope x.found))
 pub then_tables : {A B : Type 0} (q : Declares A) (r : A → Declares B) (x : File) → (left ((q >>= r) x)).tables ≡ (left (r (given (q x)) (left (q x)))).tables
 then_tables {A} {B} q r x = ap (λ (o : Outcome File B). (left o).tables) (turn (q x) r)
 
--- behind a walk that leaves the tables as they are
-going_then : {A B : Type 0} (walk : Goes A) (r : A → Declares B) (x : File) → (left ((going walk >>= r) x)).tables ≡ (left (r (given (going walk x)) (left (going walk x)))).tables
-going_then walk r x = then_tables (going walk) r x
-
 changed_by : {A : Type 0} (walk : Goes A) (change : A → Tables → Tables) (x : File) → (a : A) × ((left ((going walk >>= (λ v. tabling (change v))) x)).tables ≡ change a x.tables)
 changed_by walk change x =
     let o = going walk x in
@@ -284,9 +280,6 @@ module _ (L : Ledger) (S : Scoping L) where
 
   pub file_going : {A : Type 0} (walk : Goes A) (Is : A → Type 0) (ps : Parts) (w v : Where) (n : ℕ) → Goes_right L S w walk Is ps v → Files w n (going walk) Is ps v n
   file_going walk Is ps w v n h x agrees count = in_file_right Is x ps v n (walk (state x.scope x.found)) (h (state x.scope x.found) agrees) count
-
-  pub file_pure : {A : Type 0} (a : A) (w : Where) (n : ℕ) → Files w n (pure a) (λ _. Unit {0}) [] w n
-  file_pure a w n x agrees count = (record { writes = nothing_new L x.found; agrees = agrees; counts = count }, tt)
 
   pub file_tabling : (change : Tables → Tables) (w : Where) (n m : ℕ) → ((t : Tables) → length t.functions ≡ n → length (change t).functions ≡ m) →
       Files w n (tabling change) (λ _. Unit {0}) [] w m

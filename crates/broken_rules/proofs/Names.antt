@@ -124,13 +124,6 @@ module _ (D : List (List ℕ × ℕ)) where
   pub quiet : {A : Type 0} {w : Finds A} (part : Part) → ((x : Fault) → BreaksAt part x → ⊥) → Plain w [] → Plain w (part ∷ [])
   quiet part none h = good_with name_ledger part [] none h
 
-  pub quiet_more : {A : Type 0} {w : Finds A} {ps : Parts} (part : Part) → ((x : Fault) → BreaksAt part x → ⊥) → Plain w ps → Plain w (part ∷ ps)
-  quiet_more {ps = ps} part none h = good_with name_ledger part ps none h
-
-  pub quiet_two : {A : Type 0} {w : Finds A} (part next : Part) → ((x : Fault) → BreaksAt part x → ⊥) → ((x : Fault) → BreaksAt next x → ⊥) → Plain w [] → Plain w (part ∷
-      next ∷ [])
-  quiet_two part next none more h = good_with name_ledger part (next ∷ []) none (good_with name_ledger next [] more h)
-
   -- ---- names that are called
 
   call_quiet : (caller : Option ℕ) (callee at : ℕ) → Plain (calls caller callee at) []

@@ -6,7 +6,6 @@ use Rattle.std.specs.Str.{bytes_eq}
 use Rattle.std.proofs.lemmas.Slice.Eq.{bytes_eq-Decides}
 use Rattle.std.proofs.lemmas.Option.{same_Some, none-some}
 use Rattle.lists.proofs.Places.{length_more, get_last, get_front}
-use Rattle.c_tree.specs.declared.expression.Name.{Name}
 use Rattle.c_tree.specs.declared.declaration.Function.{Function}
 use Rattle.c_rules.specs.declared.names.Meaning.{Meaning}
 use Rattle.c_rules.specs.declared.names.Meaning.TheVariants as meaning
@@ -17,7 +16,7 @@ use Rattle.c_rules.specs.declared.library.LibraryFunction.{LibraryFunction}
 use Rattle.c_rules.specs.Levels.{named_in, inserted}
 use Rattle.c_rules.specs.Library.{function_named}
 use Rattle.c_rules.specs.Names as n
-use Rattle.c_rules.specs.Names.{or_else, declared, declared_outside, look_up, known_by, from_declaration, is_taken, declaring, opened, closed, closed_to}
+use Rattle.c_rules.specs.Names.{or_else, declared, declared_outside, look_up, known_by, from_declaration, opened, closed, closed_to}
 use Rattle.c_resolution.specs.Resolving.{scope_with}
 use Rattle.c_resolution.specs.Functions as y
 use Rattle.broken_rules.specs.Sight.{Declared, Names, Where, declaration_in, with_names, inside}
@@ -26,10 +25,6 @@ use Rattle.broken_rules.proofs.Walks.{IsUsual, IsParameter, IsGlobal, IsOpen, is
 -- ---- names in tables
 
 module _ {A : Type 0} where
-  one_named : (c : Bool) (x : Option A) (a : A) → (if c then Some a else x) ≡ or_else (if c then Some a else None) x
-  one_named true x a = refl
-  one_named false x a = refl
-
   cond_or : (c : Bool) (a : A) (x z : Option A) → (if c then Some a else or_else x z) ≡ or_else (if c then Some a else x) z
   cond_or true a x z = refl
   cond_or false a x z = refl
@@ -194,9 +189,6 @@ module _ (D : List (List ℕ × ℕ)) where
   closed_agrees s scope w opening h = closed_by s w opening.scope opening.outer opening.are h.defined (subst (λ scopes. Levels s.headers s.outer scopes) opening.are h.scopes.1)
 
   -- ---- names that are declared
-
-  abbrev with_name : Name → Declared → List Names → List Names
-  with_name name d scopes = with_names ((name.bytes, d) ∷ []) scopes
 
   -- a new name
   new_level : (headers : List Header) (decls : Names) (names : n.Names) (name : List ℕ) (d : Declared) (m : Meaning) → named_in names name ≡ None → MeansIn headers d m →

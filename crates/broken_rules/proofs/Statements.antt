@@ -1,6 +1,6 @@
 -- What statements and blocks write.
 use Rattle.std.proofs.Common.{◌≡◌, sym, subst, ℕ, List, [], ◌∷◌, ◌++◌, map, Option, Some, None, append_assoc}
-use Rattle.std.specs.Prelude.{◌+◌, ◌-◌, min, option_map}
+use Rattle.std.specs.Prelude.{◌+◌, ◌-◌, min}
 use denote.Hole.Holds.{Such}
 use Rattle.c_tree.specs.declared.expression.Expression.{Expression as ExpressionTree}
 use Rattle.c_tree.specs.declared.declaration.Declaration.{Declaration}
@@ -25,7 +25,7 @@ use Rattle.c_resolution.specs.Statements as y
 use Rattle.c_resolution.specs.Statements.{Adds, item_step, statement_step, block_step, item, statement, items}
 use Rattle.broken_rules.specs.Sight.{Names, Where, behind, inside}
 use Rattle.broken_rules.specs.Parts as p
-use Rattle.broken_rules.specs.Parts.{Part, Parts, Sighted, Itemed, of_any, item_layer, statement_layer, block_layer, item_parts, statement_parts, block_parts}
+use Rattle.broken_rules.specs.Parts.{Parts, Sighted, Itemed, of_any, item_layer, statement_layer, block_layer, item_parts, statement_parts, block_parts}
 use Rattle.broken_rules.proofs.Ledgers.{Ledger, given, left, after_one, good_pure, nothing_new, writes_both}
 use Rattle.broken_rules.proofs.Values.{good_condition}
 use Rattle.broken_rules.proofs.Simple as k
@@ -221,12 +221,6 @@ module _ (L : Ledger) (S : Scoping L) where
       (λ _ _. right_before L S body (λ b. scoping closed >> pure (y.block_of b)) (λ _. Unit {0}) (λ _. Unit {0}) (q (inside w)) (inside w) v w (h.is [] w)
       (λ b _. right_then L S (scoping closed) (λ _. pure (y.block_of b)) (λ _. Unit {0}) (λ _. Unit {0}) [] [] v w w
       (right_scoping L S closed v w (λ s here. S.closed s (h.end [] w) w opening here)) (λ _ _. done (y.block_of b) w))) x agrees
-
-  alternative_is : (o : Option SomeStatement) (w : Where) →
-      Goes_right L S w (y.missing_is_done (option_map (λ (t : SomeStatement). statement t.0) o)) (λ _. Unit {0}) (p.in_any (option_map (λ (t : SomeStatement).
-      statement_parts t.0) o) w) w
-  alternative_is None w = done Statement.Done w
-  alternative_is (Some t) w = t.1 w
 
   branch : (test : ExpressionTree) (a b : Goes Statement) (ps qs : Sighted) → IsStatement a ps → IsStatement b qs → (w : Where) →
       Goes_right L S w (finding (λ s. condition s test) >>= (λ c. a >>= (λ x. b >>= (λ y. pure (Statement.If c x y))))) (λ _. Unit {0})

@@ -23,7 +23,7 @@ use Rattle.c_tree.specs.declared.expression.Argument.TheFolds.{claims, map-Argum
 use Rattle.c_tree.specs.declared.expression.Argument.TheFolds.{fold-Form, fold-Call, fold-Choice, fold-Pointer, fold-Term}
 use Rattle.c_tree.specs.declared.expression.Argument.TheFolds.{fold-roll-Argument, fold-roll-Form, fold-roll-Call, fold-roll-Choice}
 use Rattle.c_tree.specs.declared.expression.Argument.TheFolds.{fold-roll-Expression, fold-roll-Place, fold-roll-Pointer, fold-roll-Term}
-use Rattle.c_tree.specs.declared.expression.Argument.TheFolds.{ind-Argument, ind-Expression, ind-Place, ind-Pointer}
+use Rattle.c_tree.specs.declared.expression.Argument.TheFolds.{ind-Argument, ind-Expression, ind-Place}
 use Rattle.c_program.specs.declared.tree.BinaryOperator.{BinaryOperator as ResolvedBinary}
 use Rattle.c_program.specs.Tree.{Expression, Condition}
 use Rattle.c_rules.specs.declared.fault.Rule.{Rule}
@@ -609,10 +609,6 @@ module _ (L : Ledger) (s : Scope) (w : Where) (events : Events L s w) where
 
   pub good_place : (x : PlaceTree) → ClaimPlace x
   good_place = ind-Place ClaimArgument ClaimForm ClaimCall ClaimChoice ClaimExpression ClaimPlace ClaimPointer ClaimTerm argument_induct form_induct call_induct
-      choice_induct expression_induct place_induct pointer_induct term_induct
-
-  pub good_pointer : (x : PointerTree) → ClaimPointer x
-  good_pointer = ind-Pointer ClaimArgument ClaimForm ClaimCall ClaimChoice ClaimExpression ClaimPlace ClaimPointer ClaimTerm argument_induct form_induct call_induct
       choice_induct expression_induct place_induct pointer_induct term_induct
 
   all_good : (list : List ArgumentTree) → AllByRecursion ClaimArgument list

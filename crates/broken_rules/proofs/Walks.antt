@@ -145,9 +145,6 @@ module _ (L : Ledger) (S : Scoping L) where
   abbrev pub Goes_right : {A : Type 0} → Where → Goes A → (A → Type 0) → Parts → Where → Type 0
   Goes_right w walk Is parts v = (x : State) → S.Agrees x.scope w → Right L S.Agrees x (walk x) Is parts v
 
-  abbrev pub Any_value : {A : Type 0} → A → Type 0
-  Any_value a = Unit {0}
-
   pub right_pure : {A : Type 0} (Is : A → Type 0) (a : A) (w : Where) → Is a → Goes_right w (pure a) Is [] w
   right_pure Is a w is x agrees = record { writes = nothing_new L x.found; agrees = agrees; value = is }
 

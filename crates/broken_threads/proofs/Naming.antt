@@ -5,7 +5,6 @@ use Rattle.std.proofs.lemmas.Option.{same_Some, none-some}
 use Rattle.std.proofs.lemmas.Bool.{not-false, or_parts, both_ways, not-true, false≢true}
 use Rattle.c_tree.specs.declared.expression.Name.{Name}
 use Rattle.c_tree.specs.declared.declaration.Function.{Function}
-use Rattle.c_tree.specs.declared.declaration.Parameter.{Parameter}
 use Rattle.c_rules.specs.declared.fault.Rule.TheVariants as rule
 use Rattle.c_rules.specs.declared.fault.Fault.{Fault}
 use Rattle.c_rules.specs.declared.library.LibraryFunction.{LibraryFunction}
@@ -52,9 +51,6 @@ same_library f g h = cc
 
 same_function : (f g : Function) → Declared.OfFunction f ≡ Declared.OfFunction g → f ≡ g
 same_function f g h = cc
-
-same_parameter : (p q : Parameter) → Declared.OfParameter p ≡ Declared.OfParameter q → p ≡ q
-same_parameter p q h = cc
 
 -- ---- where a part stands
 

@@ -27,7 +27,7 @@ use Rattle.c_rules.specs.Constants.{constancy, constant_value}
 use Rattle.c_rules.specs.Findings.{nothing}
 use Rattle.c_rules.specs.Levels.{named_in}
 use Rattle.c_rules.specs.Library.{function_named}
-use Rattle.c_rules.specs.Names.{look_up, is_argument, is_taken, declaring, opened, closed, closed_to}
+use Rattle.c_rules.specs.Names.{look_up, is_taken, declaring, opened, closed, closed_to}
 use Rattle.c_rules.specs.Names as names
 use Rattle.c_rules.specs.Specifiers.{base_of, plain, spelled_by}
 use Rattle.c_rules.specs.Walks.{Outcome, Finds, pure, finds, finds_if, ◌>>◌}
@@ -52,7 +52,7 @@ use Rattle.broken_rules.proofs.Functions.{text_is}
 use Rattle.broken_rules.proofs.NameScope as n
 use Rattle.broken_rules.proofs.NameScope.{IsMeant}
 use Rattle.broken_threads.proofs.Uses as q
-use Rattle.broken_threads.proofs.Uses.{BreaksAt, use_ledger}
+use Rattle.broken_threads.proofs.Uses.{use_ledger}
 use Rattle.broken_threads.proofs.Naming as m
 use Rattle.broken_threads.proofs.Naming.{BodyIs, Stands}
 
@@ -181,9 +181,6 @@ module _ (D : List (List ℕ × ℕ)) where
   same_closed_to : (s : Scope) (o : Option names.Names) → InSame s (closed_to o s)
   same_closed_to s None = record { function = refl; gives = refl }
   same_closed_to s (Some level) = record { function = refl; gives = refl }
-
-  back : (s z : Scope) → InSame s z → InSame z s
-  back s z h = record { function = sym h.function; gives = sym h.gives }
 
   same_closed : (s : Scope) → InSame s (closed s)
   unfolding closed

@@ -1,6 +1,5 @@
 -- What a simulation owes.
-use Rattle.std.specs.Prelude.{IfSome}
-use Rattle.std.proofs.Common.{◌≡◌, ℕ, ◌<◌, ◌≤◌, Bool, true, false, List, length, Option, Some, inl, inr, refl, sym, subst, ◌∙◌, String, string_bytes}
+use Rattle.std.proofs.Common.{◌≡◌, ℕ, ◌≤◌, Bool, true, false, List, length, Option, Some, inr, sym, subst, String, string_bytes}
 use Rattle.std.specs.declared.alloc.Global.{Global}
 use Rattle.netlist.specs.NetlistOf.{netlist_of}
 use Rattle.sim_layout.specs.Rounds.{threads_of as enabled_of}
@@ -65,11 +64,6 @@ module _ (most : ℕ) (text : List ℕ) (short : length text ≤ most_simulated)
         },
         is.1,
       )
-
--- a text that is too long
-pub long_owes : (most : ℕ) (left : Option (List ℕ)) → IfSome left (λ bytes. most_simulated < length bytes) → (a : Answer)
-    → (a.status ≡ status.NotNet most_simulated) × IsPlain (due_of a) (not_net_line most_simulated) → SimOwes most left (due_of a) a.status
-long_owes most left long a is = subst (SimOwes most left (due_of a)) (sym is.0) (inl (refl, long), is.1)
 
 -- ---- what is owed for the task
 
