@@ -43,9 +43,6 @@ module _ (P : Program) (codes : Codes) (N : Numbers) (T : ℕ) (R : IsResolved P
   abbrev ServesJoin : Asked → Type 0
   ServesJoin a = Serves P codes N T s i f next variables arrays (act.Join thread) a c
 
-  undefined : (offset : ℕ) → step P s i ≡ Undefines offset ThreadId → ⊥
-  undefined offset e = never P R s i offset ThreadId step_of.calls at.reached at.defined step_of.runs e
-
   slot : slice_get s.slots i ≡ Some (Running step_of.calls)
   slot = ap (λ (x : Local). x.slot) step_of.runs
 
@@ -193,13 +190,6 @@ module _ (P : Program) (codes : Codes) (N : Numbers) (T : ℕ) (R : IsResolved P
     goes = λ may. absurd (let no = not_two n frames runs in let z = sym (ap (λ (z : Core). may_grant z i (asks_join n)) table.is) ∙ may in cc);
     waits = λ no. ap outcome_of e;
   }
-
-  runs_before : (n : ℕ) (frames : List Frame) → slice_get slots n ≡ Some (Running frames) → (old : List Frame) × (slice_get s.slots n ≡ Some (Running old))
-  runs_before n frames now =
-      ⊎_elim
-      (λ same. (step_of.calls, subst (λ k. slice_get s.slots k ≡ Some (Running step_of.calls)) same slot))
-      (λ ne. (frames, sym (set_elsewhere s.slots i n (Running step_of.frames) ne) ∙ now))
-      (cases_eq i n)
 
 module _ (P : Program) (codes : Codes) (N : Numbers) (T : ℕ) (R : IsResolved P) (numbers : AreNumbers P N T) (thread : ActOperand) (s : State) (i f l next : ℕ)
     (variables : ℕ → ℤ) (arrays : Memory ℤ) (c : ℕ → Core) (ask : Asked) (at : StandsAtAct P codes N T s i f l next variables arrays (act.Join thread) ask c)

@@ -5,7 +5,6 @@ use Rattle.std.specs.Fmt.{signed_decimal}
 use Rattle.std.proofs.Common.{◌≡◌, ◌≢◌, ℕ, List, [], ◌∷◌, ◌++◌, refl, sym, ap, ◌∙◌, subst, arith}
 use Rattle.std.proofs.lemmas.Option.{slice_get_within}
 use Rattle.lists.proofs.Places.{set_there, set_elsewhere}
-use Rattle.hls_ints.specs.Residues.{bit_of}
 use Rattle.hls_ints.specs.Words.{signed_word}
 use Rattle.c_program.specs.Tree.{Piece, Program}
 use Rattle.c_program.specs.Resolved.{IsResolved}
@@ -50,9 +49,6 @@ module _ (P : Program) (codes : Codes) (N : Numbers) (T : ℕ) (R : IsResolved P
 
   others_stay : (j : ℕ) → j ≢ printer_core N → after j ≡ c j
   others_stay j ne = other_core T (print_formats P) (printer_core N) i asks_print c j ne
-
-  one_bit : (b : Bool) → N.ids ≡ b → N.ids ≡ true → bit_of N.ids ≡ 1
-  one_bit b e t = ap bit_of t
 
   prints : (format : List Piece) (operands : List ℤ) → slice_get (print_formats P) site ≡ Some format →
       printed format operands ≡ text_at (Some format) (operand_words variables values) →

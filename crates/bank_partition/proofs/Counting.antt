@@ -95,9 +95,6 @@ within_greatest n k p most l =
     (λ e. within_above n k (inr (inr (inr e))) l)
     (λ e. absurd (omega arith))
 
-within_one : (n : ℕ) → n ≤ 1 → power_within n ≡ 1
-within_one n l = grind (arith, nat_tests)
-
 pub count_is : (threads long : ℕ) → 0 < long → IsBankCount threads long (bank_count threads long)
 count_is threads long l =
     let p = power_from threads in
@@ -119,14 +116,6 @@ count_is threads long l =
           ⊎_elim (λ (t : threads ≤ p). a.wanted p (from_power threads) t) (λ (e : p ≡ 8). omega arith) (from_covers threads) in
           within_greatest (min p long) other q o (omega arith);
     }
-
--- a global that one thread names, or none, has one bank
-pub one_bank : (threads long : ℕ) → threads ≤ 1 → bank_count threads long ≡ 1
-one_bank threads long l =
-    let t : nat_le threads 1 ≡ true = grind (arith, nat_tests) in
-    let p : power_from threads ≡ 1 = ap (λ b. if b then 1 else (if nat_le threads 2 then 2 else (if nat_le threads 4 then 4 else 8))) t in
-    let m : min 1 long ≤ 1 = omega arith in
-    ap (λ k. power_within (min k long)) p ∙ within_one (min 1 long) m
 
 -- ---- words
 

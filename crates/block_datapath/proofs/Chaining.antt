@@ -36,10 +36,6 @@ pub set_bit : (t : Bool) → not (nat_eq (bit_of t) 0) ≡ t
 set_bit true = refl
 set_bit false = refl
 
-only_where : (t u v : Bool) → (t ≡ true → u ≡ v) → (t && u) ≡ (t && v)
-only_where true u v h = h refl
-only_where false u v h = refl
-
 -- ---- stages and states
 
 pub stage_answer : {E : Type 0} (x : Result ℕ E) (a b : List Signal) (registers : Registers) (l : ℕ)
@@ -140,17 +136,6 @@ choose c b i d S K O e f h = ap (λ k. if c && k then S else O) e ∙ chosen c b
 
 eq_turned : (x n : ℕ) → nat_eq n x ≡ nat_eq x n
 eq_turned x n = ⊎_elim (λ e. same_is n x (sym e) ∙ sym (same_is x n e)) (λ ne. other_is n x (λ e. ne (sym e)) ∙ sym (other_is x n ne)) (cases_eq x n)
-
-pub keep_none : (a : List Signal) (registers : Registers) (at states : ℕ) (before : List ℕ) (g : Given) → g.register ≡ None → KeepsOne a a registers at states before before g
-keep_none a registers at states before g e = record {
-  grows = grows_refl a;
-  count = refl;
-  shows = λ m r t s x grows o is can less same.
-      let number = kept_number r (held_width (slice_get registers.kept x)) (Some g) in
-      unkept (t && nat_eq s g.last) number (next_number r before x)
-      ∙ ap (λ (k : Option ℕ). if (t && nat_eq s g.last) && is_register k x then number else next_number r before x) (sym e);
-  rests = λ m r x grows o wide off less. refl;
-}
 
 pub keep_missing : (a : List Signal) (registers : Registers) (at states : ℕ) (before : List ℕ) (g : Given) (number : ℕ) → g.register ≡ Some number →
     slice_get registers.kept number ≡ None

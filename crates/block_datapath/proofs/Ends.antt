@@ -297,9 +297,6 @@ module _ (globals : List IntegerType) (code : ThreadCode) (registers : Registers
           (test_end globals code registers b p right s2 values first.each bank m r q wire (from_2 m g) o sees wired at_end b.next end.state (state_at at_end) refl right.typed.next)
           ∙ stage_end globals code registers b p right s2 values first.each bank m r q wire (from_2 m g) o sees wired at_end b.next end.state right.typed.next
 
-  from_0 : (m : Module) → Grows s6 m.signals → Grows s0 m.signals
-  from_0 m g = grows_then s0 s6 m.signals all_grow g
-
   pub block_left : (left : Left) → left.values ≡ values → left.end ≡ end → left.last ≡ last → left.target ≡ target
       → FinishesBlock globals code registers l b p before after left s0 s6
   block_left left given at e f = record {

@@ -10,8 +10,7 @@ use Rattle.hls_ints.specs.Types.{IntegerType, wrapped}
 use Rattle.hls_ints.specs.Operators.{is_zero}
 use Rattle.block_ir.specs.declared.operand.Operand.{Operand}
 use Rattle.block_ir.specs.declared.block.Final.{Final}
-use Rattle.block_ir.specs.declared.block.Next.{Next}
-use Rattle.block_ir.specs.declared.block.Next.TheVariants.{Jump, Branch}
+use Rattle.block_ir.specs.declared.block.Next.TheVariants.{Branch}
 use Rattle.block_ir.specs.declared.code.ThreadCode.{ThreadCode}
 use Rattle.planned_block.specs.Advance.{last_of}
 use Rattle.operator_wires.specs.declared.words.Word.{Word}
@@ -124,19 +123,6 @@ sets_more a b c last before middle after finishes n f t listed u = record {
 }
 
 -- ---- the stage that follows
-
-pub jump_shown : {E : Type 0} (x : Result ℕ E) (registers : Registers) (code : ThreadCode) (values : List Given) (state : ℕ) (a b : List Signal) (next : Next) (l : ℕ) →
-    next ≡ Jump l
-    → IfOk x (λ place. Gives a b place registers.stage.width (λ m r. min l (length code.stages))) → IfOk x (ShowsNext registers code values state a b next)
-jump_shown x registers code values state a b next l e made =
-    subst (λ (n : Next). IfOk x (ShowsNext registers code values state a b n)) (sym e)
-    (of_ok x (λ place. Gives a b place registers.stage.width (λ m r. min l (length code.stages))) (ShowsNext registers code values state a b (Jump l))
-    (λ place t. record { grows = t.grows; wide = t.wide; shows = λ m r variables given g o seen. t.shows m r g o }) made)
-
-pub branch_known : {E : Type 0} (x : Result ℕ E) (registers : Registers) (code : ThreadCode) (values : List Given) (state : ℕ) (a b : List Signal) (next known : Next) →
-    next ≡ known
-    → IfOk x (ShowsNext registers code values state a b known) → IfOk x (ShowsNext registers code values state a b next)
-branch_known x registers code values state a b next known e made = subst (λ (n : Next). IfOk x (ShowsNext registers code values state a b n)) (sym e) made
 
 chosen_stage : (t : Bool) (y n : ℕ) → (if nat_eq (bit_of t) 0 then n else y) ≡ (if t then y else n)
 chosen_stage true y n = refl

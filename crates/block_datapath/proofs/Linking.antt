@@ -11,7 +11,7 @@ use Rattle.block_ir.specs.declared.code.ThreadCode.{ThreadCode}
 use Rattle.block_ir.specs.declared.plan.BlockPlan.{BlockPlan}
 use Rattle.operator_wires.specs.declared.words.Word.{Word}
 use Rattle.operator_wires.specs.Gives.{Grows}
-use Rattle.operator_wires.specs.Built.{Base, IsEarlier, Adds}
+use Rattle.operator_wires.specs.Built.{Base, IsEarlier}
 use Rattle.operator_wires.proofs.Giving.{grows_then}
 use Rattle.operator_wires.specs.Added.{ConstantAdds, ResizedAdds, NumberAdds, ChoiceAdds, BothAdds, IsConverted, BitOfOne}
 use Rattle.operator_wires.proofs.Building.{stands_after, room_of, wires_none, wires_then, adds_after}
@@ -74,10 +74,6 @@ link_set a b number width condition source old next before after listed within t
     record { wires = made.wires; chains = subst (λ (n : List ℕ). AreChains b base registers n) (sym is) set }
 
 -- ---- stages and states
-
-pub stage_wired : {E : Type 0} (x : Result ℕ E) (a b : List Signal) (w register number : ℕ) → IfOk x (NumberAdds a b w register number)
-    → IfOk x (λ place. (base : Base) → IsEarlier a base register w → number < 2 ^ w → Adds base a b 1 place)
-stage_wired x a b w register number t = t
 
 pub single_state : (a : List Signal) (registers : Registers) (moment : Moment) → IsStateBit a a registers moment moment.at
 single_state a registers moment base e f room = record { wires = wires_none base a; stands = f }

@@ -35,15 +35,6 @@ use Rattle.block_datapath.proofs.Chaining.{equal_small, and_bits, set_bit}
 
 -- ---- numbers
 
-no_bits : (i bits number : ℕ) → bits ≡ 0 → number < 2 ^ bits → bit_of (nat_eq (i % 2 ^ bits) number) ≡ 1
-no_bits i bits number none low =
-    let small : number < 2 ^ 0 = subst (λ b. number < 2 ^ b) none low in
-    let same : i % 2 ^ bits ≡ number = ap (λ b. i % 2 ^ b) none ∙ (let e : i % 1 ≡ number = omega arith in e) in
-    ap bit_of (same_is (i % 2 ^ bits) number same)
-
-whole : (i bits : ℕ) → bits ≡ 0 → i ≡ i / 2 ^ bits
-whole i bits none = (let e : i ≡ i / 1 = omega arith in e) ∙ sym (ap (λ b. i / 2 ^ b) none)
-
 last_bits : (i bits : ℕ) → 1 ≤ bits → bits ≤ 3 → resized_word false 64 bits i ≡ i % 2 ^ bits
 last_bits i zero l h = absurd (omega arith)
 last_bits i (suc zero) l h = refl
@@ -74,16 +65,6 @@ widened n (suc (suc (suc (suc b)))) l h = absurd (omega arith)
 
 -- ---- the bank
 
-pub bank_single : {E : Type 0} (x : Result ℕ E) (a b : List Signal) (index bits number : ℕ) → bits ≡ 0 → IfOk x (λ place. Gives a b place 1 (λ m r. 1))
-    → IfOk x (TellsBank a b index bits number)
-bank_single x a b index bits number none made =
-    of_ok x (λ place. Gives a b place 1 (λ m r. 1)) (TellsBank a b index bits number)
-    (λ place t. record {
-      grows = t.grows;
-      wide = t.wide;
-      shows = λ m r g o wide low. t.shows m r g o ∙ sym (no_bits (r.signal index) bits number none low);
-    }) made
-
 pub bank_told : {E : Type 0} (x : Result ℕ E) (a b c : List Signal) (index bits number last : ℕ) → 1 ≤ bits → bits ≤ 3 → Resizes a b index 64 bits false last
     → IfOk x (λ place. Gives b c place 1 (λ m r. word_equal (width m last) (r.signal last) number)) → IfOk x (TellsBank a c index bits number)
 bank_told x a b c index bits number last l h t made =
@@ -102,9 +83,6 @@ bank_told x a b c index bits number last l h t made =
 
 -- ---- the address
 
-pub bank_whole : (a : List Signal) (index bits : ℕ) → bits ≡ 0 → AddressesBank a a index bits index
-bank_whole a index bits none = record { grows = grows_refl a; wide = λ m g w. w; shows = λ m r g o small. whole (r.signal index) bits none }
-
 pub bank_addressed : {E : Type 0} (x : Result ℕ E) (a b c : List Signal) (index bits first : ℕ) → 1 ≤ bits → bits ≤ 3
     → Gives a b first (64 - bits) (λ m r. value m r (Select index 63 bits)) → IfOk x (Resizes b c first (64 - bits) 64 false) → IfOk x (AddressesBank a c index bits)
 bank_addressed x a b c index bits first l h t made =
@@ -118,12 +96,6 @@ bank_addressed x a b c index bits first l h t made =
     }) made
 
 -- ---- how they are put together
-
-pub single_wired : {E : Type 0} (x : Result ℕ E) (a b : List Signal) (index bits number : ℕ) → IfOk x (ConstantAdds a b 1 1)
-    → IfOk x (λ place. (base : Base) → IsEarlier a base index 64 → number < 2 ^ bits → Adds base a b 1 place)
-single_wired x a b index bits number made =
-    of_ok x (ConstantAdds a b 1 1) (λ place. (base : Base) → IsEarlier a base index 64 → number < 2 ^ bits → Adds base a b 1 place)
-    (λ place t base is low. t base (room_of a base index 64 is) (omega arith) (omega arith) (omega arith)) made
 
 pub told_wired : {E : Type 0} (x : Result ℕ E) (a b c : List Signal) (index bits number last : ℕ) → 1 ≤ bits → bits ≤ 3 → ResizedAdds a b index 64 bits false last
     → IfOk x (NumberAdds b c bits last number) → IfOk x (λ place. (base : Base) → IsEarlier a base index 64 → number < 2 ^ bits → Adds base a c 1 place)
@@ -250,9 +222,6 @@ same_below i n ne =
 
 -- bank n of those from a first one on, where the index is of bank i
 module _ {A : Type 0} (t : Bool) (j first : ℕ) (by old : A) where
-  asked_when : ℕ → Bool → A
-  asked_when i below = if t && (nat_eq j (first + i) && below) then by else old
-
   step_here : (i n : ℕ) → i ≡ n → (if nat_eq j (first + n) && (t && nat_eq i n) then by else (if t && (nat_eq j (first + i) && nat_lt i n) then by else old))
       ≡ (if t && (nat_eq j (first + i) && nat_lt i (n + 1)) then by else old)
   step_here i n e =
@@ -325,16 +294,6 @@ some_all a b before after s bits index access n all counts t = record {
       (less_is (r.signal index % 2 ^ bits) n (omega arith))
       ∙ ap (λ k. if p && nat_eq j (s.first + r.signal index % k) then asked_by r access else asked_at r before j) e;
   rests = t.rests;
-}
-
--- none is, where their numbers are too great
-pub none_asked : (a : List Signal) (chains : BankRequests) (s : Spread) (index : ℕ) (access : BankAccess) → (s.first + s.count < 2 ^ 64 → ⊥) →
-    AsksBank a a chains chains s index access
-none_asked a chains s index access no_room = record {
-  grows = grows_refl a;
-  many = λ n is. is;
-  shows = λ m r t j many g o state wide bit power room is less. absurd (no_room room);
-  rests = λ m r j many g o wide off is less. refl;
 }
 
 -- a bank is asked: how it is put together

@@ -1,6 +1,6 @@
 -- Operands are seen: lemmas of each function that puts the word of an operand together.
-use Rattle.std.proofs.Common.{◌≡◌, ◌≢◌, ℕ, ◌-◌, ◌^◌, ◌<◌, Bool, true, false, List, [], ◌∷◌, ◌++◌}
-use Rattle.std.proofs.Common.{slice_get, Some, None, ℤ, pos, negsuc, FitsSigned, refl, sym, ap, subst, ◌∙◌, arith}
+use Rattle.std.proofs.Common.{◌≡◌, ℕ, ◌-◌, ◌^◌, ◌<◌, Bool, true, false, List, [], ◌∷◌, ◌++◌}
+use Rattle.std.proofs.Common.{slice_get, Some, ℤ, pos, negsuc, FitsSigned, refl, sym, ap, subst, ◌∙◌, arith}
 use Rattle.std.specs.Prelude.{Result, IfOk}
 use Rattle.netlist.specs.declared.netlist.Signal.{Signal}
 use Rattle.netlist.specs.declared.netlist.Module.{Module}
@@ -13,7 +13,7 @@ use Rattle.std.proofs.Math.Pow.{pow_mono}
 use mir.Syntax.{w128}
 use Rattle.hls_ints.proofs.Conversions.{wrapped-same}
 use Rattle.block_ir.specs.declared.operand.Source.{Source}
-use Rattle.block_ir.specs.declared.operand.Source.TheVariants.{Constant, Variable, Value}
+use Rattle.block_ir.specs.declared.operand.Source.TheVariants.{Constant}
 use Rattle.block_ir.specs.declared.operand.Operand.{Operand}
 use Rattle.planned_block.specs.Block.{operand_value, Operand as PlannedOperand, Through}
 use Rattle.thread_promise.specs.View.{source_view, converted_to}
@@ -25,7 +25,7 @@ use Rattle.block_datapath.specs.declared.registers.Held.{Held}
 use Rattle.block_datapath.specs.declared.registers.Registers.{Registers}
 use Rattle.block_datapath.specs.declared.operands.Given.{Given}
 use Rattle.thread_promise.specs.Types.{last_type, source_type}
-use Rattle.block_datapath.specs.Seen.{IsGiven, ShowsVariable, ShowsKept, ShowsGiven, ShowsValue, ShowsSource, ShowsOperand, Converts}
+use Rattle.block_datapath.specs.Seen.{IsGiven, ShowsVariable, ShowsGiven, ShowsValue, ShowsSource, ShowsOperand, Converts}
 
 -- a value of its own type stays under a conversion
 pub own_word : (m : Module) (r : Reading) (out : Word) (ty : IntegerType) (v : ℤ) → HasType ty v → IsWord m r out ty (wrapped ty v) → IsWord m r out ty v
@@ -67,37 +67,6 @@ constant_source x a b registers types values state source ty v z same e made =
       shows = λ m r variables given g o typed. own_word m r out ty v typed (subst (λ (k : ℤ). IsWord m r out ty (wrapped ty k)) (same typed) (t.shows m r g o));
     }) made)
 
-pub variable_source : {E : Type 0} (x : Result Word E) (a b : List Signal) (registers : Registers) (types : List IntegerType) (values : List Given) (state : ℕ) (source : Source)
-    (k :
-    ℕ) (ty : IntegerType)
-    → source ≡ Variable k ty → IfOk x (ShowsVariable a b registers types k ty) → IfOk x (ShowsSource a b registers types values state source)
-variable_source x a b registers types values state source k ty e made =
-    subst (λ (s : Source). IfOk x (ShowsSource a b registers types values state s)) (sym e)
-    (of_ok x (ShowsVariable a b registers types k ty) (ShowsSource a b registers types values state (Variable k ty))
-    (λ out t. record { grows = t.grows; shows = λ m r variables given g o seen. t.shows m r (variables k) g o seen }) made)
-
-pub value_source : {E : Type 0} (x : Result Word E) (a b : List Signal) (registers : Registers) (types : List IntegerType) (values : List Given) (state : ℕ) (source : Source)
-    (k : ℕ)
-    (ty : IntegerType)
-    → source ≡ Value k ty → IfOk x (ShowsValue a b registers values state k ty) → IfOk x (ShowsSource a b registers types values state source)
-value_source x a b registers types values state source k ty e made =
-    subst (λ (s : Source). IfOk x (ShowsSource a b registers types values state s)) (sym e)
-    (of_ok x (ShowsValue a b registers values state k ty) (ShowsSource a b registers types values state (Value k ty))
-    (λ out t. record { grows = t.grows; shows = λ m r variables given g o seen. t.shows m r (given k) g o seen }) made)
-
--- a variable that is not there
-pub no_variable : {E : Type 0} (x : Result Word E) (a b : List Signal) (registers : Registers) (types : List IntegerType) (k : ℕ) (ty : IntegerType) (v : ℤ)
-    → slice_get registers.variables k ≡ None → IfOk x (Holds a b ty v) → IfOk x (ShowsVariable a b registers types k ty)
-no_variable x a b registers types k ty v e made =
-    of_ok x (Holds a b ty v) (ShowsVariable a b registers types k ty)
-    (λ out t. record { grows = t.grows; shows = λ m r v g o is. let h = is.listed in absurd cc }) made
-
-pub no_type : {E : Type 0} (x : Result Word E) (a b : List Signal) (registers : Registers) (types : List IntegerType) (k : ℕ) (ty : IntegerType) (v : ℤ)
-    → slice_get types k ≡ None → IfOk x (Holds a b ty v) → IfOk x (ShowsVariable a b registers types k ty)
-no_type x a b registers types k ty v e made =
-    of_ok x (Holds a b ty v) (ShowsVariable a b registers types k ty)
-    (λ out t. record { grows = t.grows; shows = λ m r v g o is. let h = is.declared in absurd cc }) made
-
 pub variable_shown : {E : Type 0} (x : Result Word E) (a b : List Signal) (registers : Registers) (types : List IntegerType) (k : ℕ) (ty own : IntegerType) (held : Held)
     (word : Word)
     → slice_get registers.variables k ≡ Some held → slice_get types k ≡ Some own → word.place ≡ held.register → word.width ≡ width_of own → word.signed ≡ own.signed
@@ -124,12 +93,6 @@ variable_shown x a b registers types k ty own held word e f place wide sign made
 
 -- ---- values of earlier operations
 
-pub no_value : {E : Type 0} (x : Result Word E) (a b : List Signal) (registers : Registers) (values : List Given) (state k : ℕ) (ty : IntegerType) (v : ℤ)
-    → slice_get values k ≡ None → IfOk x (Holds a b ty v) → IfOk x (ShowsValue a b registers values state k ty)
-no_value x a b registers values state k ty v e made =
-    of_ok x (Holds a b ty v) (ShowsValue a b registers values state k ty)
-    (λ out t. record { grows = t.grows; shows = λ m r v g o is. let h = is.listed in absurd cc }) made
-
 pub value_shown : {E : Type 0} (x : Result Word E) (a b c : List Signal) (registers : Registers) (values : List Given) (state k : ℕ) (ty : IntegerType) (given : Given)
     (word : Word)
     → slice_get values k ≡ Some given → ShowsGiven a b registers given state word → IfOk x (Becomes b c word ty (wrapped ty)) → IfOk x (ShowsValue a c registers values state k ty)
@@ -144,15 +107,6 @@ value_shown x a b c registers values state k ty given word e t made =
           let first = t.shows m r ty v (grows_then b c m.signals u.grows g) o here in
           own_word m r out ty v first.typed (u.shows m r ty v g o first);
     }) made
-
-pub given_here : (a : List Signal) (registers : Registers) (given : Given) (state : ℕ) → given.last ≡ state → ShowsGiven a a registers given state given.word
-given_here a registers given state e = record { grows = grows_refl a; shows = λ m r ty v g o is. is.here e }
-
-pub given_later : {E : Type 0} (x : Result Word E) (a b : List Signal) (registers : Registers) (given : Given) (state : ℕ) → given.last ≢ state
-    → IfOk x (ShowsKept a b registers given) → IfOk x (ShowsGiven a b registers given state)
-given_later x a b registers given state ne made =
-    of_ok x (ShowsKept a b registers given) (ShowsGiven a b registers given state)
-    (λ out t. record { grows = t.grows; shows = λ m r ty v g o is. t.shows m r ty v g o is.says is.sign (is.later ne) }) made
 
 -- ---- conversions
 

@@ -147,12 +147,6 @@ element_given x a b c code registers values start array index word t made =
     element_word m r code globals array n index out own variables given arrays told e f is = rw e
         (subst (λ k. IsWord m r out own.ty (arrays (element_at array (place_read k (seen_value variables given index))))) f is)
 
-pub no_array : {E : Type 0} (x : Result Word E) (a b : List Signal) (code : ThreadCode) (array : ℕ) (index : Word) (ty : IntegerType) (v : ℤ)
-    → slice_get code.arrays array ≡ None → IfOk x (Holds a b ty v) → IfOk x (ReadsArray a b code array index)
-no_array x a b code array index ty v e made =
-    of_ok x (Holds a b ty v) (ReadsArray a b code array index)
-    (λ out t. record { grows = t.grows; shows = λ m r k v own arrays g o has listed is. absurd (cc (e, listed)) }) made
-
 pub array_read : (a b c : List Signal) (code : ThreadCode) (array address place w : ℕ) (index out : Word) (own : Array) → slice_get code.arrays array ≡ Some own
     → Addresses a b index own.length address
     → Gives b c place w (λ m r. value m r (MemoryRead array address)) → w ≡ width_of own.ty → out.place ≡ place → out.width ≡ width_of own.ty → out.signed ≡ own.ty.signed

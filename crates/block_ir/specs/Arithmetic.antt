@@ -33,9 +33,6 @@ shifted_left ty a b = if is_count (width_of ty) b then wrapped ty (a *ℤ pos (2
 abbrev pub shifted_right : IntegerType → ℤ → ℤ → ℤ
 shifted_right ty a b = if is_count (width_of ty) b then floor_quotient a (2 ^ unsigned_abs b) else sign_fill a
 
-abbrev pub same : ℤ → ℤ → Bool
-same a b = if int_le a b then int_le b a else int_lt a b
-
 -- at the type ty, on values of it; the count of a shift has a type of its own
 abbrev pub binary_at : BinaryOperator → IntegerType → ℤ → ℤ → ℤ
 binary_at Multiply ty a b = wrapped ty (a *ℤ b)

@@ -162,9 +162,6 @@ module _ (old new : Merger) (l : ℕ) (ready : IsReady old) (b : Begins old new 
     others = λ k off was. subst (λ ss. IsMaximalAt old.most ss k) (sym stages_same) was;
   }
 
-  pub begin_block : (m : ℕ) → Follows old.most old.stages.items old.counts l m → IsBlock new l
-  begin_block m f = (f.block, ap (λ ss. slice_get ss l) stages_same ∙ f.at)
-
 -- a measure: the sum
 abbrev pub total : List ℕ → ℕ
 total [] = 0

@@ -1,6 +1,6 @@
 -- Ways are counted stage after stage.
 use Rattle.std.proofs.Common.{◌≡◌, ◌≢◌, ℕ, zero, suc, ◌+◌, ◌<◌, ◌≤◌, min, List, [], ◌∷◌}
-use Rattle.std.proofs.Common.{◌++◌, length, take, get_or, Option, Some, None, refl, ap, ◌∙◌, ⊎_elim, arith, length-append}
+use Rattle.std.proofs.Common.{◌++◌, length, take, get_or, Option, Some, None, refl, ap, ◌∙◌, ⊎_elim, arith}
 use Rattle.std.specs.Prelude.{slice_get}
 use Rattle.std.proofs.lemmas.List.{take_all, length-set}
 use Rattle.lists.proofs.Places.{set_element}
@@ -78,15 +78,6 @@ tallied_none count counts h = record { size = h.0; is = λ m c e. (let z = h.1 m
 
 pub tallied_all : (ss : List Stage) (k : ℕ) (counts : List ℕ) → length ss ≤ k → Tallied (length ss) (take k ss) counts → AreCounted ss counts
 tallied_all ss k counts h t = (t.size, λ m c off e. t.is m c e ∙ ap (λ z. min (ways m z) 2) (take_all k ss h))
-
-pub zeros_more : (n : ℕ) (zs new : List ℕ) → new ≡ zs ++ 0 ∷ [] → AreZero n zs → AreZero (suc n) new
-zeros_more n zs new is h = rw is (length-append zs (0 ∷ []) ∙ (let z = h.0 in omega (arith, z)), λ k c e. by zs k c h.1 e)
-  where
-    by : (xs : List ℕ) (k c : ℕ) → ((j d : ℕ) → slice_get xs j ≡ Some d → d ≡ 0) → slice_get (xs ++ 0 ∷ []) k ≡ Some c → c ≡ 0
-    by [] zero c g e = cc
-    by [] (suc k) c g e = cc
-    by (x ∷ xs) zero c g e = g 0 c e
-    by (x ∷ xs) (suc k) c g e = by xs k c (λ j. g (suc j)) e
 
 pub tallied_next : (ss : List Stage) (k : ℕ) (s : Stage) (counts new : List ℕ) → k < length ss → s ≡ get_or ss k s → new ≡ stage_counted counts s →
     Tallied (length ss) (take k ss) counts → Tallied (length ss) (take (k + 1) ss) new

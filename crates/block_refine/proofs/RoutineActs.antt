@@ -80,13 +80,6 @@ module _ (P : Program) (codes : Codes) (f : ℕ) where
     is_defined : (o : Stepped) → step P s i ≡ o → outcome_of o ≢ Undefined
     is_defined o e none = defined (runs_on P R s i calls sound slot) (ap is_running slot) (ap outcome_of e ∙ none)
 
-    -- a step that gives the thread other calls leaves a state in which it has them
-    has_calls : (frames : List Frame) (t : State) → t.slots ≡ slice_set s.slots i (Running frames) → t.barriers ≡ s.barriers → local_of t i ≡ running frames
-    has_calls frames t e b = λ d. record {
-      slot = (ap (λ xs. slice_get xs i) e ∙ set_there s.slots i (Running calls) (Running frames) slot) d;
-      waits = (ap (list_any (is_waiter i)) b ∙ free) d;
-    }
-
     pub step_of : a ≢ act.Return → IsStepOf P codes s i f next variables arrays a
     step_of ne = go (move P s.globals calls) refl (λ n. is_act_of P (Followed P codes f n) a next variables arrays calls ne (act_here n) s.globals)
       where

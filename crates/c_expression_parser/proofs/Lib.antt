@@ -1,2 +1,1 @@
-pub mod Fewer
 pub mod Rooms

@@ -119,12 +119,6 @@ limits m n a b k e =
 abbrev Answer : Type 0
 Answer = Result (List Token) LexFault
 
-bad : ℕ → Answer
-bad k = Err (Bad k)
-
-limit : TextLimit → ℕ → ℕ → Answer
-limit which count k = Err (Limit which count k)
-
 -- what ends at a place is one thing
 ends_once : (text : Bytes) (ps : List Piece) (at : ℕ) (s : State) (rest : Bytes) (a b : Answer) → EndsAs text ps at s rest a → EndsAs text ps at s rest b → a ≡ b
 ends_once text ps at s rest (Ok ts) (Ok us) h k = ap Ok (h.2 ∙ sym k.2)

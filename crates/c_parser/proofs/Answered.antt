@@ -44,9 +44,6 @@ module _ (ts : List Token) where
     nesting = λ j n c. let once = t.deep_once ts k j count n d c in (λ i. error.Nesting (once.0 i) (once.1 i) (offset_at ts (once.0 i)));
   }
 
-  pub memory : Answered ts (Err error.Memory)
-  memory = record { answer = tt; every = λ v h. tt; syntax = λ k f. tt; nesting = λ k count d. tt }
-
   -- the same by how many tokens are left
   pub fault_left : (e : ParseError) (rest : List Token) (left : ℕ) → FaultAt unit 64 ts (length ts - length rest) → left ≡ length rest
       → e ≡ error.Syntax (length ts - left) (offset_at ts (length ts - left)) → Answered ts (Err e)

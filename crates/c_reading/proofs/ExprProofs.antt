@@ -152,10 +152,6 @@ module _ {D : ℕ → Type 0} (n m : ℕ) (le : n ≤ suc m) (more : m ≤ n) (w
   unfolding e.read_cast
   inner_cast = deeper_in cast (is open_round) cast_opens begins_round e.read_cast (λ ts. refl) (λ room ts. refl)
 
-  inner_expr : Reads D m (λ depth. nested (g.expr depth)) e.read_expr r.begins_cast (λ v. after_expr) false
-  unfolding e.read_expr
-  inner_expr = deeper_in expr (is open_round) expr_opens begins_round e.read_expr (λ ts. refl) (λ room ts. refl)
-
   -- ---- brackets
 
   parenthesized : Reads D n (λ depth. g.parenthesized (g.cast depth) (g.expr depth)) (λ room. e.read_parenthesized (e.read_expr room) room) (is open_round) (λ v. nowhere) false
@@ -330,9 +326,6 @@ module _ {D : ℕ → Type 0} (n m : ℕ) (le : n ≤ suc m) (more : m ≤ n) (w
       (one_departs first_word_at (λ first. MoreWords first depth >>= (λ s. g.sign close_round >>= (λ u. pure (s, h.0)))) (is (Word k.Void)) (is (Mark p.Star) ∷ []) (at + 1)
       (at + 1) h.2 v refl inside
       (begins_departs (more_words inside.0 h.0) (is (Mark p.Star)) [] (λ x a b. star_departs x a b) depth (at + 1) (at + 1) dd inside.2 v inside.5))
-
-  not_round : (first : Token → Bool) → ((x : Token) → first x ≡ true → is open_round x ≡ true → ⊥) → (x : Token) → first x ≡ true → is open_round x ≡ true → ⊥
-  not_round first apart = apart
 
   unary_round : (x : Token) → is_unary x ≡ true → is open_round x ≡ true → ⊥
   unary_round x h a = sign_apart open_round is_unary (λ at. refl) x a h
@@ -583,9 +576,6 @@ module _ {D : ℕ → Type 0} (n m : ℕ) (le : n ≤ suc m) (more : m ≤ n) (w
 module _ {D : ℕ → Type 0} (n m : ℕ) (le : n ≤ suc m) (more : m ≤ n) (whole : 0 < n → (depth : ℕ) → D depth)
     (cast : Reads D n g.cast (λ room. e.read_cast (suc room)) r.begins_cast (λ v. opens) false)
     (expr : Reads D m g.expr (λ room. e.read_expr (suc room)) r.begins_cast (λ v. after_expr) false) where
-  colon : Sign
-  colon = Mark p.Colon
-
   nested_expr : Reads D m (λ depth. nested (g.expr depth)) e.read_expr r.begins_cast (λ v. after_expr) false
   unfolding e.read_expr
   nested_expr = deeper_in expr (is open_round) expr_opens (λ x h. or_right (is_unary x) _ (or_right (is_name x) _ (or_right (is_constant x) (is open_round x) h))) e.read_expr (λ ts. refl)

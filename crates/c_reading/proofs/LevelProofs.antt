@@ -4,7 +4,6 @@ use Rattle.std.proofs.lemmas.Bool.{eqb-true, leb-true, or_left, or_right}
 use Rattle.std.specs.Prelude.{if◌then◌else◌, ◌||◌, ◌==◌, nat_le}
 use Rattle.c_token.specs.declared.punctuator.Punctuator.{Punctuator}
 use Rattle.c_token.specs.declared.punctuator.Punctuator.TheVariants as p
-use Rattle.c_token.specs.declared.token.Kind.{Kind}
 use Rattle.c_token.specs.declared.token.Kind.TheVariants as kind
 use Rattle.c_token.specs.declared.token.Token.{Token}
 use Rattle.grammar.specs.Rules.{Family}
@@ -35,65 +34,6 @@ binding_of x = of_mark binding (mark_of x.kind)
 -- the tokens that bind at a level up to this
 pub below : ℕ → Token → Bool
 below k x = up_to k (binding_of x)
-
-mark_none : (m : Punctuator) → up_to 0 (binding m) ≡ true → ⊥
-unfolding up_to
-mark_none p.ShiftLeftAssign h = cc
-mark_none p.ShiftRightAssign h = cc
-mark_none p.PlusAssign h = cc
-mark_none p.MinusAssign h = cc
-mark_none p.StarAssign h = cc
-mark_none p.SlashAssign h = cc
-mark_none p.PercentAssign h = cc
-mark_none p.AndAssign h = cc
-mark_none p.OrAssign h = cc
-mark_none p.XorAssign h = cc
-mark_none p.ShiftLeft h = cc
-mark_none p.ShiftRight h = cc
-mark_none p.LessEqual h = cc
-mark_none p.GreaterEqual h = cc
-mark_none p.EqualEqual h = cc
-mark_none p.NotEqual h = cc
-mark_none p.AndAnd h = cc
-mark_none p.OrOr h = cc
-mark_none p.PlusPlus h = cc
-mark_none p.MinusMinus h = cc
-mark_none p.OpenRound h = cc
-mark_none p.CloseRound h = cc
-mark_none p.OpenCurly h = cc
-mark_none p.CloseCurly h = cc
-mark_none p.OpenSquare h = cc
-mark_none p.CloseSquare h = cc
-mark_none p.Semicolon h = cc
-mark_none p.Comma h = cc
-mark_none p.Plus h = cc
-mark_none p.Minus h = cc
-mark_none p.Star h = cc
-mark_none p.Slash h = cc
-mark_none p.Percent h = cc
-mark_none p.And h = cc
-mark_none p.Or h = cc
-mark_none p.Xor h = cc
-mark_none p.Tilde h = cc
-mark_none p.Exclamation h = cc
-mark_none p.Less h = cc
-mark_none p.Greater h = cc
-mark_none p.Assign h = cc
-mark_none p.Question h = cc
-mark_none p.Colon h = cc
-
-kind_none : (y : Kind) → up_to 0 (of_mark binding (mark_of y)) ≡ true → ⊥
-unfolding up_to
-kind_none (kind.Keyword w) h = cc
-kind_none (kind.Name b) h = cc
-kind_none (kind.Constant c) h = cc
-kind_none (kind.StringLiteral b) h = cc
-kind_none (kind.Punctuator m) h = mark_none m h
-kind_none kind.End h = cc
-
-below_none : (x : Token) → below 0 x ≡ true → ⊥
-unfolding below
-below_none x h = kind_none x.kind h
 
 below_more : (k : ℕ) (x : Token) → below k x ≡ true → below (suc k) x ≡ true
 unfolding below up_to

@@ -1,5 +1,5 @@
 -- The readings of what stands in statements, and of statements with no statement in them, read the grammar's rules.
-use Rattle.std.proofs.Common.{◌≡◌, ℕ, suc, ◌+◌, ◌<◌, List, [], ◌∷◌, ◌++◌, Option, None, Bool, true, false, refl, sym, subst}
+use Rattle.std.proofs.Common.{◌≡◌, ℕ, suc, ◌+◌, ◌<◌, List, [], ◌∷◌, ◌++◌, Option, Bool, true, false, refl, sym, subst}
 use Rattle.std.proofs.Common.{inl, inr, ⊎_elim, arith}
 use Rattle.std.specs.Prelude.{◌||◌, ◌&&◌}
 use Rattle.std.proofs.lemmas.Bool.{or_left, or_right, both_ways}
@@ -26,7 +26,7 @@ use Rattle.c_tree.specs.declared.statement.ForStart.{ForStart}
 use Rattle.c_tree.specs.declared.statement.ForStart.TheVariants as start
 use Rattle.c_tree.specs.declared.statement.Statement.TheVariants as st
 use Rattle.c_tree.specs.Tokens.{same_keyword, same_punctuator, is, is_some, sign_at, is_name, is_constant, is_unary, assignment_at, direction_of}
-use Rattle.c_tree.specs.Tokens.{is_direction, is_type_word, mark_of, of_mark, binding}
+use Rattle.c_tree.specs.Tokens.{is_direction, is_type_word}
 use Rattle.c_tree.specs.Trees as tree
 use Rattle.c_tree.specs.Expressions as g
 use Rattle.c_tree.specs.Statements as h
@@ -50,11 +50,6 @@ semicolon = Mark p.Semicolon
 
 abbrev pub assign : Sign
 assign = Mark p.Assign
-
--- a rule after which comes the first of two others, or the second
-pub apart_expr : (q : Sign) → of_mark binding (mark_of (sign_kind q)) ≡ None → ((at : ℕ) → opens (token (sign_kind q) at) ≡ false) → ((at : ℕ) → is x.question (token (sign_kind q) at) ≡ false)
-    → (y : Token) → after_expr y ≡ true → is q y ≡ true → ⊥
-apart_expr q plain closed other y l h = expr_ends q plain closed other y l h
 
 pub ends_semicolon : (y : Token) → after_expr y ≡ true → is semicolon y ≡ true → ⊥
 unfolding opens same_punctuator

@@ -1,6 +1,6 @@
 -- Facts of single tokens, and the readings of what begins with one.
 use Rattle.std.proofs.Common.{◌≡◌, ℕ, suc, ◌<◌, ◌≤◌, List, [], Option, Some, None, Bool, true, false, refl, sym, ap, ◌∙◌}
-use Rattle.std.proofs.Common.{subst, rules}
+use Rattle.std.proofs.Common.{rules}
 use denote.Enum.Bare.{same_true}
 use Rattle.c_token.specs.declared.keyword.Keyword.{Keyword}
 use Rattle.c_token.specs.contracts.keyword.Keyword as keyword
@@ -148,13 +148,6 @@ type_apart set other x h within = at_kind x.kind x.offset h within where
   at_kind (kind.StringLiteral b) at h k = cc
   at_kind (kind.Punctuator m) at h k = cc
   at_kind kind.End at h k = cc
-
--- a mark that is not of the set, where it is of the first
-pub mark_apart : (first set : Token → Bool) → ((y : Kind) (at : ℕ) → first (token y at) ≡ true → (m : Punctuator) × (y ≡ kind.Punctuator m))
-    → ((m : Punctuator) (at : ℕ) → first (token (kind.Punctuator m) at) ≡ true → set (token (kind.Punctuator m) at) ≡ true → ⊥) → (x : Token) → first x ≡ true → set x ≡ true → ⊥
-mark_apart first set is_mark other x h within =
-    let y = is_mark x.kind x.offset h in
-    other y.0 x.offset (subst (λ z. first (token z x.offset) ≡ true) y.1 h) (subst (λ z. set (token z x.offset) ≡ true) y.1 within)
 
 -- `++` and `--` where they are not of the set
 pub direction_apart : (set : Token → Bool) → ((at : ℕ) → set (token (kind.Punctuator p.PlusPlus) at) ≡ false) → ((at : ℕ) → set (token (kind.Punctuator p.MinusMinus) at) ≡ false)

@@ -1,5 +1,5 @@
 -- Which broken rule is reported: the first by place in the text, and at one place by number.
-use Rattle.std.specs.Prelude.{ℕ, Bool, ◌||◌, ◌&&◌, nat_eq, nat_lt, if◌then◌else◌, Option, Some, None, List, [], ◌∷◌}
+use Rattle.std.specs.Prelude.{ℕ, Bool, ◌||◌, ◌&&◌, nat_eq, nat_lt, if◌then◌else◌, Option, Some, None}
 use Rattle.c_rules.specs.declared.fault.Rule.{Rule}
 use Rattle.c_rules.specs.declared.fault.Rule.TheVariants.{Unknown, Twice, Kind, Arguments, Recursive, Threads, Place, Constant, Format}
 use Rattle.c_rules.specs.declared.fault.Fault.{Fault}
@@ -23,8 +23,3 @@ unfoldable pub first : Option Fault → Option Fault → Option Fault
 first None b = b
 first (Some a) None = Some a
 first (Some a) (Some b) = if is_before b a then Some b else Some a
-
--- the first of a list
-abbrev pub first_of : List Fault → Option Fault
-first_of [] = None
-first_of (fault ∷ more) = first (Some fault) (first_of more)

@@ -2,7 +2,7 @@
 use Rattle.std.proofs.Common.{◌≡◌, ℕ, ◌+◌, ◌*◌, ◌^◌, ◌<◌, ◌≤◌, List, [], ◌∷◌, Some, None, Bool, true, false, length, get_or, refl, sym, ap, ◌∙◌, arith}
 use Rattle.std.specs.Prelude.{nat_lt, nat_le, cond}
 use Rattle.std.specs.List.{find}
-use Rattle.std.proofs.lemmas.Bool.{ltb-false, le-ltb, lt-ltb, lt-leb}
+use Rattle.std.proofs.lemmas.Bool.{ltb-false, le-ltb, lt-leb}
 use Rattle.c_token.specs.declared.constant.Base.{Base}
 use Rattle.c_token.specs.declared.constant.Base.TheVariants.{Decimal, Octal, Hexadecimal}
 use Rattle.c_token.specs.Spelling.{Bytes}
@@ -32,9 +32,6 @@ none_below n h = ap (λ x. cond x (Some n) None) (le-ltb n (2 ^ 64) h)
 
 pub stays_large : (base : Base) (n : ℕ) (z : Bytes) → below_two_to_64 n ≡ None → below_two_to_64 (number_from base n z) ≡ None
 stays_large base n z h = none_below (number_from base n z) (omega (arith, number_grows base n z, is_large n h))
-
-pub is_below : (n : ℕ) → n < 2 ^ 64 → below_two_to_64 n ≡ Some n
-is_below n h = ap (λ x. cond x (Some n) None) (lt-ltb n (2 ^ 64) h)
 
 none_holds : (types : List ConstantType) (n : ℕ) → 2 ^ 64 ≤ n → find (λ t. nat_le n (maximum t)) types ≡ None
 none_holds [] n h = refl

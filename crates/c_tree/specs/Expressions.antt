@@ -12,7 +12,7 @@
 --
 -- Nesting: brackets with what they enclose; the operand of a unary operator, of `&` and of a cast; the third operand
 -- of `?:`.
-use Rattle.std.specs.Prelude.{ℕ, zero, suc, List, [], ◌∷◌, ◌++◌, Option, Some, None, fold, reverse}
+use Rattle.std.specs.Prelude.{ℕ, zero, suc, List, [], ◌∷◌, ◌++◌, fold, reverse}
 use Rattle.c_token.specs.declared.keyword.Keyword.TheVariants as k
 use Rattle.c_token.specs.declared.punctuator.Punctuator.TheVariants as p
 use Rattle.c_token.specs.declared.token.Token.{Token}
@@ -21,7 +21,6 @@ use Rattle.c_tree.specs.declared.sign.Sign.{Sign}
 use Rattle.c_tree.specs.declared.sign.Sign.TheVariants.{Word, Mark}
 use Rattle.c_tree.specs.declared.expression.Name.{Name}
 use Rattle.c_tree.specs.declared.expression.Specifiers.{Specifiers}
-use Rattle.c_tree.specs.declared.expression.BinaryOperator.{BinaryOperator}
 use Rattle.c_tree.specs.declared.expression.Expression.{Expression}
 use Rattle.c_tree.specs.declared.expression.Form.TheVariants as form
 use Rattle.c_tree.specs.declared.expression.Term.{Term}
@@ -150,12 +149,6 @@ module _ (cast expr : Phrase Expression) where
     found ← listed argument <|> pure []
     sign (Mark p.CloseRound)
     pure found)
-
-  abbrev pub call : Phrase Call
-  call = do
-    f ← name
-    found ← arguments
-    pure (tree.call f found)
 
   -- ---- operands
 

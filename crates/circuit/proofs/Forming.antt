@@ -1,7 +1,7 @@
 -- What a leaf module needs, so that it can stand in a table of modules: its names are apart, its ports stand first and last, and
 -- nobody reads its clock.
-use Rattle.std.proofs.Common.{◌≡◌, ℕ, zero, suc, ◌+◌, ◌<◌, ◌≤◌, Bool, true, false, nat_eq, List, [], ◌∷◌, length, Some}
-use Rattle.std.proofs.Common.{refl, sym, subst, inl, inr, arith}
+use Rattle.std.proofs.Common.{◌≡◌, ℕ, zero, suc, ◌+◌, ◌<◌, ◌≤◌, Bool, true, false, nat_eq, List, length, Some}
+use Rattle.std.proofs.Common.{refl, arith}
 use Rattle.std.specs.Prelude.{slice_get}
 use Rattle.std.proofs.lemmas.Bool.Decides.{nat_tests}
 use Rattle.verilog_tree.specs.Scope.{is_clk}
@@ -22,9 +22,8 @@ use Rattle.netlist.specs.Laid.{operands, argument_place}
 use Rattle.netlist.specs.Sound.{IsSet}
 use Rattle.verilog_meaning.specs.Threads as threads
 use Rattle.circuit.specs.Rows.{EachOf}
-use Rattle.circuit.specs.Modules.{Has, Reads, IsSoundSource, IsLeaf}
+use Rattle.circuit.specs.Modules.{Has, Reads, IsLeaf}
 use Rattle.circuit.specs.Interfaces.{HasPorts}
-use Rattle.circuit.proofs.Tables.{operand_of}
 
 module _ (m : Module) where
   -- none of these is the clock, which is signal 0
@@ -102,15 +101,3 @@ module _ (m : Module) (inputs : ℕ) (leaf : IsLeaf m inputs (λ x. nat_eq x 0))
   not_first : (x y w : ℕ) → Reads m (λ z. nat_eq z 0) x y w → 0 < y
   not_first x zero w h = absurd (let first : nat_eq x 0 ≡ true = h.in_time refl in let b = h.before in let e : x ≡ 0 = grind (arith, nat_tests) in omega arith)
   not_first x (suc y) w h = omega arith
-
-  each_first : (xs : List ℕ) → ((y : ℕ) → threads.IsOneOf y xs → 0 < y) → AreData m xs
-  each_first [] h = tt
-  each_first (x ∷ xs) h = (h x (inl refl), each_first xs (λ y i. h y (inr i)))
-
-  pub clock_unread : (x : ℕ) (s : Signal) (v : Value) → slice_get m.signals x ≡ Some s → s.source ≡ Assigned v → AreData m (operands v)
-  clock_unread x s v e q =
-      let fits = subst (IsSoundSource m inputs (λ z. nat_eq z 0) x s.width) q (leaf.sound x s e) in
-      subst (AreData m) (sym (same_operands v))
-      (each_first (threads.operands v) (λ y i.
-      let o = operand_of (Reads m (λ z. nat_eq z 0) x) (λ j. slice_get m.memories j) s.width v fits y i in
-      not_first x y o.0 o.1))

@@ -1,10 +1,10 @@
 -- Tables of rows, one signal or one row longer.
-use Rattle.std.proofs.Common.{◌≡◌, ℕ, zero, suc, ◌+◌, ◌<◌, List, [], ◌∷◌, ◌++◌, length, get_or, take, slice_get, Some, refl, sym, ap, ◌∙◌, arith, append_assoc, add-one}
+use Rattle.std.proofs.Common.{◌≡◌, ℕ, zero, suc, ◌+◌, ◌<◌, List, [], ◌∷◌, ◌++◌, length, take, slice_get, Some, refl, sym, ap, ◌∙◌, arith, append_assoc, add-one}
 use Rattle.std.proofs.Common.{add-zero, zero-add, length-append}
 use Rattle.std.specs.Prelude.{Result, Ok, Err, IfOk}
 use Rattle.std.proofs.lemmas.List.{append-nil}
 use Rattle.netlist.specs.declared.netlist.Signal.{Signal}
-use Rattle.circuit.specs.Rows.{EachOf, spread, signal_at, row_signals, row_end, rows_end, laid}
+use Rattle.circuit.specs.Rows.{spread, signal_at, row_signals, row_end, rows_end, laid}
 use Rattle.circuit.specs.declared.rows.Row.{Row}
 use Rattle.circuit.specs.declared.rows.Row.TheVariants as row
 
@@ -59,16 +59,6 @@ rows_grow a b c i rows r e f g =
     ∙ ap (λ l. a ++ (before ++ l)) (sym (append-nil (row_signals (rows_end (length a) (take i rows)) r)))
     ∙ ap (λ l. a ++ l) (sym (laid-append (length a) (take i rows) (r ∷ [])))
     ∙ ap (λ l. a ++ laid (length a) l) (sym (ap (λ n. take n rows) (add-one i) ∙ take-next rows i r e))
-
-pub got : {X : Type 0} (xs : List X) (i : ℕ) (d : X) → i < length xs → slice_get xs i ≡ Some (get_or xs i d)
-got [] i d l = absurd (omega arith)
-got (x ∷ xs) zero d l = refl
-got (x ∷ xs) (suc i) d l = got xs i d (omega arith)
-
-pub each_got : {X : Type 0} (P : X → Type 0) (xs : List X) (i : ℕ) (d : X) → EachOf P xs → i < length xs → P (get_or xs i d)
-each_got P [] i d e l = absurd (omega arith)
-each_got P (x ∷ xs) zero d e l = e.0
-each_got P (x ∷ xs) (suc i) d e l = each_got P xs i d e.1 (omega arith)
 
 pub more_of : {X : Type 0} (b c : List X) (f : ℕ → X) (n : ℕ) → b ≡ spread f 0 n → c ≡ b ++ f n ∷ [] → c ≡ spread f 0 (n + 1)
 more_of b c f n e g = g ∙ ap (λ l. l ++ f n ∷ []) e ∙ sym (spread-next f n)

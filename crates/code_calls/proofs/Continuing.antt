@@ -133,16 +133,8 @@ module _ (P : Program) (place : Place) (old new : Lowering) (d : Delivers place 
   abbrev stored_operations : List Operation
   stored_operations = store_operations d.target d.value d.placed d.stored d.stores
 
-  abbrev more : List Operation
-  more = placed.operations ++ stored_operations
-
   new_block : new.block ≡ record d.stored { steps = suc d.stored.steps }
   new_block = ap (λ (z : Lowering). z.block) d.is
-
-  added : new.block.operations ≡ old.block.operations ++ more
-  added =
-      ap (λ (z : OpenBlock). z.operations) new_block ∙ store_added d.target d.value d.placed d.stored d.stores
-      ∙ ap (λ (z : OpenBlock). z.operations ++ stored_operations) placed.added ∙ append_assoc old.block.operations placed.operations stored_operations
 
   stepped : new.block.steps ≡ suc old.block.steps
   stepped = ap (λ (z : OpenBlock). z.steps) new_block ∙ ap suc (store_steps d.target d.value d.placed d.stored d.stores ∙ ap (λ (z : OpenBlock). z.steps) placed.added)

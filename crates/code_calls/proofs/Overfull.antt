@@ -28,12 +28,6 @@ module _ (P : Program) (depth g : ℕ) (es : List Expression) (c : Lowering) (fa
   call_unknown none = λ S w size seated deep fits words good is called now.
       absurd (let known : None ≡ Some is.code = sym (ap (λ (z : Program). slice_get z.functions g) seated.program ∙ none) ∙ is.found in cc)
 
-  -- the step that begins it
-  pub call_opening : IsFull (length c.block.operations + c.block.steps + (2 * arguments_weight es + 1)) fault → IsFullCall P depth g es c fault
-  call_opening full = λ S w size seated deep fits words good is called now.
-      full_more fault (length c.block.operations + c.block.steps + (2 * arguments_weight es + 1)) (needed S size (w + (arguments_weight es + function_weight S.program.functions g)))
-      (let o = now.size in let s = now.steps in let weighs = body_weighs S.program g is.code seated.resolved.acyclic is.found in omega (arith, o, s, weighs)) full
-
   module _ (function : Function) (found : slice_get P.functions g ≡ Some function) (caller : CallerCode) (begun : Lowering) (opens : OpensCall g function es caller c begun)
       (on : c.reached ≡ true) where
     -- the code of the function

@@ -1,6 +1,6 @@
 -- The parts of a run in lockstep: its choices fit, done is told, and a cycle is run.
 use Rattle.std.specs.Prelude.{◌≡◌, ℕ, suc, ◌+◌, ◌<◌, ◌≤◌, ◌⊎◌, Bool, true, false, List, [], ◌∷◌, ◌++◌, replicate, Some, refl}
-use Rattle.std.proofs.Common.{ap, sym, ◌∙◌, subst, inl, inr, ⊎_elim, arith}
+use Rattle.std.proofs.Common.{ap, sym, ◌∙◌, subst, inr, ⊎_elim, arith}
 use Rattle.std.proofs.lemmas.List.{length-replicate, append_assoc, append-nil}
 use Rattle.std.proofs.lemmas.Option.{same_Some}
 use Rattle.netlist.specs.declared.netlist.Module.{Module}
@@ -141,9 +141,6 @@ module _ (old r q : Running) (n : ℕ) (before out : List ℕ) where
 pub ended_done : (old q : Running) (most n : ℕ) (before out : List ℕ) → IsTold old q n before out true → n ≤ most → IsLockstep old q most n before out
 ended_done old q most n before out is l = record { within = l; turned = is.turned; ends = inr is.tells }
 
-pub ended_all : (old q : Running) (most n : ℕ) (before out : List ℕ) → IsTurned old q n before out → n ≡ most → IsLockstep old q most n before out
-ended_all old q most n before out is e = record { within = omega (arith, e); turned = is; ends = inl e }
-
 -- the cycle that memory was wanting for has changed nothing
 pub cut_off : (old r q : Running) (most n : ℕ) (before out more : List ℕ) → IsTold old r n before out false → IsSameNet r q → IsSameState r q → more ≡ out → n ≤ most → IsCutOff old q most before more
 cut_off old r q most n before out more is net same e l =
@@ -164,6 +161,3 @@ cut_off old r q most n before out more is net same e l =
         };
       };
     }
-
-pub cut_at_once : (r : Running) (most : ℕ) (out : List ℕ) → TakesRounds r → IsCutOff r r most out out
-cut_at_once r most out takes = record { cycles = 0; within = omega arith; turned = turned_none r out takes }

@@ -177,15 +177,6 @@ module _ (shape : Shape) (ok : IsShape shape) (m : Module) (is : IsForks shape m
   has_create_chain = chain_has m (create_chain n) n 1 _ _ listed.1.1.1.1.1.1.1.1.1.1.1.1.1.1.1.1.1.1.1.1.1.1.1.1.1.1.1.1.1.1.1.1.1.1.1.1.0 refl
       listed.1.1.1.1.1.1.1.1.1.1.1.1.1.1.1.1.1.1.1.1.1.1.1.1.1.1.1.1.1.1.1.1.1.1.1.1.1.0 (λ k. refl)
 
-  has_offers : (k : ℕ) → k < n → Has m (offers n + k) 1
-  has_offers k l = has m (offers n + k) _ (listed.1.1.1.1.1.1.1.1.1.1.1.1.1.1.1.1.1.1.1.1.1.1.1.1.1.1.1.1.1.1.1.1.1.1.1.1.1.1.0 k l)
-
-  has_tells : (k : ℕ) → k < n → Has m (tells n + k) 1
-  has_tells k l = has m (tells n + k) _ (listed.1.1.1.1.1.1.1.1.1.1.1.1.1.1.1.1.1.1.1.1.1.1.1.1.1.1.1.1.1.1.1.1.1.1.1.1.1.1.1.0 k l)
-
-  has_handed : (k : ℕ) → k < n → Has m (handed n + k) 64
-  has_handed k l = has m (handed n + k) _ (listed.1.1.1.1.1.1.1.1.1.1.1.1.1.1.1.1.1.1.1.1.1.1.1.1.1.1.1.1.1.1.1.1.1.1.1.1.1.1.1.1.0 k l)
-
   sound : EachRow (IsSound m (inputs shape) (is_late shape)) 0 (rows n)
   sound = (
     (omega arith),

@@ -1,9 +1,8 @@
 -- The first place where a test holds, a step at a time.
-use Rattle.std.proofs.Common.{◌≡◌, ℕ, suc, ◌+◌, ◌<◌, ◌≤◌, List, ◌∷◌, Bool, true, false, cond, sym, ap, ◌∙◌, length, drop, get_or, arith}
+use Rattle.std.proofs.Common.{◌≡◌, ℕ, suc, ◌+◌, ◌<◌, List, ◌∷◌, Bool, true, false, cond, sym, ap, ◌∙◌, length, drop, get_or, arith}
 use Rattle.std.specs.Prelude.{not}
 use Rattle.std.specs.List.{position_or_len}
 use Rattle.std.proofs.Math.Seq.{drop-cons}
-use Rattle.std.proofs.lemmas.List.{drop_all}
 
 rest_at : {X : Type 0} (xs : List X) (i : ℕ) (y : X) → i < length xs → y ≡ get_or xs i y → drop i xs ≡ y ∷ drop (suc i) xs
 rest_at {X} xs i y l is = drop-cons xs i y l ∙ ap (λ (k : X). k ∷ drop (suc i) xs) (sym is)
@@ -27,8 +26,3 @@ module _ {X : Type 0} (p : X → Bool) where
       let next : suc i ≡ i + 1 = omega arith in
       let w : among (drop (suc i) xs) ≡ among (drop (i + 1) xs) = ap (λ k. among (drop k xs)) next in
       omega (arith, e, z, w)
-
-  pub missed : (xs : List X) (i : ℕ) → length xs ≤ i → i ≤ length xs → position_or_len p xs ≡ i + position_or_len p (drop i xs) → length xs ≡ position_or_len p xs
-  missed xs i l u e =
-      let z : among (drop i xs) ≡ 0 = ap among (drop_all i xs l) in
-      omega (arith, e, z, l, u)

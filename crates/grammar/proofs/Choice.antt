@@ -416,9 +416,6 @@ module _ {T : Type 0} where
   pub start_left : {A : Type 0} (P Q : Family T A) (at : ℕ) (x : List T) → StartsPlain P at x → StartsPlain (P <∘> Q) at x
   start_left P Q at x k = (k.0, k.1, k.2, k.3, k.4, inl k.5)
 
-  pub start_right : {A : Type 0} (P Q : Family T A) (at : ℕ) (x : List T) → StartsPlain Q at x → StartsPlain (P <∘> Q) at x
-  start_right P Q at x k = (k.0, k.1, k.2, k.3, k.4, inr k.5)
-
   -- ---- the same alternatives in the other order
 
   module _ {D : ℕ → Type 0} {A : Type 0} {n : ℕ} {P Q : Family T A} {p : ℕ → Reader T A} {first : T → Bool} {last : A → T → Bool} {null : Bool} where

@@ -2,7 +2,7 @@
 use Rattle.std.proofs.Common.{◌≡◌, ℕ, zero, suc, ◌+◌, ◌<◌, ◌≤◌, List, [], ◌∷◌, ◌++◌, length, Option, Bool, true, false, refl, sym, ap, ◌∙◌, subst, ⊎_elim, arith}
 use Rattle.std.specs.Prelude.{Ok, Err, if◌then◌else◌, ◌==◌}
 use Rattle.std.proofs.lemmas.Bool.{eqb-true, false_from_ne_true, both_ways}
-use Rattle.grammar.specs.Rules.{Placed, Rule, Family, one, ◌>>=◌, ◌<|>◌, nested}
+use Rattle.grammar.specs.Rules.{Placed, Family, one, ◌>>=◌, ◌<|>◌, nested}
 use Rattle.grammar.specs.Sentences.{plain, Within, Spelled, Starts}
 use Rattle.grammar.specs.Readers.{Syntax, Deep, Reading, Reader, sees, too_deep, too_deep_or, reads_within}
 use Rattle.grammar.proofs.Lists.{Agrees}
@@ -170,18 +170,6 @@ module _ {T : Type 0} where
         sym (ap (λ x. x.1) same);
   }
 
-  -- one token that does not open a bracket
-  pub token_opens : {D : ℕ → Type 0} {A : Type 0} (opens : T → Bool) (f : T → Option A) → ((t : T) → gives (f t) ≡ true → opens t ≡ false) → OpensBy D opens (λ depth. one f)
-  token_opens opens f closes = record {
-    level = λ depth at dd t w v h.
-        let here : Placed T = (h.0, at) in
-        let same : here ≡ t = cc (h.1) in
-        let out : opens t.0 ≡ false = subst (λ x. opens x.0 ≡ false) same (closes h.0 (ap gives h.2)) in
-        let level : t.1 ≡ at = sym (ap (λ x. x.1) same) in
-        let none : extra (opens t.0) ≡ 0 = ap extra out in
-        omega (arith, level, none);
-  }
-
   -- and what follows it
   pub one_opens : {D : ℕ → Type 0} {A B : Type 0} (opens : T → Bool) (f : T → Option A) (Q : A → Family T B) → ((t : T) → gives (f t) ≡ true → opens t ≡ false)
       → OpensBy D opens ((λ depth. one f) ∘> Q)
@@ -209,10 +197,6 @@ module _ {T : Type 0} where
         let one_more : extra (opens t.0) ≡ 1 = ap extra out in
         omega (arith, level, one_more);
   }
-
-  -- one token and what follows it is some token
-  pub one_some : {A B : Type 0} (f : T → Option A) (Q : A → Rule T B) (at : ℕ) (v : B) → (one f >>= Q) at [] v → ⊥
-  one_some f Q at v h = let whole : [] ≡ (h.4.0, at) ∷ h.2 = h.3 ∙ ap (λ l. l ++ h.2) h.4.1 in cc (whole)
 
   -- a rule that is never empty, and what follows it
   pub both_opens : {D : ℕ → Type 0} {A B : Type 0} {P : Family T A} {opens : T → Bool} (Q : A → Family T B) → ((depth at : ℕ) (v : A) → P depth at [] v → ⊥)

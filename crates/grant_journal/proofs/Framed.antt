@@ -4,14 +4,13 @@ use Rattle.std.proofs.Common.{ap, sym, ◌∙◌, subst}
 use Rattle.std.proofs.lemmas.Option.{same_Some}
 use Rattle.netlist.specs.declared.netlist.Module.{Module}
 use Rattle.verilog_meaning.specs.Names.{top_of}
-use Rattle.verilog_meaning.specs.Threads.{IsSame, IsSameSlot, IsThreaded}
+use Rattle.verilog_meaning.specs.Threads.{IsSameSlot, IsThreaded}
 use Rattle.sim_layout.specs.Rounds.{threads_of}
-use Rattle.sim_layout.specs.Running.{Running, state_of, IsSameNet, IsSameState}
+use Rattle.sim_layout.specs.Running.{Running, state_of, IsSameNet}
 use Rattle.cycle_sim.proofs.Turning.{net_trans}
-use Rattle.slot_sim.specs.Slots.{IsThreadedIn, IsSameSlotOf, IsTaken}
+use Rattle.slot_sim.specs.Slots.{IsThreadedIn, IsSameSlotOf}
 use Rattle.journal_laws.specs.Steps.{InTop, OfTop}
 use Rattle.journal_laws.proofs.Alike.{net_sym, of_top}
-use Rattle.journal_laws.proofs.Entering.{same_top}
 use Rattle.grant_journal.specs.Boards.{Frame}
 
 -- two simulators that are laid out as a third are laid out alike
@@ -55,17 +54,11 @@ module _ (modules : List Module) (count : ℕ) (layout : Running) (f : Frame mod
     threaded_in top e =
         subst (λ (x : Module). IsThreaded r.modules x (threads_of r.modules)) (same_Some f.top top (sym top_is ∙ e)) (at_net (λ ms top n. IsThreaded ms top n) f.threaded)
 
-    pub state_told : (s : Running) → IsSameState r s → IsSame modules f.top count (state_of r) (state_of s)
-    state_told s same = told (λ ms top n. IsSame ms top n (state_of r) (state_of s)) (same_top r s same)
-
     pub slot_told : (i : ℕ) (s : Running) → IsSameSlotOf (threads_of r.modules) i r s → IsSameSlot modules f.top count i (state_of r) (state_of s)
     slot_told i s same = told (λ ms top n. IsSameSlot ms top n i (state_of r) (state_of s)) (record { top = same.top; is_top = same.is_top; holds = same.same })
 
     pub slot_tells : (i : ℕ) (s : Running) → IsSameSlot modules f.top count i (state_of r) (state_of s) → IsSameSlotOf (threads_of r.modules) i r s
     slot_tells i s same = let o = tells (λ ms top n. IsSameSlot ms top n i (state_of r) (state_of s)) same in record { top = o.top; is_top = o.is_top; same = o.holds }
-
-    pub taken_told : (i : ℕ) (o g : Running) → IsTaken (threads_of r.modules) i r o g → IsSameSlot modules f.top count i (state_of o) (state_of g)
-    taken_told i o g t = told (λ ms top n. IsSameSlot ms top n i (state_of o) (state_of g)) (record { top = t.top; is_top = t.is_top; holds = t.taken })
 
   -- it holds of the net of a board
   pub framed : (P : List Module → Module → ℕ → Type 0) → P modules f.top count → InTop modules (λ top. P modules top count)

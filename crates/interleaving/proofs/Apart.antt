@@ -2,8 +2,8 @@
 use Rattle.std.proofs.Common.{◌≡◌, List, [], ◌∷◌, ◌++◌, refl, sym, ◌∙◌, subst, ⊎_elim, inl, inr, append-nil}
 use Rattle.std.specs.Prelude.{◌⊎◌}
 use Rattle.interleaving.specs.Memory.{Location, Memory, Access, Read, Write, memory_after, Touches, Writes, Conflict, AreApart, AgreeOn}
-use Rattle.interleaving.proofs.Accesses.{memory_after-agree, memory_after-unwritten, touched, touches_left, touches_right}
-use Rattle.interleaving.proofs.Accesses.{touches_either, writes_left, writes_right, writes_either, touches_or_not, writes_or_not}
+use Rattle.interleaving.proofs.Accesses.{memory_after-agree, memory_after-unwritten, touched}
+use Rattle.interleaving.proofs.Accesses.{touches_either, writes_either, touches_or_not, writes_or_not}
 
 module _ {Value : Type 0} where
   pub apart_or_not : (es fs : List (Access Value)) → Conflict es fs ⊎ AreApart es fs
@@ -30,9 +30,6 @@ module _ {Value : Type 0} where
       (touches_or_not fs q))
       (apart_or_not es fs)
 
-  pub not_both : (es fs : List (Access Value)) → AreApart es fs → Conflict es fs → ⊥
-  not_both es fs a c = ⊎_elim (λ l. a.first c.0 l.0 l.1) (λ r. a.second c.0 r.0 r.1) c.1
-
   pub apart_swap : (es fs : List (Access Value)) → AreApart es fs → AreApart fs es
   apart_swap es fs a = record { first = λ p w t. a.second p t w; second = λ p t w. a.first p w t }
 
@@ -57,9 +54,3 @@ module _ {Value : Type 0} where
       ∙ memory_after-agree es m (memory_after fs m) p (sym (memory_after-unwritten fs m p (λ v. a.first p w (touched fs p v)))))
       (λ away. memory_after-agree fs (memory_after es m) m p (memory_after-unwritten es m p away) ∙ sym (memory_after-unwritten es (memory_after fs m) p away))
       (writes_or_not es p)
-
-  pub apart_part : (es fs gs : List (Access Value)) → AreApart (es ++ fs) gs → AreApart es gs × AreApart fs gs
-  apart_part es fs gs a = (
-    record { first = λ p w t. a.first p (writes_left es fs p w) t; second = λ p t w. a.second p (touches_left es fs p t) w },
-    record { first = λ p w t. a.first p (writes_right es fs p w) t; second = λ p t w. a.second p (touches_right es fs p t) w },
-  )

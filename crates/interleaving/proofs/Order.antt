@@ -1,5 +1,5 @@
 -- What all threads do in one cycle, one after the other by thread number.
-use Rattle.std.proofs.Common.{◌≡◌, ◌≢◌, ℕ, zero, suc, ◌+◌, ◌<◌, ◌≤◌, List, [], ◌∷◌, refl, sym, ap, ◌∙◌, subst, ⊎_elim, inl, inr, arith}
+use Rattle.std.proofs.Common.{◌≡◌, ◌≢◌, ℕ, zero, suc, ◌+◌, ◌<◌, ◌≤◌, List, ◌∷◌, refl, sym, ap, ◌∙◌, subst, ⊎_elim, inl, inr, arith}
 use Rattle.std.specs.Prelude.{◌⊎◌, Bool, true, false, nat_lt, if◌then◌else◌}
 use Rattle.std.proofs.Math.Path.{fun_ext}
 use Rattle.std.proofs.lemmas.Bool.{cases_lt}
@@ -32,21 +32,6 @@ upto_step n owner new old same =
     (λ le. upto_above n owner new old le ∙ sym (upto_above (suc n) owner new old (omega arith)))
     (cases_lt owner n))
     (same_or_not owner n)
-
--- who are the threads that move
-pub nobody_moves : (r n : ℕ) (f : ℕ → Bool) → movers f r n ≡ [] → (i : ℕ) → n ≤ i → i < n + r → f i ≡ false
-nobody_moves zero n f e i le lt = absurd (omega arith)
-nobody_moves (suc r) n f e i le lt = go (f n) refl e (λ q a b. nobody_moves r (suc n) f q i a b)
-  where
-    go : (b : Bool) → f n ≡ b → (if b then n ∷ movers f r (suc n) else movers f r (suc n)) ≡ [] → (movers f r (suc n) ≡ [] → suc n ≤ i → i < suc n + r → f i ≡ false) → f i ≡ false
-    go true q g ih = absurd cc
-    go false q g ih = ⊎_elim (λ (same : i ≡ n). ap f same ∙ q) (λ (ne : i ≢ n). ih g (omega arith) (omega arith)) (same_or_not i n)
-
-pub moves_nobody : (r n : ℕ) (f : ℕ → Bool) → ((i : ℕ) → n ≤ i → i < n + r → f i ≡ false) → movers f r n ≡ []
-moves_nobody zero n f none = refl
-moves_nobody (suc r) n f none =
-    subst (λ b. (if b then n ∷ movers f r (suc n) else movers f r (suc n)) ≡ []) (sym (none n (omega arith) (omega arith)))
-    (moves_nobody r (suc n) f (λ i le lt. none i (omega arith) (omega arith)))
 
 module _ {Value Local State Slot Cores : Type 0} (P : Source Value Local State) (H : Hardware Value Local State Slot Cores) (T : ℕ) (w w' : World Value Slot Cores)
     (place_owner : Location → ℕ) (cores_at : ℕ → Cores) where
@@ -188,12 +173,6 @@ module _ {Value Local State Slot Core : Type 0} (P : Source Value Local State) (
       (λ lt. upto_below T (core_owner k) (v.cores k) (w.cores k) lt)
       (λ le. upto_above T (core_owner k) (v.cores k) (w.cores k) le ∙ sym (cycle.idle k le))
       (cases_lt (core_owner k) T)))
-
--- a core that is granted to thread n is as before the cycle when n moves
-pub own_core_old : {Value Local State Slot Core : Type 0} (P : Source Value Local State) (H : Hardware Value Local State Slot (ℕ → Core))
-    (w v : World Value Slot (ℕ → Core)) (place_owner : Location → ℕ) (core_owner : ℕ → ℕ) (n : ℕ) (c : ℕ → Core) →
-    AreForThread P H w v place_owner core_owner n c → (k : ℕ) → core_owner k ≡ n → c k ≡ w.cores k
-own_core_old P H w v place_owner core_owner n c fit k own = ⊎_elim (λ old. old) (λ new. absurd (new.0 own)) (fit k)
 
 -- ORDER IN A CYCLE
 pub order_in_cycle : {Value Local State Slot Core : Type 0} (P : Source Value Local State) (H : Hardware Value Local State Slot (ℕ → Core)) → OrderInCycle P H

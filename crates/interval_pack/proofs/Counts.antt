@@ -18,9 +18,6 @@ passing test [] rows = 0
 passing test (a ∷ as') [] = 0
 passing test (a ∷ as') (r ∷ rows) = one_if (test a r) + passing test as' rows
 
-abbrev passes : Test → List Interval → List ℕ → ℕ → Bool
-passes test xs rows i = test (get_or xs i nowhere) (get_or rows i 0)
-
 pub none : (test : Test) (xs : List Interval) (rows : List ℕ) → length rows ≡ length xs → ((i : ℕ) → i < length xs → test (get_or xs i nowhere) (get_or rows i 0) ≡ false) → passing test xs rows ≡ 0
 none test [] rows n f = refl
 none test (a ∷ xs) [] n f = refl

@@ -2,7 +2,7 @@
 use Rattle.std.proofs.Common.{◌≡◌, ◌≢◌, ℕ, ◌<◌, ◌≤◌, ◌+◌, List, [], ◌∷◌, ◌++◌, length, get_or, set, ap, sym, ◌∙◌, ◌⊎◌, inl, inr, arith, get_or-set_same, true}
 use Rattle.std.specs.List.{All, Contains}
 use Rattle.std.specs.Ordering.{nat_cmp}
-use Rattle.std.specs.BTreeMap.Range.{IsLeBy, IsLtBy}
+use Rattle.std.specs.BTreeMap.Range.{IsLtBy}
 use Rattle.std.specs.BTreeSet.{insert_key, Updates}
 use Rattle.std.proofs.lemmas.Bool.{cases_eq, cases_lt}
 use Rattle.std.proofs.lemmas.Cmp.{nat_cmp_total}
@@ -10,7 +10,7 @@ use Rattle.std.proofs.lemmas.Map.Lookups.{exact_unsigned}
 use Rattle.std.proofs.lemmas.List.{get_or_append_left, get_or_push, length_push, length-set, get_or-set_other}
 use Rattle.std.proofs.lemmas.List.Elements.{All-contains, Contains-append_right}
 use Rattle.interval_pack.specs.declared.rows.Rows.{Rows}
-use Rattle.interval_pack.specs.FreeRows.{AllLater, AreRows, AreRowsAt, AreBusy}
+use Rattle.interval_pack.specs.FreeRows.{AreRows, AreRowsAt, AreBusy}
 use Rattle.interval_pack.proofs.KeySets.{pair_cmp, pair_total, pair_exact, cons_head, cons_cases, insert_cases, insert_head, insert_more}
 
 abbrev IsPair : ℕ × ℕ → ℕ × ℕ → Type 0
@@ -51,15 +51,6 @@ module _ (ends : List ℕ) (place end row : ℕ) (old new : Rows) (are : AreRows
     busy = λ e r h. are.busy e r (rw popped (Contains-append_right ((end, row) ∷ []) new.busy.keys (e, r) h));
     each = λ r l. each_by r (are.each r l);
   }
-
-le_from_pair : (a b : ℕ × ℕ) → IsLeBy pair_cmp a b → a.0 ≤ b.0
-le_from_pair a b e = grind arith
-
-pub none_ended : (place : ℕ) (first : ℕ × ℕ) (keys : List (ℕ × ℕ)) → place < first.0 → All (IsLeBy pair_cmp first) keys → AllLater place keys
-none_ended place first keys lt from end row h = let le = le_from_pair first (end, row) (All-contains (IsLeBy pair_cmp first) keys (end, row) from h) in omega arith
-
-pub none_left : (place : ℕ) (keys : List (ℕ × ℕ)) → length keys ≡ 0 → AllLater place keys
-none_left place keys z end row h = let l = h.1 in absurd (omega arith)
 
 module _ (ends : List ℕ) (place : ℕ) (old : Rows) (are : AreRowsAt ends place old) where
   pub all_busy : length old.free.keys ≡ 0 → AreBusy ends place (length ends)

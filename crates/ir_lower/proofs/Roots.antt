@@ -86,9 +86,6 @@ function_weighs P r c =
     let same = ap (function_weight P.functions) c.2 in
     omega (arith, part, same)
 
-pub main_among : (P : Program) → Contains (thread_functions P) P.main
-main_among P = (0, omega arith, refl)
-
 -- ---- their codes
 
 codes_more : (P : Program) (fs : List ℕ) (f : ℕ) (cs : List ThreadCode) (c : ThreadCode) → AreThreadCodes P fs cs → IsThreadCode P f c → AreThreadCodes P (fs ++ f ∷ []) (cs ++ c ∷ [])

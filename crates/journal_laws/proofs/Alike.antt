@@ -9,7 +9,7 @@ use Rattle.verilog_meaning.specs.Cycles.{Valuation, Choice, IsSameIn, ShowsDone}
 use Rattle.verilog_meaning.specs.Threads.{alone, all_enabled, IsSame, IsStuck}
 use Rattle.sim_layout.specs.Rounds.{threads_of}
 use Rattle.sim_layout.specs.Running.{Running, Stands, state_of, IsSameNet, IsSameState, TellsDone}
-use Rattle.slot_sim.proofs.Same.{same_refl, same_sym, same_trans, cycle_moved, shows_moved}
+use Rattle.slot_sim.proofs.Same.{same_sym, same_trans, cycle_moved, shows_moved}
 use Rattle.slot_sim.specs.Slots.{IsThreadedIn, Moving}
 use Rattle.slot_sim.proofs.Going.{is_state}
 use Rattle.slot_sim.proofs.Moving.{state_in}
@@ -22,9 +22,6 @@ use Rattle.journal_laws.proofs.Judging.{can_move, moving, not_shown, is_shown, s
 
 pub net_sym : (a b : Running) → IsSameNet a b → IsSameNet b a
 net_sym a b n = record { modules = sym n.modules; parts = sym n.parts; steps = sym n.steps; starts = sym n.starts; prefs = sym n.prefs; done = sym n.done }
-
-pub state_refl : (a : Running) → Stands a → IsSameState a a
-state_refl a st = record { top = st.top; is_top = st.is_top; same = same_refl a.modules st.top (state_of a) }
 
 pub state_trans : (a b c : Running) → IsSameNet a b → IsSameState a b → IsSameState b c → IsSameState a c
 state_trans a b c net x y = record {

@@ -41,11 +41,6 @@ module _ (modules : List Module) (top : Module) (count : ℕ) where
   legal_more [] e h g k same l = (k, legal_from (E e) h g k same l, same_refl modules top k)
   legal_more (d ∷ journal) e h g k j l = (j.0, j.1, legal_more journal e j.0 g k j.2 l)
 
-  pub legal_to : (journal : List Entry) (h g k : Valuation) → IsLegal modules top count h (all_entries modules top count journal) g → IsSame modules top count g k
-      → IsLegal modules top count h (all_entries modules top count journal) k
-  legal_to [] h g k j same = same_trans modules top h g k j same
-  legal_to (d ∷ journal) h g k j same = (j.0, j.1, legal_to journal j.0 g k j.2 same)
-
   pub choices_more : (journal : List Entry) (e : Entry) → choices modules top count (journal ++ e ∷ []) ≡ choices modules top count journal ++ entry_choices modules top count (E e)
   choices_more [] e = append-nil (entry_choices modules top count (E e))
   choices_more (d ∷ journal) e =

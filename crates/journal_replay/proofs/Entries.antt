@@ -4,7 +4,7 @@ use Rattle.std.proofs.Common.{ap, sym, ◌∙◌, subst, ⊎_elim, arith}
 use Rattle.std.proofs.lemmas.List.{append-nil, append_assoc}
 use Rattle.netlist.specs.declared.netlist.Module.{Module}
 use Rattle.verilog_meaning.specs.Cycles.{Valuation, Choice, Runs}
-use Rattle.verilog_meaning.specs.Threads.{alone, times, open_cycles, entry_choices, IsSame, Moves, IsLegalEntry}
+use Rattle.verilog_meaning.specs.Threads.{alone, times, open_cycles, entry_choices, IsSame, Moves}
 use Rattle.sim_layout.specs.Rounds.{threads_of}
 use Rattle.sim_layout.specs.Running.{Running, Stands, state_of, IsSameNet}
 use Rattle.cycle_sim.proofs.Same.{same_refl}
@@ -105,16 +105,6 @@ module _ (old r : Running) (st : Stands old) (e : Entry) (net : IsSameNet old r)
           many = many ∙ sums e.closed e.opened ∙ sym (long_times ms top n (if e.opened then e.closed + 1 else e.closed) (alone e.thread));
         };
       }
-
--- entries that are not legal at sight
-pub no_entry : (old : Running) → Stands old → (e : Entry) → ((g : Valuation) (top : Module)
-    → IsLegalEntry old.modules top (threads_of old.modules) (state_of old) (entry old.modules top (threads_of old.modules) e) g → ⊥)
-    → OfTop old (λ ms top n. IsNoEntry ms top n e (state_of old))
-no_entry old st e never = record { top = st.top; is_top = st.is_top; holds = λ g l. never g st.top l }
-
-pub no_closed : (old : Running) (e : Entry) → OfTop old (λ ms top n. CannotRedo ms top n e.thread false e.closed (state_of old))
-    → OfTop old (λ ms top n. IsNoEntry ms top n e (state_of old))
-no_closed old e cannot = record { top = cannot.top; is_top = cannot.is_top; holds = λ g l. cannot.holds l.between l.closed }
 
 -- an entry has no more than 4,097 cycles
 pub few_cycles : (r : Running) (e : Entry) (h g : Valuation) (before after : List ℕ) (cycles : ℕ) → OfTop r (λ ms top n. IsEntryRedone ms top n e h g before after cycles)

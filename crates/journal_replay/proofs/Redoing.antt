@@ -2,7 +2,7 @@
 use Rattle.std.specs.Prelude.{◌≡◌, ℕ, suc, ◌+◌, ◌-◌, ◌<◌, Bool, true, false, MatchBool, List, [], ◌++◌, Some, refl}
 use mathlib.Core.Bool.{beq, not}
 use Rattle.std.proofs.Common.{ap, sym, ◌∙◌, subst, arith}
-use Rattle.std.proofs.lemmas.List.{append-nil, append_assoc}
+use Rattle.std.proofs.lemmas.List.{append_assoc}
 use Rattle.netlist.specs.declared.netlist.Module.{Module}
 use Rattle.verilog_meaning.specs.Names.{top_of}
 use Rattle.verilog_meaning.specs.Cycles.{Valuation, Choice, Cycle, Runs, ShowsDone}
@@ -88,18 +88,6 @@ module _ (r : Running) (i : ℕ) (b : Bool) (threaded : IsThreadedIn r.modules (
 
 abbrev pub AreDone : Running → Running → ℕ → Bool → ℕ → List ℕ → List ℕ → Type 0
 AreDone old r i b k before after = OfTop old (λ ms top n. AreRedone ms top n i b k (state_of old) (state_of r) before after)
-
-pub none_done : (old : Running) → Stands old → (i : ℕ) (b : Bool) (out : List ℕ) → AreDone old old i b 0 out out
-none_done old st i b out = record {
-  top = st.top;
-  is_top = st.is_top;
-  holds = record {
-    moves = same_refl old.modules st.top (state_of old);
-    bytes = [];
-    runs = (same_refl old.modules st.top (state_of old), refl);
-    appended = sym (append-nil out);
-  };
-}
 
 module _ (old r : Running) (st : Stands old) (i : ℕ) (b : Bool) (k : ℕ) (threaded : IsThreadedIn old.modules (threads_of old.modules)) (below : i < threads_of old.modules)
     (net : IsSameNet old r)

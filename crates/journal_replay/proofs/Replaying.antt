@@ -1,15 +1,14 @@
 -- A journal done again, entry by entry.
-use Rattle.std.specs.Prelude.{◌≡◌, ℕ, ◌+◌, ◌<◌, List, [], ◌∷◌, ◌++◌, length, take, Some, None, refl}
+use Rattle.std.specs.Prelude.{◌≡◌, ℕ, ◌+◌, ◌<◌, List, [], ◌∷◌, ◌++◌, length, take, Some}
 use Rattle.std.proofs.Common.{ap, sym, ◌∙◌, subst, get_or, arith, length-append}
 use Rattle.std.proofs.lemmas.List.{take_more}
 use Rattle.std.proofs.lemmas.Option.{slice_get-get_or}
 use Rattle.netlist.specs.declared.netlist.Module.{Module}
 use Rattle.verilog_meaning.specs.Names.{top_of}
-use Rattle.verilog_meaning.specs.Cycles.{Valuation, IsSameIn, Reaches, initial_state}
+use Rattle.verilog_meaning.specs.Cycles.{Valuation, Reaches, initial_state}
 use Rattle.verilog_meaning.specs.Threads.{entry_choices}
 use Rattle.sim_layout.specs.Rounds.{threads_of}
 use Rattle.sim_layout.specs.Running.{Running, state_of, IsSameNet}
-use Rattle.cycle_sim.specs.Opened.{IsOpened}
 use Rattle.journal_text.specs.declared.entry.Entry.{Entry}
 use Rattle.journal_laws.specs.declared.verdict.Verdict.{Verdict}
 use Rattle.journal_laws.specs.Journal.{entry, choices, Ends, Judged}
@@ -21,12 +20,6 @@ use Rattle.journal_replay.specs.Replays.{AreReplayed, IsEntryRedone, IsNoEntry, 
 
 abbrev pub AreSoFar : Running → Running → List Entry → List ℕ → ℕ → Type 0
 AreSoFar first r journal output cycles = OfTop first (λ ms top n. AreReplayed ms top n journal (state_of r) output cycles)
-
-pub none_so_far : (first : Running) (modules : List Module) → IsOpened modules first → AreSoFar first first [] [] 0
-none_so_far first modules opened =
-    let begins : IsSameIn first.modules opened.top [] (initial_state first.modules opened.top) (state_of first) =
-    subst (λ (ms : List Module). IsSameIn ms opened.top [] (initial_state ms opened.top) (state_of first)) (sym opened.net) opened.begins in
-    record { top = opened.top; is_top = ap top_of opened.net ∙ opened.is_top; holds = record { legal = begins; reached = (begins, refl); many = refl } }
 
 module _ (first r : Running) (net : IsSameNet first r) (journal : List Entry) (number : ℕ) (output : List ℕ) (cycles : ℕ)
     (so : AreSoFar first r (take number journal) output cycles) (within : number < length journal) (d : Entry) where
@@ -89,6 +82,3 @@ replayed first r net modules is journal output cycles so v judged =
           × Ends ms top (threads_of ms) h (length journal) (length journal) v) is
           (state_of r, so.holds, x);
     }
-
-pub never_none : (r : Running) (n : ℕ) → OfTop r (λ ms top k. Judged ms top k (state_of r) n n None) → ⊥
-never_none r n o = (o.holds).room refl

@@ -40,9 +40,6 @@ cut b (c ∷ cs) ys e = by (λ f. cut b cs ys f) (nat_eq c b) refl e
 
 -- ---- the fields of an entry
 
-pub short_number : (text : List ℕ) (n : ℕ) → IsNumber text n → n < 2 ^ 64
-short_number text n is = let l = is.few in omega (arith, l)
-
 pub fields_are : (text behind last : List ℕ) (e : Entry) → past 32 text ≡ Some behind → past 32 behind ≡ Some last → IsNumber (upto 32 text) e.thread → IsNumber (upto 32 behind) e.closed
     → last ≡ mark e.opened ∷ [] → AreFields text e
 fields_are text behind last e first second thread closed opened = record {

@@ -1,11 +1,11 @@
 -- A line more of a journal, and the whole of it.
-use Rattle.std.specs.Prelude.{◌≡◌, ℕ, zero, suc, ◌+◌, ◌≤◌, true, false, List, [], ◌∷◌, ◌++◌, length, take, drop, Some, None, refl}
+use Rattle.std.specs.Prelude.{◌≡◌, ℕ, zero, suc, ◌+◌, ◌≤◌, true, List, [], ◌∷◌, ◌++◌, length, take, drop, Some, None, refl}
 use Rattle.std.proofs.Common.{ap, sym, ◌∙◌, subst, arith, length-append}
 use Rattle.std.proofs.lemmas.List.{append_assoc}
 use Rattle.journal_text.specs.declared.entry.Entry.{Entry}
 use Rattle.journal_text.specs.declared.text.Reading.{Reading}
 use Rattle.journal_text.specs.Lines.{begins, line_long, Led, start, more, Spells, AreSpelled, IsMisspelt}
-use Rattle.journal_text.specs.Texts.{AreRead, IsReading, ReadsOn, IsParted}
+use Rattle.journal_text.specs.Texts.{AreRead, IsReading, ReadsOn}
 
 spelled_on : (lines : List (List ℕ)) (entries : List Entry) (l : List ℕ) (e : Entry) → AreSpelled lines entries → Spells l e → AreSpelled (lines ++ l ∷ []) (entries ++ e ∷ [])
 spelled_on [] [] l e are is = (is, tt)
@@ -92,6 +92,3 @@ so_far_more text left line r new rest long next s is first l low cut reads e =
       within = (let w = s.within in let d = drop_long text rest w in let f = ap length is in omega (arith, w, d, f, low, e));
       reading = reads s.lines s.reading;
     }
-
-pub so_far_all : (text left : List ℕ) (r : Reading) (rest : ℕ) → IsSoFar text r rest → left ≡ drop rest text → begins left ≡ false → IsParted text r.entries.items r.bad rest
-so_far_all text left r rest s is other = record { lines = s.lines; led = s.led; within = s.within; ends = subst (λ z. begins z ≡ false) is other; read = (s.reading).read }

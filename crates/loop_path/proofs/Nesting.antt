@@ -1,5 +1,5 @@
 -- The path of an instance is found from its place.
-use Rattle.std.specs.Prelude.{◌≡◌, ℕ, ◌+◌, ◌<◌, ◌≤◌, List, [], ◌∷◌, ◌++◌, length, slice_index, Option, Some, option_and_then, slice_get, refl}
+use Rattle.std.specs.Prelude.{◌≡◌, ℕ, ◌+◌, ◌<◌, ◌≤◌, List, [], ◌∷◌, ◌++◌, length, slice_index, Option, Some, option_and_then, slice_get}
 use Rattle.std.proofs.Common.{ap, sym, ◌∙◌, subst, ⊎_elim, arith, append_assoc}
 use Rattle.std.proofs.lemmas.Option.{slice_get_within}
 use Rattle.std.proofs.lemmas.List.{append-nil}
@@ -71,9 +71,6 @@ pub record IsLeft (children : List ℕ) (path done : Path) (inner : ℕ) : Type 
 
 abbrev pub AreLeft : List ℕ → ℕ → Path → ℕ → Type 0
 AreLeft children place done inner = (path : Path) → place_in children path ≡ place → IsNested children path → IsLeft children path done inner
-
-pub left_all : (children : List ℕ) (place : ℕ) → AreLeft children place [] place
-left_all children place path e nested = record { rest = path; is = refl; place = e; nested = nested }
 
 -- at the outermost instance all is found
 pub left_none : (children : List ℕ) (place : ℕ) (done : Path) (inner : ℕ) → AreLeft children place done inner → IsOutermost children (length children) inner

@@ -5,17 +5,7 @@ use Rattle.std.proofs.lemmas.List.{append-nil}
 use Rattle.netlist.specs.declared.netlist.Instance.{Instance}
 use Rattle.netlist.specs.declared.netlist.Module.{Module}
 use Rattle.verilog_meaning.specs.Cycles.{Path, module_at}
-use Rattle.sim_values.specs.Tree.{instances_of}
-use Rattle.sim_layout.specs.Wires.{signals_of}
-use Rattle.loop_path.specs.Dotted.{instance_in, module_of, signal_in, instance_name, prefix}
-
-pub instance_there : (o : Option Module) (i : ℕ) → slice_get (instances_of o) i ≡ instance_in o i
-instance_there None i = refl
-instance_there (Some m) i = refl
-
-pub signal_there : (o : Option Module) (x : ℕ) → slice_get (signals_of o) x ≡ signal_in o x
-signal_there None x = refl
-signal_there (Some m) x = refl
+use Rattle.loop_path.specs.Dotted.{instance_in, module_of, instance_name, prefix}
 
 module_inside : (modules : List Module) (o : Option Module) (i : ℕ)
     → module_of modules (instance_in o i) ≡ option_and_then (λ (m : Module). option_and_then (λ (n : Instance). slice_get modules n.of) (slice_get m.instances i)) o

@@ -1,8 +1,7 @@
 -- Signals at the places of their kinds: inputs, then registers and wires, then outputs.
-use Rattle.std.proofs.Common.{◌≡◌, ◌≢◌, ℕ, suc, ◌+◌, ◌<◌, ◌≤◌, Bool, true, false, if◌then◌else◌, List, []}
-use Rattle.std.proofs.Common.{◌∷◌, ◌++◌, length, filter, get_or, slice_get, Some, refl, sym, ap, subst, ◌∙◌, arith, ⊎_elim}
-use Rattle.std.proofs.lemmas.Bool.{cases_lt, cases_eq, cond-false, cond-true}
-use Rattle.std.proofs.lemmas.Option.{slice_get-get_or}
+use Rattle.std.proofs.Common.{◌≡◌, ℕ, suc, ◌+◌, ◌<◌, ◌≤◌, Bool, true, false, if◌then◌else◌, List, []}
+use Rattle.std.proofs.Common.{◌∷◌, ◌++◌, length, filter, slice_get, Some, refl, sym, ap, subst, ◌∙◌, arith, ⊎_elim}
+use Rattle.std.proofs.lemmas.Bool.{cases_lt, cond-false, cond-true}
 use Rattle.netlist.specs.declared.netlist.Source.{Source}
 use Rattle.netlist.specs.declared.netlist.Source.TheVariants.{Input, Register, Assigned, Port}
 use Rattle.netlist.specs.declared.netlist.Signal.{Signal}
@@ -156,13 +155,3 @@ module _ (m : Module) (inputs first : ℕ) (order : inputs ≤ first) where
           (λ (past : inputs ≤ p). (kind_inner m inputs first p x past less (head p x xs each)).output_is) (cases_lt p inputs)
 
 -- ---- checks, one place after the other
-
-pub item_at : {X : Type 0} (xs ys : List X) (i : ℕ) (x : X) → i < length xs → x ≡ get_or xs i x → xs ≡ ys → slice_get ys i ≡ Some x
-item_at xs ys i x lt e f = ap (λ l. slice_get l i) (sym f) ∙ slice_get-get_or xs i x lt ∙ ap Some (sym e)
-
-pub placed_more : (P : ℕ → Signal → Type 0) (xs : List Signal) (n : ℕ) (x : Signal) → ((k : ℕ) (y : Signal) → k < n → slice_get xs k ≡ Some y → P k y) → slice_get xs n ≡ Some x → P n x
-    → (k : ℕ) (y : Signal) → k < n + 1 → slice_get xs k ≡ Some y → P k y
-placed_more P xs n x each listed p k y lt there =
-    ⊎_elim
-    (λ (same : k ≡ n). let one : x ≡ y = (let h = ap (slice_get xs) same in cc) in subst (λ (z : ℕ). P z y) (sym same) (subst (λ (z : Signal). P n z) one p))
-    (λ (ne : k ≢ n). each k y (let less : k < n = omega arith in less) there) (cases_eq k n)

@@ -7,23 +7,12 @@ use Rattle.verilog_tree.specs.declared.tree.Port.{Port}
 use Rattle.verilog_tree.specs.declared.tree.Item.{Item}
 use Rattle.verilog_tree.specs.declared.tree.Item.TheVariants as i
 use Rattle.verilog_tree.specs.declared.tree.Module.{Module}
-use Rattle.netlist.specs.NetlistOf.{Name, Kind, InputPort, OutputPort, Declaration, declaration}
+use Rattle.netlist.specs.NetlistOf.{Name}
 
 -- whether a port is an input, where inputs are asked for, and else whether it is an output
 abbrev pub is_side : Bool → Direction → Bool
 is_side inputs direction.Input = inputs
 is_side inputs direction.Output = not inputs
-
-abbrev pub side_kind : Bool → Kind
-side_kind true = InputPort
-side_kind false = OutputPort
-
--- the ports of one side
-abbrev pub side_port : Bool → Port → List Declaration
-side_port inputs p = if is_side inputs p.direction then declaration (side_kind inputs) p ∷ [] else []
-
-abbrev pub side_ports : Bool → List Port → List Declaration
-side_ports inputs ports = flat_map (side_port inputs) ports
 
 abbrev pub side_name : Bool → Port → List Name
 side_name inputs p = if is_side inputs p.direction then p.name ∷ [] else []

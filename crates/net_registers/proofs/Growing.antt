@@ -1,22 +1,18 @@
 -- A list of registers grows mark by mark.
-use Rattle.std.proofs.Common.{◌≡◌, refl, sym, ap, ◌∙◌, subst, ℕ, ◌+◌, ◌<◌, Bool, true, false}
+use Rattle.std.proofs.Common.{◌≡◌, refl, sym, ap, ◌∙◌, subst, ℕ, ◌+◌, ◌<◌}
 use Rattle.std.proofs.Common.{List, [], ◌∷◌, ◌++◌, map, length, take, Some, slice_get, append_assoc, append-nil, get_or, ◌≤◌, arith}
-use Rattle.std.specs.Prelude.{if◌then◌else◌}
 use Rattle.std.specs.List.{AllByRecursion}
 use Rattle.std.proofs.lemmas.List.{map-append, take_more, length-take-le, take_all, length-map, length-append}
 use Rattle.std.proofs.lemmas.List.Concat.{flat_map-append}
 use Rattle.std.proofs.lemmas.Option.{slice_get-get_or}
 use Rattle.netlist.specs.declared.netlist.Signal.{Signal}
-use Rattle.netlist.specs.declared.netlist.Source.{Source}
-use Rattle.netlist.specs.declared.netlist.Source.TheVariants.{Input, Register as Stored, Assigned, Port}
 use Rattle.netlist.specs.declared.netlist.Module.{Module}
-use Rattle.verilog_meaning.specs.Cycles.{Path, IsRegister}
-use Rattle.sim_layout.specs.Placed.{is_register}
+use Rattle.verilog_meaning.specs.Cycles.{Path}
 use Rattle.sim_values.specs.declared.edge.Part.{Part}
 use Rattle.vcd_text.specs.Recover.{unlines, IsHeadLine}
 use Rattle.net_registers.specs.declared.listing.Listing.{Listing}
-use Rattle.net_registers.specs.Marks.{Register, Mark, Enter, Holds, Leave, own, own_mark, held, registers_of}
-use Rattle.net_registers.specs.Heads.{place_of, width_of, lines_from, line_of, scope_line, end_line, IsOfNet, Grows, HasLine, HasRegister, HasSignal, HasOwn, IsBased}
+use Rattle.net_registers.specs.Marks.{Register, Mark, Enter, Leave, own, own_mark, held, registers_of}
+use Rattle.net_registers.specs.Heads.{place_of, width_of, lines_from, line_of, scope_line, end_line, IsOfNet, Grows, HasLine, HasSignal, HasOwn, IsBased}
 use Rattle.net_registers.specs.Walks.{HasScope}
 
 pub lines_append : (number : ℕ) (xs ys : List Mark) → lines_from number (xs ++ ys) ≡ lines_from number xs ++ lines_from (number + length (registers_of xs)) ys
@@ -42,16 +38,7 @@ own_append path x (s ∷ xs) ys =
     ap (λ (l : List Mark). own_mark path x s ++ l) (own_append path (x + 1) xs ys ∙ ap (λ (k : ℕ). own path (x + 1) xs ++ own path k ys) e)
     ∙ sym (append_assoc (own_mark path x s) (own path (x + 1) xs) (own path (x + length (s ∷ xs)) ys))
 
-register_is : (s : Source) → is_register s ≡ true → IsRegister s
-register_is Input e = cc
-register_is (Stored k) e = tt
-register_is (Assigned v) e = cc
-register_is (Port k port) e = cc
-
 module _ (modules : List Module) (top : Module) (parts : List Part) where
-  pub grows_none : (l : Listing) → Grows modules top parts l l []
-  grows_none l = record { head = sym (append-nil l.head); places = sym (append-nil l.places); widths = sym (append-nil l.widths); lines = tt; net = tt }
-
   pub grows_both : (a b c : Listing) (xs ys : List Mark) → Grows modules top parts a b xs → Grows modules top parts b c ys → Grows modules top parts a c (xs ++ ys)
   grows_both a b c xs ys f g =
       let rx = registers_of xs in
@@ -92,41 +79,13 @@ module _ (modules : List Module) (top : Module) (parts : List Part) where
     net = tt;
   }
 
-  pub grows_register : (a b : Listing) (place : ℕ) (g : Register) → place ≡ place_of parts g → IsOfNet modules top g → HasRegister a b place g.signal → Grows modules top parts a b (Holds g ∷ [])
-  grows_register a b place g e of h = record {
-    head = h.head;
-    places = h.places ∙ ap (λ (k : ℕ). a.places ++ k ∷ []) e;
-    widths = h.widths;
-    lines = (h.line_is, tt);
-    net = (of, tt);
-  }
-
 -- ---- the signals of an instance
-
-signal_by : (b : Bool) (a c : Listing) (modules : List Module) (top : Module) (parts : List Part) (g : Register) →
-    (b ≡ true → Grows modules top parts a c (Holds g ∷ [])) → (b ≡ false → c ≡ a) → Grows modules top parts a c (if b then Holds g ∷ [] else [])
-signal_by true a c modules top parts g there lacks = there refl
-signal_by false a c modules top parts g there lacks = subst (λ (l : Listing). Grows modules top parts a l []) (sym (lacks refl)) (grows_none modules top parts a)
-
-pub no_signal : (a : Listing) (base x : ℕ) (s : Signal) → is_register s.source ≡ false → HasSignal a a base x s
-no_signal a base x s e modules top parts path kind based at =
-    signal_by (is_register s.source) a a modules top parts (record { path = path; place = x; signal = s }) (λ y. absurd (let both = sym y ∙ e in cc)) (λ y. refl)
-
-pub one_signal : (a c : Listing) (base x : ℕ) (s : Signal) (place : ℕ) → is_register s.source ≡ true → place ≡ base + x → HasRegister a c place s → HasSignal a c base x s
-one_signal a c base x s place e place_is h modules top parts path kind based at =
-    let g : Register = record { path = path; place = x; signal = s } in
-    let of : IsOfNet modules top g = record { kind = kind; at = record { stands = based.stands; listed = at }; register = register_is s.source e } in
-    signal_by (is_register s.source) a c modules top parts g
-    (λ y. grows_register modules top parts a c place g (place_is ∙ ap (λ (b : ℕ). b + x) based.base_is) of h) (λ y. absurd (let both = sym y ∙ e in cc))
 
 -- the first signals
 abbrev pub HasFirst : Listing → Listing → ℕ → List Signal → ℕ → Type 0
 HasFirst a b base signals count =
     (modules : List Module) (top : Module) (parts : List Part) (path : Path) (kind : Module) → IsBased modules top parts path kind base → kind.signals ≡ signals →
     Grows modules top parts a b (own path 0 (take count signals))
-
-pub first_none : (a : Listing) (base : ℕ) (signals : List Signal) → HasFirst a a base signals 0
-first_none a base signals modules top parts path kind based e = grows_none modules top parts a
 
 pub first_more : (a b c : Listing) (base : ℕ) (signals : List Signal) (count : ℕ) (s : Signal) → count < length signals → s ≡ get_or signals count s →
     HasFirst a b base signals count → HasSignal b c base count s → HasFirst a c base signals (count + 1)

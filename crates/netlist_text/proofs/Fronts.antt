@@ -1,12 +1,10 @@
 -- Tests over the items of a module, and facts that hold item after item.
-use Rattle.std.proofs.Common.{◌≡◌, ℕ, zero, suc, ◌<◌, ◌⊎◌, List, [], ◌∷◌, ◌++◌, Bool, true, false}
+use Rattle.std.proofs.Common.{◌≡◌, ℕ, ◌<◌, ◌⊎◌, List, [], ◌∷◌, ◌++◌, Bool, true, false}
 use Rattle.std.proofs.Common.{Some, refl, sym, ap, ◌∙◌, subst, inl, inr, length, map, add-zero, append_assoc, arith}
 use Rattle.std.specs.Prelude.{slice_get, ◌||◌}
 use Rattle.std.specs.List.{flat_map, list_any}
 use Rattle.std.proofs.lemmas.List.{append-nil}
 use Rattle.std.proofs.lemmas.List.Concat.{flat_map-append, flat_map_single}
-use Rattle.std.proofs.lemmas.Map.Keys.{any_passes_from_place}
-use Rattle.std.proofs.lemmas.Bool.{or_right}
 use Rattle.lists.proofs.Places.{get_back}
 use Rattle.verilog_tree.specs.declared.tree.InitialConstant.{InitialConstant}
 use Rattle.verilog_tree.specs.declared.tree.Statement.{Statement}
@@ -49,9 +47,6 @@ passes_step p y xs next false e h = let n = next h in record { x = n.x; held = i
 pub any_passes : {A : Type 0} (p : A → Bool) (xs : List A) → list_any p xs ≡ true → Passes p xs
 any_passes p [] h = absurd (cc)
 any_passes p (y ∷ xs) h = passes_step p y xs (any_passes p xs) (p y) refl h
-
-pub passes_any : {A : Type 0} (p : A → Bool) (xs : List A) (x : A) → In xs x → p x ≡ true → list_any p xs ≡ true
-passes_any p xs x h q = any_passes_from_place p xs h.at x h.found q
 
 block_in : {A B : Type 0} (f : List A → B) (xs : List A) (y : B) → In (laid.block f xs) y → (f xs ≡ y) × (0 < length xs)
 block_in f [] y h = absurd (in_none y h)

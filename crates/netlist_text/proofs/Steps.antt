@@ -1,37 +1,10 @@
 -- One element more.
-use Rattle.std.proofs.Common.{◌≡◌, ℕ, suc, ◌+◌, ◌<◌, List, [], ◌∷◌, ◌++◌, refl, sym, ap, ◌∙◌, append_assoc, add-zero, subst, length, take, get_or, map, arith}
-use Rattle.std.specs.List.{flat_map}
-use Rattle.std.proofs.lemmas.List.{take_more, map-append, append-nil, length-take-le, get_or_default}
-use Rattle.std.proofs.lemmas.List.Concat.{flat_map-append}
+use Rattle.std.proofs.Common.{◌≡◌, ℕ, suc, ◌+◌, ◌<◌, List, [], ◌∷◌, ◌++◌, sym, ap, ◌∙◌, append_assoc, add-zero, subst, length, take, get_or, arith}
+use Rattle.std.proofs.lemmas.List.{take_more, length-take-le, get_or_default}
 use Rattle.netlist_text.specs.LaidOut.{with_places, block}
 
 take_next : {A : Type 0} (xs : List A) (i : ℕ) (x : A) → x ≡ get_or xs i x → i < length xs → take (i + 1) xs ≡ take i xs ++ x ∷ []
 take_next xs i x is lt = take_more xs i x lt ∙ ap (λ y. take i xs ++ y ∷ []) (sym is)
-
--- a list of one's own that grows by one
-pub map_step : {A B : Type 0} (f : A → B) (b c : List B) (xs : List A) (i : ℕ) (x : A) → b ≡ map f (take i xs) → c ≡ b ++ f x ∷ []
-    → x ≡ get_or xs i x → i < length xs → c ≡ map f (take (i + 1) xs)
-map_step f b c xs i x e h is lt = h ∙ ap (λ l. l ++ f x ∷ []) e ∙ sym (ap (map f) (take_next xs i x is lt) ∙ map-append f (take i xs) (x ∷ []))
-
--- a given list that grows by one
-pub map_onto : {A B : Type 0} (f : A → B) (a b c : List B) (xs : List A) (i : ℕ) (x : A) → b ≡ a ++ map f (take i xs) → c ≡ b ++ f x ∷ []
-    → x ≡ get_or xs i x → i < length xs → c ≡ a ++ map f (take (i + 1) xs)
-map_onto f a b c xs i x e h is lt =
-    h ∙ ap (λ l. l ++ f x ∷ []) e ∙ append_assoc a (map f (take i xs)) (f x ∷ [])
-    ∙ ap (λ l. a ++ l) (sym (ap (map f) (take_next xs i x is lt) ∙ map-append f (take i xs) (x ∷ [])))
-
-flat_next : {A B : Type 0} (f : A → List B) (xs : List A) (i : ℕ) (x : A) → x ≡ get_or xs i x → i < length xs → flat_map f (take (i + 1) xs) ≡ flat_map f (take i xs) ++ f x
-flat_next f xs i x is lt =
-    ap (flat_map f) (take_next xs i x is lt) ∙ flat_map-append f (take i xs) (x ∷ []) ∙ ap (λ l. flat_map f (take i xs) ++ l) (append-nil (f x))
-
-pub flat_step : {A B : Type 0} (f : A → List B) (b c : List B) (xs : List A) (i : ℕ) (x : A) → b ≡ flat_map f (take i xs) → c ≡ b ++ f x
-    → x ≡ get_or xs i x → i < length xs → c ≡ flat_map f (take (i + 1) xs)
-flat_step f b c xs i x e h is lt = h ∙ ap (λ l. l ++ f x) e ∙ sym (flat_next f xs i x is lt)
-
-pub flat_onto : {A B : Type 0} (f : A → List B) (a b c : List B) (xs : List A) (i : ℕ) (x : A) → b ≡ a ++ flat_map f (take i xs) → c ≡ b ++ f x
-    → x ≡ get_or xs i x → i < length xs → c ≡ a ++ flat_map f (take (i + 1) xs)
-flat_onto f a b c xs i x e h is lt =
-    h ∙ ap (λ l. l ++ f x) e ∙ append_assoc a (flat_map f (take i xs)) (f x) ∙ ap (λ l. a ++ l) (sym (flat_next f xs i x is lt))
 
 -- ---- with places
 
@@ -55,13 +28,6 @@ places_onto f k a b c xs i j x e h at is lt =
     ∙ ap (λ l. a ++ l) (sym (places_next f k xs i x is lt))
 
 -- ---- a block of at least one
-
-pub block_none : {A B : Type 0} (f : List A → B) (xs ys : List A) (a : List B) → xs ≡ ys → xs ≡ [] → a ≡ a ++ block f ys
-block_none f xs ys a e h = sym (ap (λ l. a ++ block f l) (sym e ∙ h) ∙ append-nil a)
-
-pub block_some : {A B : Type 0} (f : List A → B) (xs : List A) (a : List B) → (xs ≡ [] → ⊥) → a ++ f xs ∷ [] ≡ a ++ block f xs
-block_some f [] a h = absurd (h refl)
-block_some f (x ∷ xs) a h = refl
 
 -- ---- of a list of numbers that is read by its places
 

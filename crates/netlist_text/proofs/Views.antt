@@ -9,9 +9,9 @@ use Rattle.verilog_tree.specs.declared.kind.Kind.TheVariants as kind
 use Rattle.verilog_tree.specs.declared.tree.InitialConstant.{InitialConstant}
 use Rattle.verilog_tree.specs.declared.tree.Statement.{Statement}
 use Rattle.verilog_tree.specs.declared.tree.Item.{Item}
-use Rattle.verilog_tree.specs.Scope.{Name, Names, Scope, is_clk, signal, declaration, port_declaration}
+use Rattle.verilog_tree.specs.Scope.{Name, Names, is_clk, signal, declaration, port_declaration}
 use Rattle.verilog_tree.specs.Scope as scope
-use Rattle.verilog_tree.specs.Facts.{Interface, Place, place_of, drives, written_by, body_of}
+use Rattle.verilog_tree.specs.Facts.{Interface, Place, place_of, drives, written_by}
 use Rattle.netlist.specs.declared.netlist.Value.{Value}
 use Rattle.netlist.specs.declared.netlist.Source.{Source}
 use Rattle.netlist.specs.declared.netlist.Source.TheVariants as source
@@ -203,14 +203,6 @@ module _ (all : List Module) (m : Module) where
         (none_declared g (λ x. refl) (λ x. refl) ss) (map_none g laid.memory_item (λ x. refl) cs) (none_assigned g (λ x. refl) m ts)
         (block_none g laid.initial_item (λ x. refl) constants) (block_none g laid.always_item (λ x. refl) body)
         (map_single g (laid.instance_item all m) (λ (n : Instance). (laid.instance_of all m n).module_name) (λ x. refl) ns)
-
-    pub body_view : flat_map body_of (front ss cs ts constants body ns) ≡ body
-    body_view =
-        let g : Item → List Statement = body_of in
-        view g ss cs ts constants body ns [] [] [] [] body []
-        (none_declared g (λ x. refl) (λ x. refl) ss) (map_none g laid.memory_item (λ x. refl) cs) (none_assigned g (λ x. refl) m ts)
-        (block_none g laid.initial_item (λ x. refl) constants) (block_all g laid.always_item (λ b. b) (λ x. refl) refl body) (map_none g (laid.instance_item all m) (λ x. refl) ns)
-        ∙ simp append-nil
 
     -- ---- declarations of a front
 

@@ -11,7 +11,7 @@ use Rattle.verilog_tree.specs.declared.kind.Kind.TheVariants as kind
 use Rattle.verilog_tree.specs.declared.tree.Expression.TheVariants as e
 use Rattle.verilog_tree.specs.declared.tree.BinaryOperator.{BinaryOperator}
 use Rattle.verilog_tree.specs.Scope as scope
-use Rattle.verilog_tree.specs.Scope.{Name, Scope, is_clk, read_width, ranged_width, driven_width, register_width}
+use Rattle.verilog_tree.specs.Scope.{Scope, is_clk, read_width, ranged_width, driven_width, register_width}
 use Rattle.verilog_tree.specs.Rules as rules
 use Rattle.verilog_tree.specs.Rules.{is_comparison, is_shift, all_right}
 use Rattle.verilog_tree.proofs.Tests.{and_both}
@@ -261,9 +261,6 @@ module _ (sc : Scope) (m : Module) (knows : KnowsNames sc m) where
       let inside : nat_lt high (ranged_width (scope.kind_of sc (laid.signal_name m x))) ≡ true =
       ap (nat_lt high) (ranged_is x p ∙ ap (λ b. if b then sound.width m x else 0) ranged) ∙ within in
       select_both x high low w le inside count b e
-
-  abbrev pub IsInRange : List ℕ → Type 0
-  IsInRange xs = AreSignals m xs
 
   all_read : (xs : List ℕ) → AreSignals m xs → all_right (rules.is_signal sc) (map (laid.signal_name m) xs) ≡ all_right (sound.is_read m) xs
   all_read [] h = refl

@@ -143,10 +143,6 @@ module _ (g : Given) where
     abbrev kind : ℕ → Kind
     kind i = kind_at nodes i
 
-    -- after another operation an operation finds the same inputs
-    abbrev own : ℕ → State → State
-    own i s = with_inputs i s (g.left i (input s.value (node nodes i).left)) (g.right i (input s.value (node nodes i).right)) (s.content (object_of (kind i)))
-
     abbrev Undisturbed : ℕ → ℕ → State → Type 0
     Undisturbed a b s = (after g nodes a s).content (object_of (kind b)) ≡ s.content (object_of (kind b))
 

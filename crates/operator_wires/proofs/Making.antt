@@ -1,8 +1,7 @@
 -- Words that are made, and what operators show on them.
 use Rattle.std.proofs.Common.{◌≡◌, ℕ, Bool, true, false, if◌then◌else◌, List, ℤ, refl, sym, ap, subst, ◌∙◌}
-use Rattle.std.specs.Prelude.{Result, Ok, Err, IfOk}
+use Rattle.std.specs.Prelude.{Result, IfOk}
 use Rattle.c_program.specs.declared.tree.UnaryOperator.{UnaryOperator}
-use Rattle.c_program.specs.declared.tree.UnaryOperator.TheVariants.{Plus}
 use Rattle.c_program.specs.declared.tree.BinaryOperator.{BinaryOperator}
 use Rattle.verilog_tree.specs.declared.tree.BinaryOperator.{BinaryOperator as Gate}
 use Rattle.netlist.specs.declared.netlist.Signal.{Signal}
@@ -11,7 +10,7 @@ use Rattle.circuit.specs.Readings.{Reading, width, binary}
 pub use Rattle.std.proofs.lemmas.Result.{IfOk-weaker as of_ok}
 use Rattle.hls_ints.specs.Residues.{residue_of}
 use Rattle.hls_ints.specs.Types.{IntegerType, width_of, wrapped}
-use Rattle.hls_ints.specs.Words.{word_difference, word_complement, word_equal}
+use Rattle.hls_ints.specs.Words.{word_equal}
 use Rattle.hls_ints.proofs.Conversions.{residue_of-wrapped, wrapped-range}
 use Rattle.operator_words.specs.Arithmetic.{unary_at, binary_at, unary_total, binary_total, is_shift}
 use Rattle.operator_words.specs.Shown.{unary_result, binary_result, unary_word, binary_word, IsRight, truth_type, less_word}
@@ -21,16 +20,6 @@ use Rattle.operator_wires.specs.Gives.{Gives}
 use Rattle.operator_wires.specs.Words.{IsWord, Makes, Holds, TestsZero, Becomes, Combine, Applies, Joins, TakesRight}
 use Rattle.operator_wires.specs.Numbers.{less_number}
 use Rattle.operator_wires.proofs.Giving.{grows_refl, grows_then}
-use Rattle.operator_wires.proofs.Resizing.{gives_after}
-
--- a word at a place
-pub makes_at : (a b : List Signal) (w place : ℕ) (signed : Bool) (f : Module → Reading → ℕ) (out : Word) → Gives a b place w f → out.place ≡ place → out.width ≡ w → out.signed ≡ signed
-    → Makes a b w signed f out
-makes_at a b w place signed f out t at wide sign = record {
-  says = wide;
-  sign = sign;
-  gives = let P : ℕ → Type 0 = λ x. Gives a b x w f in subst P (sym at) t;
-}
 
 pub constant_holds : (a b : List Signal) (ty : IntegerType) (z : ℤ) (out : Word) (n w place : ℕ) → Gives a b place w (λ m r. n) → w ≡ width_of ty → n ≡ residue_of (width_of ty) z
     → out.place ≡ place → out.width ≡ width_of ty → out.signed ≡ ty.signed → Holds a b ty (wrapped ty z) out
@@ -53,35 +42,7 @@ tests_zero a b word place t = record {
       t.shows m r g o ∙ ap (λ w. word_equal w (r.signal word.place) 0) is.wide ∙ ap (λ x. word_equal (width_of ty) x 0) is.shows ∙ not_zero ty v is.typed;
 }
 
-pub negation_gives : (a b c : List Signal) (none place of w : ℕ) → Gives a b none w (λ m r. 0) → Gives b c place w (λ m r. word_difference (width m none) (r.signal none) (r.signal of))
-    → Gives a c place w (λ m r. word_difference w 0 (r.signal of))
-negation_gives a b c none place of w t u =
-    gives_after a b c place w (λ m r. word_difference (width m none) (r.signal none) (r.signal of)) (λ m r. word_difference w 0 (r.signal of)) t.grows u
-    (λ m r g h o. ap (λ x. word_difference x (r.signal none) (r.signal of)) (t.wide m g) ∙ ap (λ x. word_difference w x (r.signal of)) (t.shows m r g o))
-
--- the int of a bit
-pub truth_of : (a b c : List Signal) (bit : ℕ) (f : Module → Reading → ℕ) (out : Word) → Gives a b bit 1 f → Makes b c 32 true (λ m r. r.signal bit) out → Makes a c 32 true f out
-truth_of a b c bit f out t u = record {
-  says = u.says;
-  sign = u.sign;
-  gives = gives_after a b c out.place 32 (λ m r. r.signal bit) f t.grows u.gives (λ m r g h o. t.shows m r g o);
-}
-
--- the int of a bit that is turned
-pub turned_of : (a b c : List Signal) (bit : ℕ) (f : Module → Reading → ℕ) (out : Word) → Gives a b bit 1 f → Makes b c 32 true (λ m r. word_complement (width m bit) (r.signal bit)) out
-    → Makes a c 32 true (λ m r. word_complement 1 (f m r)) out
-turned_of a b c bit f out t u = record {
-  says = u.says;
-  sign = u.sign;
-  gives =
-      gives_after a b c out.place 32 (λ m r. word_complement (width m bit) (r.signal bit)) (λ m r. word_complement 1 (f m r)) t.grows u.gives
-      (λ m r g h o. ap (λ w. word_complement w (r.signal bit)) (t.wide m g) ∙ ap (word_complement 1) (t.shows m r g o));
-}
-
 -- ---- operators
-
-pub applies_none : (a : List Signal) (own : Word) (ty : IntegerType) → Applies a a own ty (unary_result Plus ty) (unary_at Plus ty) own
-applies_none a own ty = record { grows = grows_refl a; shows = λ m r v g o is. is }
 
 pub makes_applies : (operator : UnaryOperator) (ty : IntegerType) (a b : List Signal) (own out : Word) (w : ℕ) (signed : Bool) (f : Module → Reading → ℕ) → Makes a b w signed f out
     → (own.width ≡ width_of ty → w ≡ width_of (unary_result operator ty)) → (own.signed ≡ ty.signed → signed ≡ (unary_result operator ty).signed)

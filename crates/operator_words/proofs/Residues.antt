@@ -12,12 +12,6 @@ use Rattle.hls_ints.specs.Types.{Width, bits_8, bits_16, bits_32, bits_64, bits}
 use Rattle.hls_ints.specs.Words.{word, word_sum, word_difference, word_product, word_complement, word_and, word_exclusive_or, word_inclusive_or}
 use Rattle.hls_ints.proofs.Conversions.{residue_of-below}
 
-pub machine_width : Width → MachineWidth
-machine_width bits_8 = w8
-machine_width bits_16 = w16
-machine_width bits_32 = w32
-machine_width bits_64 = w64
-
 -- a word is its own residue
 pub word-residue_of : (w : ℕ) (z : ℤ) → word w (residue_of w z) ≡ residue_of w z
 word-residue_of w z = mod-eq_of_lt (residue_of-below w z)

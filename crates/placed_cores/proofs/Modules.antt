@@ -1,7 +1,7 @@
 -- The modules of the cores that are wanted stand at their places.
 use Rattle.std.proofs.Common.{◌≡◌, ℕ, zero, suc, ◌+◌, ◌<◌, ◌≤◌, Bool, true, false, nat_lt, if◌then◌else◌, List, [], ◌∷◌, ◌++◌, length, Some}
 use Rattle.std.proofs.Common.{refl, sym, ap, ◌∙◌, subst, ⊎_elim, arith, length-append, append_assoc}
-use Rattle.std.specs.Prelude.{◌||◌, not, slice_get}
+use Rattle.std.specs.Prelude.{not, slice_get}
 use Rattle.std.specs.List.{list_any}
 use Rattle.std.proofs.lemmas.Bool.{cases_lt}
 use Rattle.std.proofs.lemmas.Bool.Decides.{nat_tests}
@@ -75,10 +75,6 @@ count_by xs ms Is true w = let n = length-append xs ms in let one : length ms �
 count_by xs ms Is false w = let n = length-append xs ms in let none : length ms ≡ 0 = ap length w in omega (arith, n, none)
 
 -- ---- mutexes
-
-any_by : {A : Type 0} (p : A → Bool) (x : A) (xs : List A) (b : Bool) → p x ≡ b → b ≡ true → (b || list_any p xs) ≡ true
-any_by p x xs true t e = refl
-any_by p x xs false t e = absurd (let z : false ≡ true = e in cc)
 
 module _ (w : Wanted) (right : HaveModules w) (banks : List Module) (are_banks : AreBankModules w.threads w.banks (length w.banks) banks) where
   module _ (mutexes : List Module) (are_mutexes : AreMutexModules w mutexes) where

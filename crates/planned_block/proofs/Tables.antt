@@ -156,12 +156,6 @@ sequential_short b = greater_short (latencies_before b (size b))
     greater_short : (n : ℕ) → greater 1 n ≤ n + 1
     greater_short n = grind (arith, nat_tests)
 
-pub sequential_some : (b : Block) → 0 < (sequential b).states
-sequential_some b = greater_some (latencies_before b (size b))
-  where
-    greater_some : (n : ℕ) → 0 < greater 1 n
-    greater_some n = grind (arith, nat_tests)
-
 -- rows of a packing of the intervals from the state after an operation's last one to the state after the last use
 pub packed : (b : Block) (p : Plan) (row : ℕ → ℕ) → HasRows b p row → IsPacked b p
 packed b p row rows = record {

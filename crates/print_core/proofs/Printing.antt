@@ -85,9 +85,6 @@ module _ (shape : Shape) (ok : IsShape shape) (m : Module) (is : IsPrinter shape
   abbrev s : ℕ
   s = length shape.sites
 
-  abbrev late : ℕ → Bool
-  late = is_late shape
-
   listed : EachRow (IsListed m (rows n c s) is.signals) 0 (rows n c s)
   listed = all_listed m (rows n c s) is.signals
 

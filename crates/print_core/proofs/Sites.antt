@@ -1,5 +1,5 @@
 -- Values and $writes, one part or one site longer.
-use Rattle.std.proofs.Common.{◌≡◌, ℕ, zero, suc, ◌+◌, ◌<◌, ◌≤◌, List, [], ◌∷◌, ◌++◌, length, take, slice_get, Some, sym, ap, ◌∙◌, subst, arith, add-one, add-zero, zero-add}
+use Rattle.std.proofs.Common.{◌≡◌, ℕ, zero, suc, ◌+◌, ◌≤◌, List, [], ◌∷◌, ◌++◌, length, take, slice_get, Some, sym, ap, ◌∙◌, subst, arith, add-one, add-zero, zero-add}
 use Rattle.std.proofs.lemmas.List.{length-take-le}
 use Rattle.lists.proofs.Places.{take_next}
 use Rattle.netlist.specs.declared.netlist.Argument.{Argument}
@@ -8,7 +8,7 @@ use Rattle.netlist.specs.declared.netlist.Action.{Action}
 use Rattle.circuit.specs.Rows.{EachOf}
 use Rattle.print_core.specs.declared.format.Part.{Part}
 use Rattle.print_core.specs.declared.format.Part.TheVariants.{Text, Unsigned, Signed}
-use Rattle.print_core.specs.Format.{IsPart, IsSite, values_of, arguments_of}
+use Rattle.print_core.specs.Format.{IsPart, values_of, arguments_of}
 use Rattle.print_core.specs.Printer.{write, writes_from}
 
 values_of-append : (x y : List Part) → values_of (x ++ y) ≡ values_of x + values_of y
@@ -70,14 +70,6 @@ writes_grow hits first sites i p xs ys e l f g =
     g ∙ ap (λ n. xs ++ write (hits + n) first p ∷ []) n ∙ ap (λ zs. zs ++ write (hits + (0 + length (take i sites))) first p ∷ []) f
     ∙ sym (writes_from-append hits first 0 (take i sites) (p ∷ []))
     ∙ ap (writes_from hits first 0) (sym (ap (λ n. take n sites) (add-one i) ∙ take_next sites i p e))
-
-site_at : (values : ℕ) (sites : List (List Part)) (i : ℕ) (p : List Part) → EachOf (IsSite values) sites → slice_get sites i ≡ Some p → IsSite values p
-site_at values [] i p h e = absurd cc
-site_at values (q ∷ sites) zero p h e = let same : q ≡ p = cc in subst (IsSite values) same h.0
-site_at values (q ∷ sites) (suc i) p h e = site_at values sites i p h.1 e
-
-pub site_among : (values : ℕ) (sites : List (List Part)) (i : ℕ) (p : List Part) → values < 256 → EachOf (IsSite values) sites → slice_get sites i ≡ Some p → IsSite 256 p
-site_among values sites i p l h e = let s = site_at values sites i p h e in (s.0, (let m = s.1 in omega arith))
 
 pub part_at : (parts : List Part) (i : ℕ) (p : Part) → EachOf IsPart parts → slice_get parts i ≡ Some p → IsPart p
 part_at [] i p h e = absurd cc

@@ -42,15 +42,6 @@ elements gs = sum_by (λ (g : GlobalVariable). g.length) gs
 elements_cons : (g : GlobalVariable) (gs : List GlobalVariable) → elements (g ∷ gs) ≡ g.length + elements gs
 elements_cons g gs = let e = shifted (0 + g.length) gs in omega arith
 
-long_within : (gs : List GlobalVariable) (x : ℕ) (g : GlobalVariable) → slice_get gs x ≡ Some g → g.length ≤ elements gs
-long_within [] x g e = absurd (none-some g e)
-long_within (h ∷ gs) zero g e =
-    let same : h ≡ g = cc in
-    let c = elements_cons h gs in
-    let l = ap (λ (z : GlobalVariable). z.length) same in
-    omega (arith, c, l)
-long_within (h ∷ gs) (suc x) g e = let rest = long_within gs x g e in let c = elements_cons h gs in omega (arith, rest, c)
-
 spread_shifted : (a : ℕ) (ss : List Spread) → fold (λ n (s : Spread). n + s.count) a ss ≡ a + fold (λ n (s : Spread). n + s.count) 0 ss
 spread_shifted a [] = let e : a ≡ a + 0 = omega arith in e
 spread_shifted a (s ∷ ss) =

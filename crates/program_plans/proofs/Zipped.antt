@@ -1,8 +1,7 @@
 -- Functions that take their codes and plans one after another.
-use Rattle.std.proofs.Common.{◌≡◌, ℕ, ◌+◌, ◌<◌, ◌≤◌, List, [], ◌∷◌, ◌++◌, length, get_or, take, map, Some, refl, sym, ap, ◌∙◌, arith, length-append, append_assoc}
-use Rattle.std.specs.Prelude.{slice_get, remove, string_bytes}
-use Rattle.std.proofs.lemmas.List.{append-nil, length-map, length-take-le, map-append, take_more, take_all}
-use Rattle.std.proofs.lemmas.Option.{none-some, same_Some}
+use Rattle.std.proofs.Common.{◌≡◌, ℕ, ◌+◌, ◌≤◌, List, [], ◌∷◌, ◌++◌, length, take, map, refl, sym, ap, ◌∙◌, arith, length-append}
+use Rattle.std.specs.Prelude.{string_bytes}
+use Rattle.std.proofs.lemmas.List.{append-nil, length-map, take_all}
 use Rattle.c_program.specs.Tree.{Program}
 use Rattle.block_ir.specs.declared.code.ThreadCode.{ThreadCode}
 use Rattle.block_ir.specs.declared.plan.Planned.{Planned}
@@ -33,56 +32,14 @@ none_begun P fs codes plans planned e = record {
   plans_are = ap (λ (l : List PlannedFunction). map plan_of l ++ plans) e;
 }
 
--- what is left is as long as what is not begun
-begun_count : (P : Program) (fs : List ℕ) (i : ℕ) (planned : List PlannedFunction) → i ≤ length fs → map name_of planned ≡ map (function_name P) (take i fs) → length planned ≡ i
-begun_count P fs i planned le e = sym (length-map planned name_of) ∙ ap length e ∙ length-map (take i fs) (function_name P) ∙ length-take-le i fs le
-
 left_count : {X : Type 0} (g : PlannedFunction → X) (planned : List PlannedFunction) (xs all : List X) → map g planned ++ xs ≡ all → length planned + length xs ≡ length all
 left_count g planned xs all e = ap (λ n. n + length xs) (sym (length-map planned g)) ∙ sym (length-append (map g planned) xs) ∙ ap length e
-
-pub some_left : {X : Type 0} (P : Program) (g : PlannedFunction → X) (fs : List ℕ) (i : ℕ) (planned : List PlannedFunction) (xs all : List X) → i < length fs →
-    length all ≡ length fs → map (λ (p : PlannedFunction). string_bytes p.name) planned ≡ map (function_name P) (take i fs) → map g planned ++ xs ≡ all → 0 < length xs
-some_left P g fs i planned xs all lt whole names e =
-    let count = begun_count P fs i planned (omega arith) names in
-    let left = left_count g planned xs all e in
-    omega (arith, count, left)
 
 none_left : {X : Type 0} (xs : List X) → length xs ≤ 0 → xs ≡ []
 none_left [] le = refl
 none_left (x ∷ xs) le = absurd (omega arith)
 
--- the first one is taken
-first_taken : {X : Type 0} (xs : List X) (x : X) → slice_get xs 0 ≡ Some x → xs ≡ x ∷ remove xs 0
-first_taken [] x e = absurd (none-some x e)
-first_taken (y ∷ ys) x e = ap (λ z. z ∷ ys) (same_Some y x e)
-
--- and stands behind those before
-moved : {X : Type 0} (g : PlannedFunction → X) (planned : List PlannedFunction) (p : PlannedFunction) (xs all : List X) → slice_get xs 0 ≡ Some (g p) → map g planned ++ xs ≡ all →
-    map g (planned ++ p ∷ []) ++ remove xs 0 ≡ all
-moved {X = X} g planned p xs all first e =
-    let more = ap (λ (l : List X). l ++ remove xs 0) (map-append g planned (p ∷ [])) in
-    let grouped = append_assoc (map g planned) (g p ∷ []) (remove xs 0) in
-    let back = ap (λ (l : List X). map g planned ++ l) (sym (first_taken xs (g p) first)) in
-    more ∙ grouped ∙ back ∙ e
-
 module _ (P : Program) (fs : List ℕ) (codes : List ThreadCode) (plans : List Planned) (i : ℕ) (cs : List ThreadCode) (ps : List Planned) (planned : List PlannedFunction) where
-  pub next_begun : (p : PlannedFunction) (ds : List ThreadCode) (qs : List Planned) (new : List PlannedFunction) → i < length fs → AreBegun P fs codes plans i cs ps planned →
-      string_bytes p.name ≡ function_name P (get_or fs i 0) → slice_get cs 0 ≡ Some p.code → ds ≡ remove cs 0 → slice_get ps 0 ≡ Some p.plan →
-      qs ≡ remove ps 0 → new ≡ planned ++ p ∷ [] →
-      AreBegun P fs codes plans (i + 1) ds qs new
-  next_begun p ds qs new lt begun named code codes_left plan plans_left pushed = record {
-    names_are =
-        ap (map name_of) pushed ∙ map-append name_of planned (p ∷ [])
-        ∙ ap (λ l. l ++ name_of p ∷ []) begun.names_are ∙ ap (λ (n : List ℕ). map (function_name P) (take i fs) ++ n ∷ []) named
-        ∙ sym (map-append (function_name P) (take i fs) (get_or fs i 0 ∷ [])) ∙ ap (map (function_name P)) (sym (take_more fs i 0 lt));
-    codes_are =
-        ap (λ (l : List PlannedFunction). map code_of l ++ ds) pushed ∙ ap (λ l. map code_of (planned ++ p ∷ []) ++ l) codes_left
-        ∙ moved code_of planned p cs codes code begun.codes_are;
-    plans_are =
-        ap (λ (l : List PlannedFunction). map plan_of l ++ qs) pushed ∙ ap (λ l. map plan_of (planned ++ p ∷ []) ++ l) plans_left
-        ∙ moved plan_of planned p ps plans plan begun.plans_are;
-  }
-
   pub all_zipped : length fs ≤ i → length codes ≡ length fs → length plans ≡ length fs → AreBegun P fs codes plans i cs ps planned → AreZipped P fs codes plans planned
   all_zipped le codes_long plans_long begun =
       let whole = take_all i fs le in

@@ -1,7 +1,7 @@
 -- The least place of which something holds.
 use Rattle.std.proofs.Common.{◌≡◌, ℕ, zero, suc, ◌+◌, ◌<◌, ◌≤◌, Bool, true, false, ◌||◌, ◌&&◌, List, [], ◌∷◌, ◌++◌, take}
 use Rattle.std.proofs.Common.{length, get_or, refl, ap, ap₂, sym, subst, ◌∙◌, arith, Option, Some, None, ◌⊎◌, inl, inr}
-use Rattle.std.specs.Prelude.{nat_eq, if◌then◌else◌, Contains, slice_index_or}
+use Rattle.std.specs.Prelude.{nat_eq, if◌then◌else◌, Contains}
 use Rattle.std.specs.List.{list_any}
 use Rattle.std.specs.Option.{option_map}
 use Rattle.std.proofs.lemmas.Bool.Decides.{nat_tests}
@@ -84,10 +84,6 @@ any_gives p (x ∷ xs) h = first (is_at p x) refl (λ m. any_gives p xs m)
 any_from : (p : Location) (ts : List Touch) (t : Touch) → Contains ts t → t.place ≡ p → list_any (is_at p) ts ≡ true
 any_from p ts t c e = list_any_at (is_at p) ts c.0 t c.1 (ap (is_at p) c.2 ∙ is_at_place p t e)
 
-only_at : (x y : Touch) (k : ℕ) → k < 1 → slice_index_or (x ∷ []) k y ≡ y → x ≡ y
-only_at x y zero h e = e
-only_at x y (suc k) h e = absurd (omega arith)
-
 -- One touch alone.
 hit_least : (x : Touch) (zs : List Touch) → IsLeast (Hits (x ∷ []) zs) (hit x zs)
 hit_least x zs = go (x.written && list_any (is_at x.place) zs) refl
@@ -135,9 +131,6 @@ hits_more ys zs x best l =
     (λ q h. hits_with ys all zs q h (Contains-append_left ys (x ∷ []) h.first h.first_in))
     (λ q h. hits_with (x ∷ []) all zs q h (Contains-append_right ys (x ∷ []) h.first h.first_in))
     best (hit x zs) l (hit_least x zs)
-
-pub no_hits : (zs : List Touch) (q : Location) → Hits [] zs q → ⊥
-no_hits zs q h = let in_none = h.first_in.1 in absurd (omega arith)
 
 touches_more : (xs : List Access) (k : ℕ) (a : Access) → a ≡ get_or xs k a → k < length xs → touches_of (take (suc k) xs) ≡ touches_of (take k xs) ++ touch_of a ∷ []
 touches_more [] k a e h = absurd (omega arith)

@@ -1,5 +1,4 @@
 pub mod Adding
-pub mod Moving
 pub mod Touching
 pub mod Least
 pub mod Racing

@@ -129,10 +129,6 @@ module _ (P : Program) (s : State) (touched : ℕ → List Touch) (are : AreFoot
         least_place = λ q r. f.1.least q (as_conflict race.first race.second q r);
       }
 
--- The loops.
-pub none_with_start : (touched : ℕ → List Touch) (i : ℕ) → NoneWith touched i (i + 1)
-none_with_start touched i l q h g c = absurd (omega arith)
-
 pub none_with_more : (touched : ℕ → List Touch) (i j : ℕ) → NoneWith touched i j → ((q : Location) → Conflict (touched i) (touched j) q → ⊥) → NoneWith touched i (j + 1)
 none_with_more touched i j before here l q h g c =
     elim (at_most_or j l) [

@@ -3,7 +3,6 @@ use Rattle.std.proofs.Common.{◌≡◌, ℕ, zero, suc, ◌||◌, Bool, true, f
 use Rattle.std.specs.Prelude.{slice_get, slice_set, if◌then◌else◌}
 use Rattle.std.specs.List.{list_all}
 use Rattle.c_program.specs.Tree.{Program}
-use Rattle.thread_semantics.specs.declared.cause.BlockedCause.{BlockedCause}
 use Rattle.thread_semantics.specs.declared.cause.UndefinedCause.TheVariants.{LiveThread}
 use Rattle.thread_semantics.specs.State.{Frame, Finished, State}
 use Rattle.thread_semantics.specs.Move.{Write, Move, Moves, Acts, Ends, Faults, Impossible, move}
@@ -21,10 +20,6 @@ nothing_if_taken : (o : Stepped) → if_taken o [] ≡ []
 nothing_if_taken (Steps s) = refl
 nothing_if_taken (Blocks cause) = refl
 nothing_if_taken (Undefines offset cause) = refl
-
--- a step that is blocked touches nothing
-pub blocked_touches : (P : Program) (s : State) (i : ℕ) (cause : BlockedCause) → step P s i ≡ Blocks cause → [] ≡ footprint P s i
-blocked_touches P s i cause e = sym (ap (λ o. if_taken o (thread_touched P s (slice_get s.slots i))) e)
 
 -- what a move of thread i touches
 abbrev touched_by : Program → State → ℕ → Move → List Touch

@@ -1,26 +1,16 @@
 -- A run from the initial state of a net.
 use Rattle.std.specs.Prelude.{◌≡◌, ℕ, ◌<◌, ◌⊎◌, Bool, true, false, List, []}
-use Rattle.std.proofs.Common.{ap, sym, ◌∙◌, subst, ⊎_elim, arith}
+use Rattle.std.proofs.Common.{sym, ◌∙◌, subst, ⊎_elim, arith}
 use Rattle.std.proofs.lemmas.Option.{same_Some}
 use Rattle.netlist.specs.declared.netlist.Module.{Module}
-use Rattle.verilog_meaning.specs.Names.{top_of}
 use Rattle.verilog_meaning.specs.Cycles.{Valuation, IsSameIn, Runs, Reaches, ShowsDone, initial_state}
 use Rattle.verilog_meaning.specs.Threads.{all_enabled}
-use Rattle.cycle_sim.specs.Opened.{IsOpened}
 use Rattle.sim_layout.specs.Running.{Running, state_of, TellsDone}
 use Rattle.sim_layout.specs.Rounds.{threads_of, prefs_of, rounds, Tells}
 use Rattle.cycle_sim.specs.Lockstep.{IsLockstep}
 use Rattle.cycle_sim.proofs.Same.{runs_from_same}
 use Rattle.cycle_sim.proofs.Turning.{here}
 use Rattle.round_robin.specs.Round.{IsRound, IsBegun}
-
-pub begun : (modules : List Module) (r : Running) → IsOpened modules r → IsBegun r
-begun modules r is = record {
-  top = is.top;
-  is_top = ap top_of is.net ∙ is.is_top;
-  begins = subst (λ ms. IsSameIn ms is.top [] (initial_state ms is.top) (state_of r)) (sym is.net) is.begins;
-  count = is.prefs_are ∙ ap prefs_of (sym is.net);
-}
 
 module _ (old mid : Running) (most n : ℕ) (out : List ℕ) (is : IsBegun old) (ran : IsLockstep old mid most n [] out) where
   abbrev t : Module

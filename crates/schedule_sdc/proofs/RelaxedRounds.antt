@@ -1,11 +1,10 @@
 -- Rounds that keep nothing but the starts.
-use Rattle.std.proofs.Common.{◌≡◌, ℕ, ◌<◌, ◌≤◌, ◌+◌, List, length, get_or, take, sym, ◌∙◌, Bool, true, false}
+use Rattle.std.proofs.Common.{◌≡◌, ℕ, ◌<◌, ◌+◌, List, length, get_or, take, sym, ◌∙◌, Bool, true}
 use Rattle.std.specs.List.{All, Contains}
-use Rattle.std.proofs.lemmas.List.{length-set, take_all}
+use Rattle.std.proofs.lemmas.List.{length-set}
 use Rattle.schedule_sdc.specs.declared.constraint.Constraint.{Constraint}
 use Rattle.schedule_sdc.specs.declared.relax.Lift.{Lift}
 use Rattle.schedule_sdc.specs.declared.relax.Lift.TheVariants.{Kept, Raised}
-use Rattle.schedule_sdc.specs.Solution.{IsSolution}
 use Rattle.schedule_sdc.specs.Relaxed.{AreEarly, IsLift, IsRise}
 use Rattle.schedule_sdc.proofs.Rounds.{IsRound, round_kept, round_raised, still_early, larger}
 
@@ -37,9 +36,3 @@ module _ (list : List Constraint) (first starts : List ℕ) (raised : Bool) (old
         early = still_early list (length first) starts newer now.count now.early c listed inside rise;
         round = rw f (round_raised raised old starts newer (take k list) (larger list (length first) starts newer now.count c listed inside rise) now.round);
       }
-
-pub round_done : (list : List Constraint) (starts old : List ℕ) (k : ℕ) (raised : Bool) → length list ≤ k → raised ≡ false → IsRound raised old starts (take k list)
-    → IsSolution list (λ i. get_or starts i 0)
-round_done list starts old k raised l e r =
-    let r' : IsRound false old starts (take k list) = rw e at r in
-    rw (take_all k list l) at r'.1

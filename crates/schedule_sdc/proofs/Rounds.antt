@@ -1,24 +1,21 @@
 -- One round over the constraints.
-use Rattle.std.proofs.Common.{◌≡◌, ◌≢◌, ℕ, ◌<◌, ◌≤◌, ◌*◌, ◌^◌, ◌+◌, List, [], ◌∷◌, ◌++◌, length, get_or, set, take, arith, refl, ap, subst, sym, ◌∙◌, ◌⊎◌}
-use Rattle.std.proofs.Common.{inl, inr, pos, ◌+ℤ◌, ◌≤ℤ◌, Bool, true, false, get_or-set_other, get_or-set_same, replicate}
+use Rattle.std.proofs.Common.{◌≡◌, ◌≢◌, ℕ, ◌<◌, ◌≤◌, ◌*◌, ◌^◌, ◌+◌, List, length, get_or, set, take, arith, ap, subst, sym, ◌∙◌, ◌⊎◌}
+use Rattle.std.proofs.Common.{inl, inr, pos, ◌+ℤ◌, ◌≤ℤ◌, Bool, true, false, get_or-set_other, get_or-set_same}
 use Rattle.std.specs.List.{All, Contains, sum}
 use Rattle.std.proofs.lemmas.Int.{ints}
-use Rattle.std.proofs.lemmas.Bool.{cases_eq, cases_lt}
-use Rattle.std.proofs.lemmas.List.{get_or-replicate, get_or_default, length-replicate, length_push, get_or_append_left, get_or_push, take_all}
+use Rattle.std.proofs.lemmas.Bool.{cases_eq}
+use Rattle.std.proofs.lemmas.List.{get_or_default, take_all}
 use Rattle.std.proofs.lemmas.List.Sums.{sum_by-set, sum_by-le}
 use Rattle.std.proofs.lemmas.List.Elements.{All-contains, All-more}
 use Rattle.std.proofs.Math.Nat.{mul-le-mul_right}
 use Rattle.schedule_sdc.specs.declared.constraint.Constraint.{Constraint}
 use Rattle.schedule_sdc.specs.declared.history.Step.{Step}
 use Rattle.schedule_sdc.specs.Solution.{Meets, IsSolution, IsLeast}
-use Rattle.schedule_sdc.specs.History.{at, nowhere, IsSound, IsShallow, IsStep, IsChange}
+use Rattle.schedule_sdc.specs.History.{at, IsSound, IsShallow, IsChange}
 use Rattle.schedule_sdc.specs.declared.history.Change.{Change}
 use Rattle.schedule_sdc.specs.declared.history.Change.TheVariants.{Kept, Raised}
-use Rattle.schedule_sdc.proofs.Pushed.{step_to, at_old}
+use Rattle.schedule_sdc.proofs.Pushed.{step_to}
 use Rattle.schedule_sdc.specs.Relaxed.{AreEarly, IsRise}
-
-pub early_at_first : (list : List Constraint) (n : ℕ) (starts : List ℕ) → starts ≡ replicate n 0 → AreEarly list n starts
-early_at_first list n starts e t solves i l = let z = get_or-replicate {A = ℕ} n i 0 0 l in rw e (rw z (omega arith))
 
 early_at : (list : List Constraint) (n : ℕ) (starts : List ℕ) → length starts ≡ n → AreEarly list n starts → (c : Constraint) → Contains list c → c.from < n → c.to < n → (v : ℕ)
     → pos (get_or starts c.from 0) +ℤ c.gap ≡ pos v → (t : ℕ → ℕ) → IsSolution list t → (i : ℕ) → i < n → (i ≡ c.to) ⊎ (i ≡ c.to → ⊥) → get_or (set starts c.to v) i 0 ≤ t i
@@ -89,60 +86,6 @@ pub record IsBegun (k : ℕ) (last : List ℕ) (steps : List Step) : Type 0 wher
   pub steps_length : length steps ≡ k
   pub last_at : (i : ℕ) → i < k → get_or last i 0 ≡ i
   pub step_at : (i : ℕ) → i < k → at steps i ≡ step_to i i 0 0
-
-pub begun_more : (k : ℕ) (last newer : List ℕ) (steps later : List Step) → IsBegun k last steps → newer ≡ last ++ k ∷ [] → later ≡ steps ++ step_to k k 0 0 ∷ [] → IsBegun (k + 1) newer later
-begun_more k last newer steps later b e f = record {
-  last_length = rw e (length_push last k ∙ omega (arith, b.last_length));
-  steps_length = rw f (length_push steps (step_to k k 0 0) ∙ omega (arith, b.steps_length));
-  last_at = λ i l. rw e (last_more i l (cases_lt i k));
-  step_at = λ i l. rw f (step_more i l (cases_lt i k));
-}
-  where
-    last_more : (i : ℕ) → i < k + 1 → (i < k) ⊎ (k ≤ i) → get_or (last ++ k ∷ []) i 0 ≡ i
-    last_more i l (inl h) = let lt : i < length last = omega (arith, b.last_length) in get_or_append_left last (k ∷ []) 0 i lt ∙ b.last_at i h
-    last_more i l (inr h) = let q : i ≡ k = omega arith in rw q (get_or_push last k 0 k b.last_length)
-
-    step_more : (i : ℕ) → i < k + 1 → (i < k) ⊎ (k ≤ i) → at (steps ++ step_to k k 0 0 ∷ []) i ≡ step_to i i 0 0
-    step_more i l (inl h) = let lt : i < length steps = omega (arith, b.steps_length) in at_old steps (step_to k k 0 0) i lt ∙ b.step_at i h
-    step_more i l (inr h) = let q : i ≡ k = omega arith in rw q (get_or_push steps (step_to k k 0 0) nowhere k b.steps_length)
-
-pub begun_sound : (list : List Constraint) (n : ℕ) (starts last : List ℕ) (steps : List Step) → starts ≡ replicate n 0 → IsBegun n last steps → IsSound list n starts last steps
-begun_sound list n starts last steps e b = record {
-  starts_length = rw e (length-replicate n 0);
-  last_length = b.last_length;
-  latest = λ v l. rw (b.last_at v l) (record {
-    within = omega (arith, b.steps_length);
-    place = ap (λ (s : Step). s.place) (b.step_at v l);
-    start = ap (λ (s : Step). s.start) (b.step_at v l) ∙ sym (zero_at v l);
-  });
-  history = record {
-    step = λ i l. first_step i (omega (arith, b.steps_length));
-    rising = λ i j lt l same. absurd (apart i j lt (omega (arith, b.steps_length)) same);
-  };
-  passed = λ i l. first_passed i (omega (arith, b.steps_length));
-}
-  where
-    zero_at : (v : ℕ) → v < n → get_or starts v 0 ≡ 0
-    zero_at v l = let z = get_or-replicate {A = ℕ} n v 0 0 l in rw e z
-
-    first_step : (i : ℕ) → i < n → IsStep list n steps i (at steps i)
-    first_step i l = rw (b.step_at i l) (record { place = l; depth = omega arith; small = omega arith; linked = inl (refl, refl) })
-
-    apart : (i j : ℕ) → i < j → j < n → (at steps i).place ≡ (at steps j).place → ⊥
-    apart i j lt l same =
-        let li : i < n = omega arith in
-        let p : (at steps i).place ≡ i = ap (λ (s : Step). s.place) (b.step_at i li) in
-        let q : (at steps j).place ≡ j = ap (λ (s : Step). s.place) (b.step_at j l) in
-        omega arith
-
-    first_passed : (i : ℕ) → i < n → (at steps i).start ≤ get_or starts (at steps i).place 0
-    first_passed i l = rw (b.step_at i l) (omega arith)
-
-pub begun_shallow : (n : ℕ) (last : List ℕ) (steps : List Step) → IsBegun n last steps → IsShallow n steps
-begun_shallow n last steps b i l =
-    let l' : i < n = omega (arith, b.steps_length) in
-    let d : (at steps i).depth ≡ 0 = ap (λ (s : Step). s.depth) (b.step_at i l') in
-    omega arith
 
 pub round_grew : (b : Bool) (old new : List ℕ) (done : List Constraint) → b ≡ true → IsRound b old new done → sum old < sum new
 round_grew b old new done e r = rw e at r

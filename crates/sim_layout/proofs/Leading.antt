@@ -10,10 +10,7 @@ use Rattle.verilog_meaning.specs.Threads.{IsOneOf}
 use Rattle.sim_values.specs.declared.settle.Step.{Step}
 use Rattle.sim_values.specs.Flat.{EachOf}
 use Rattle.sim_values.specs.Order.{reads, Takes, IsMarked, IsClear, SomeOf}
-use Rattle.sim_values.specs.declared.edge.Part.{Part}
-use Rattle.sim_layout.specs.declared.loops.Found.{Found}
-use Rattle.sim_layout.specs.Wires.{signals_of}
-use Rattle.sim_layout.specs.Leads.{Leads, AreInRoom, IsSearch, IsClosed, AreClosed, AreApart, LoopsNowhere, IsLoopIn, AreLoopless, IsFirstFound}
+use Rattle.sim_layout.specs.Leads.{Leads, AreInRoom, IsSearch, IsClosed, AreClosed, AreApart, LoopsNowhere}
 use Rattle.sim_layout.specs.Leads.Leads.{Directly, Through}
 use Rattle.sim_values.proofs.Trees.{front_or_back}
 
@@ -113,16 +110,6 @@ closed_more modules wires apart k before here i l s at marked = ⊎_elim
     (λ e. here s (ap (slice_get wires) (sym e) ∙ at) marked)
     (below_next i k l)
 
--- the step of a number has its target found, or reads nothing that is
-pub closed_found : (modules : List Module) (wires : List Step) (apart : List Bool) (k : ℕ) (s : Step) → slice_get wires k ≡ Some s
-    → ((slice_index_or apart s.target false ≡ false) ⊎ EachOf (IsMarked apart) (reads modules s.feed)) → IsClosed modules wires apart k
-closed_found modules wires apart k s at either u there marked =
-    let same : u ≡ s = one_step wires k k s u at refl there in
-    ⊎_elim
-    (λ clear. absurd (both_ways (slice_index_or apart s.target false) clear (ap (λ (z : Step). slice_index_or apart z.target false) (sym same) ∙ marked)))
-    (λ each. subst (λ (z : Step). EachOf (IsMarked apart) (reads modules z.feed)) (sym same) each)
-    either
-
 pub apart_more : (modules : List Module) (wires : List Step) (place : ℕ) (apart : List Bool) (k : ℕ) (s : Step) → AreApart modules wires place apart k → slice_get wires k ≡ Some s
     → (s.target ≡ place → EachOf (IsMarked apart) (reads modules s.feed)) → AreApart modules wires place apart (k + 1)
 apart_more modules wires place apart k s before at here i u l there target = ⊎_elim
@@ -138,25 +125,3 @@ nowhere_more modules wires base k before here x l d = ⊎_elim
     (λ less. before x less d)
     (λ e. here (subst (λ i. Leads modules wires (base + i) (base + i)) e d))
     (below_next x k l)
-
-module _ (modules : List Module) (parts : List Part) (wires : List Step) (number : ℕ) (p : Part) (count : ℕ) (at : slice_get parts number ≡ Some p)
-    (counted : count ≡ length (signals_of (slice_get modules p.module))) (before : AreLoopless modules wires parts number) where
-  pub loopless_more : LoopsNowhere modules wires p.spot.base count → AreLoopless modules wires parts (number + 1)
-  loopless_more here q o l there = ⊎_elim
-      (λ less. before q o less there)
-      (λ e.
-      let same : p ≡ o = same_Some p o (sym at ∙ ap (slice_get parts) (sym e) ∙ there) in
-      subst (λ (z : Part). LoopsNowhere modules wires z.spot.base (length (signals_of (slice_get modules z.module)))) same
-      (subst (LoopsNowhere modules wires p.spot.base) counted here))
-      (below_next q number l)
-
-  pub first_found : (found : Found) (x : ℕ) → IsLoopIn modules wires p.spot.base count x → found.module ≡ p.module → found.signal ≡ x → IsFirstFound modules wires parts found
-  first_found found x loops kind signal = record {
-    number = number;
-    part = p;
-    listed = at;
-    kind = kind;
-    loops = subst (IsLoopIn modules wires p.spot.base (length (signals_of (slice_get modules p.module)))) (sym signal)
-        (subst (λ n. IsLoopIn modules wires p.spot.base n x) counted loops);
-    first = before;
-  }

@@ -1,5 +1,5 @@
 -- An order that grows by a step that reads only what is known.
-use Rattle.std.specs.Prelude.{◌≡◌, ℕ, zero, suc, ◌+◌, ◌<◌, ◌⊎◌, Bool, true, false, List, [], ◌∷◌, ◌++◌, map, length, Some, slice_get, slice_index_or, slice_set, refl}
+use Rattle.std.specs.Prelude.{◌≡◌, ℕ, zero, suc, ◌+◌, ◌<◌, ◌⊎◌, Bool, true, false, List, [], ◌∷◌, ◌++◌, length, Some, slice_get, slice_index_or, slice_set, refl}
 use Rattle.std.proofs.Common.{ap, sym, ◌∙◌, subst, inl, inr, ⊎_elim, arith}
 use Rattle.std.proofs.lemmas.List.{get_or-set_same, get_or-set_other}
 use Rattle.std.proofs.lemmas.Option.{slice_get_within}
@@ -8,7 +8,7 @@ use Rattle.std.proofs.lemmas.Bool.{both_ways, cases_eq}
 use Rattle.netlist.specs.declared.netlist.Module.{Module}
 use Rattle.sim_values.specs.declared.settle.Step.{Step}
 use Rattle.sim_values.specs.Flat.{EachOf}
-use Rattle.sim_values.specs.Order.{reads, InOrder, IsMarked, IsClear, SomeOf, Known, Takes, IsPartial, IsOrder, AreHeld, IsLeft, IsStuck}
+use Rattle.sim_values.specs.Order.{reads, InOrder, IsMarked, Known, Takes, IsPartial, IsOrder, AreHeld, IsLeft, IsStuck}
 use Rattle.sim_values.proofs.Settles.{each_to}
 
 pub get_more : {X : Type 0} (xs ys : List X) (j : ℕ) (x : X) → slice_get xs j ≡ Some x → slice_get (xs ++ ys) j ≡ Some x
@@ -105,9 +105,3 @@ known_by known (t ∷ steps) k h = ⊎_elim
     (λ rest. ⊎_elim (λ old. inl old) (λ same. inr (t, (0, refl), sym same)) rest)
     (λ found. inr (found.0, (suc found.1.0, found.1.1), found.2))
     (known_by (λ j. known j ⊎ (j ≡ t.target)) steps k h)
-
--- the place at an index is clear
-pub some_index : (marks : List Bool) (base : ℕ) (xs : List ℕ) (i : ℕ) → i < length xs → IsClear marks (base + slice_index_or xs i 0) → SomeOf (IsClear marks) (map (λ x. base + x) xs)
-some_index marks base [] i l c = absurd (omega arith)
-some_index marks base (x ∷ xs) zero l c = inl c
-some_index marks base (x ∷ xs) (suc i) l c = inr (some_index marks base xs i (omega arith) c)

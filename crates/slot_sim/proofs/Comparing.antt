@@ -81,9 +81,6 @@ all_shown modules parts f g (q ∷ places) h =
     and_from (part_same_at modules f g (slice_get parts q)) (parts_same modules parts f g places) (h 0 q refl) (all_shown modules parts f g places (λ k r at. h (suc k) r at))
 
 module _ (r o : Running) (st : Stands r) (net : IsSameNet r o) (outer : Path) (places : List ℕ) (members : AreMembers r.modules st.top r.parts outer places) where
-  abbrev top : Module
-  top = st.top
-
   -- the numbers of the other's states, by the parts of the first
   other_signal : (path : Path) (x : ℕ) → (state_of o path).signal x ≡ slice_index o.numbers (word_of r.parts path x)
   other_signal path x = ap (λ (ps : List Part). slice_index o.numbers (word_of ps path x)) net.parts

@@ -23,9 +23,6 @@ use Rattle.slot_sim.proofs.Trials.{alone_fits}
 -- ---- what a simulator's words give, with `top` by its name
 
 module _ (r : Running) (st : Stands r) (top : Module) (e : top_of r.modules ≡ Some top) where
-  abbrev At : (Module → Type 0) → Type 0
-  At P = P st.top → P top
-
   pub here : (P : Module → Type 0) → P st.top → P top
   here P = subst P (same_Some st.top top (sym st.is_top ∙ e))
 
@@ -35,9 +32,6 @@ module _ (r : Running) (st : Stands r) (top : Module) (e : top_of r.modules ≡ 
   pub keeps : (h g : Valuation) (c : Choice) (out : List ℕ) → IsState r.modules top h → Cycle r.modules top h c g out → IsState r.modules top g
   keeps =
       (keeps_states r.modules top (here (λ t. FitsNet r.modules t) st.right.fits) (here (λ t. FitsStatements r.modules t) st.right.statements)).1
-
-  pub next : ℕ → Running
-  next i = advanced (settled_run (alone i) r)
 
   pub goes_on : (i : ℕ) → i < threads_of r.modules → (out : List ℕ) × Cycle r.modules top (state_of r) (alone i) (state_of (advanced (settled_run (alone i) r))) out
   goes_on i l =

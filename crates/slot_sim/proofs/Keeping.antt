@@ -85,9 +85,6 @@ slots_copied modules parts slots copies are is = record {
 -- ---- what the calls give
 
 module _ (r : Running) (st : Stands r) (i : ℕ) (s : Slot) (is : IsSlot i r.modules r.parts s) where
-  abbrev count : ℕ
-  count = threads_of r.modules
-
   same_top : is.top ≡ st.top
   same_top = same_Some is.top st.top (sym is.is_top ∙ st.is_top)
 

@@ -91,9 +91,6 @@ match_bool false f g = g refl
 -- ---- the edge from settled words
 
 module _ (r n : Running) (i : ℕ) (s : Slot) (is : IsSlot i r.modules r.parts s) (l : i < threads_of r.modules) (under : IsSettledRun (choice_of s.alone) r n) where
-  abbrev count : ℕ
-  count = threads_of r.modules
-
   abbrev st : Stands r
   st = under.stands
 

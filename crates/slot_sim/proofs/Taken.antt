@@ -126,10 +126,6 @@ module _ (modules : List Module) (parts : List Part) (xs : List ℕ) where
       of_outside None is = refl
       of_outside (Some m) is = outside xs ys p.spot.base m.signals z (apart p m (record { listed = e; kind = is }))
 
-  pub numbers_long : (ys places : List ℕ) → length (taken_numbers modules parts xs ys places) ≡ length ys
-  numbers_long ys [] = refl
-  numbers_long ys (q ∷ places) = numbers_long (taken_numbers_at modules xs ys (slice_get parts q)) places ∙ at_long ys (slice_get parts q)
-
   numbers_stay : (ys places : List ℕ) (z : ℕ) → z < length ys → slice_index ys z ≡ slice_index xs z → slice_index (taken_numbers modules parts xs ys places) z ≡ slice_index xs z
   numbers_stay ys [] z l e = e
   numbers_stay ys (q ∷ places) z l e =
@@ -185,10 +181,6 @@ module _ (modules : List Module) (parts : List Part) (starts xs : List ℕ) wher
       of_outside : (m : Option Module) → slice_get modules p.module ≡ m → slice_index (taken_words_of xs ys starts p m) z ≡ slice_index ys z
       of_outside None is = refl
       of_outside (Some m) is = memories_outside xs ys starts p.spot.memories m.memories z (apart p m (record { listed = e; kind = is }))
-
-  pub words_long : (ys places : List ℕ) → length (taken_words modules parts starts xs ys places) ≡ length ys
-  words_long ys [] = refl
-  words_long ys (q ∷ places) = words_long (taken_words_at modules xs ys starts (slice_get parts q)) places ∙ words_at_long ys (slice_get parts q)
 
   words_stay : (ys places : List ℕ) (z : ℕ) → z < length ys → slice_index ys z ≡ slice_index xs z → slice_index (taken_words modules parts starts xs ys places) z ≡ slice_index xs z
   words_stay ys [] z l e = e

@@ -1,41 +1,15 @@
 -- The intervals that have a place, and the rows that they are given.
-use Rattle.std.proofs.Common.{◌≡◌, ◌≢◌, ℕ, zero, suc, ◌<◌, ◌≤◌, ◌+◌, List, [], ◌∷◌, ◌++◌, length, take, get_or, set, map, Bool, true, false}
-use Rattle.std.proofs.Common.{nat_lt, if◌then◌else◌, refl, ap, subst, sym, ◌∙◌, ◌⊎◌, inl, inr, arith, get_or-set_other, get_or-set_same}
+use Rattle.std.proofs.Common.{◌≡◌, ◌≢◌, ℕ, zero, suc, ◌<◌, ◌≤◌, ◌+◌, List, [], ◌∷◌, ◌++◌, length, take, get_or, map, Bool, true, false}
+use Rattle.std.proofs.Common.{nat_lt, if◌then◌else◌, refl, ap, subst, sym, ◌∙◌, ◌⊎◌, inl, inr, arith}
 use Rattle.std.specs.List.{count_by, range_with_len}
 use Rattle.std.proofs.lemmas.Bool.{cases_lt, cases_eq}
-use Rattle.std.proofs.lemmas.List.{get_or_append_left, get_or_push, length_push, length-set}
+use Rattle.std.proofs.lemmas.List.{get_or_append_left, get_or_push, length_push}
 use Rattle.std.proofs.lemmas.List.FromFn.{fill_by_all}
 use Rattle.std.proofs.lemmas.List.Sums.{sum_by-cons, sum_by-append, count_by_more_yes, count_by_more_no}
 use Rattle.interval_pack.specs.declared.interval.Interval.{Interval}
 use Rattle.interval_pack.specs.Packing.{at, nowhere, crowd_at}
 use Rattle.interval_pack.proofs.Counts.{holds}
 use Rattle.sparse_pack.specs.Sparse.{HasPlace}
-use Rattle.sparse_pack.specs.Chosen.{IsRisingBelow, IsSpread}
-
--- one more number
-pub spread_more : (k : ℕ) (chosen row old new newer : List ℕ) → k < length chosen → IsRisingBelow (length old) chosen → IsSpread k chosen row old new →
-    newer ≡ set new (get_or chosen k 0) (get_or row k 0) → IsSpread (k + 1) chosen row old newer
-spread_more k chosen row old new newer l rising s e = record {
-  count = rw e (length-set new (get_or chosen k 0) (get_or row k 0) ∙ s.count);
-  given = λ a m. rw e (given a m (cases_lt a k));
-  others = λ i f. rw e (others i f);
-}
-  where
-    given : (a : ℕ) → a < k + 1 → (a < k) ⊎ (k ≤ a) → get_or (set new (get_or chosen k 0) (get_or row k 0)) (get_or chosen a 0) 0 ≡ get_or row a 0
-    given a m (inl h) =
-        let r = rising.rising a k h l in
-        let ne : get_or chosen a 0 ≢ get_or chosen k 0 = omega arith in
-        get_or-set_other new (get_or chosen k 0) (get_or chosen a 0) (get_or row k 0) 0 ne ∙ s.given a h
-    given a m (inr h) =
-        let q : a ≡ k = omega arith in
-        let w : get_or chosen k 0 < length new = omega (arith, rising.below k l, s.count) in
-        rw q (get_or-set_same new (get_or chosen k 0) (get_or row k 0) 0 w)
-
-    others : (i : ℕ) → ((a : ℕ) → a < k + 1 → get_or chosen a 0 ≢ i) → get_or (set new (get_or chosen k 0) (get_or row k 0)) i 0 ≡ get_or old i 0
-    others i f =
-        let n = f k (omega arith) in
-        let ne : i ≢ get_or chosen k 0 = λ e. n (sym e) in
-        get_or-set_other new (get_or chosen k 0) i (get_or row k 0) 0 ne ∙ s.others i (λ a m. f a (omega arith))
 
 -- ---- how many hold a place
 

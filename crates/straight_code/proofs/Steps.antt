@@ -34,12 +34,6 @@ gives_is w v ls e = (cc, cc)
 abbrev pub c_target : Storage → ℕ → IntegerType → ℤ → CTarget
 c_target storage x ty i = record { storage = storage; variable = x; index = index_of i; ty = ty }
 
--- what a run comes to for a part F of a step
-abbrev pub Part : {A : Type 0} → List Home → OpenBlock → List Operation → (Memory → Evaluation A) → ((ℕ → ℤ) → Running → A) → Type 0
-Part {A = A} homes old operations F get =
-    (variables : ℕ → ℤ) (r : Running) (m : Memory) (v : A) (ls : List Location) → AreBelow (length old.operations) old.current → length r.values ≡ length old.operations →
-    Holds homes old.current variables m r → F m ≡ Gives v ls → Reads r (operations_run variables operations r) ls × (get variables (operations_run variables operations r) ≡ v)
-
 -- the same, and the index of a place lies in its array
 abbrev pub PartAt : {A : Type 0} → List Home → OpenBlock → List Operation → (Memory → Evaluation A) → ((ℕ → ℤ) → Running → A) → ℕ → Operand → Type 0
 PartAt {A = A} homes old operations F get size index =

@@ -19,7 +19,7 @@ use Rattle.thread_promise.specs.Serving.{Ports, RunsCode}
 use Rattle.net_refine.specs.Surroundings.{routine_of}
 use Rattle.bank_memory.specs.Partition.{globals_of}
 use Rattle.net_refine.specs.Thread.{ArePorts}
-use Rattle.table_refine.specs.Wired.{ports_of, RoutinesFit, promised_ports, Serves, ThreadsServe}
+use Rattle.table_refine.specs.Wired.{ports_of, RoutinesFit, Serves, ThreadsServe}
 
 module _ (K : Parts) (name : List ℕ) (m : Module) (inputs : ℕ) (leaf : LeafPorts) (routine : IsRoutineModule name (ports_of K) m inputs leaf) where
   abbrev ports : List CorePort
@@ -98,9 +98,6 @@ routines_fit K name m inputs leaf routine = fits K name m inputs leaf routine
 -- ---- the ports of the promise
 
 module _ (P : Program) (K : Parts) (i : ℕ) (serves : Serves P K i) where
-  abbrev its : Ports
-  its = promised_ports (K.leaves i)
-
   uses_each : (k : ℕ) → k < core_count K → (K.leaves i).uses k ≡ true
   uses_each k l = serves.routine.uses k (let n = port_count K serves.name (K.modules i) (K.inputs i) (K.leaves i) serves.routine in omega (arith, n, l))
 

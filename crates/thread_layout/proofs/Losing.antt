@@ -91,9 +91,6 @@ module _ (shape : Shape) (code : ThreadCode) (plan : Planned) (m : Module) (t : 
   pub quiet_not_lost : (r : Reading) → Obeys m r → ((s : Service) → HasBit m r (group t.inside.early.requests s).wants false) → r.signal t.inside.early.lost ≡ 0
   quiet_not_lost r o wanted = (lost_bit r o (λ s. false) wanted).shows
 
-  pub lost_wide : (r : Reading) → Obeys m r → ((s : Service) → HasBit m r (group t.inside.early.requests s).wants false) → HasBit m r t.inside.early.lost false
-  lost_wide r o wanted = lost_bit r o (λ s. false) wanted
-
   module _ (r : Reading) (q : Slot) (o : Obeys m r) (shows : Shows shape code plan m t served r q) where
     now : HasBit m r t.inside.early.lost
         (objects (asks_kind shape code plan m t served r q o shows)

@@ -51,10 +51,6 @@ use Rattle.thread_layout.proofs.Sight.{knows, in_stage}
 
 -- ---- bits
 
-bit_true : (b : Bool) → bit_of b ≡ 1 → b ≡ true
-bit_true true e = refl
-bit_true false e = absurd cc
-
 bit_false : (b : Bool) → bit_of b ≡ 0 → b ≡ false
 bit_false true e = absurd cc
 bit_false false e = refl

@@ -1,7 +1,6 @@
 -- Which cores are open to be asked, in a reading of a thread's module.
-use Rattle.std.proofs.Common.{◌≡◌, ℕ, zero, suc, ◌+◌, ◌-◌, ◌<◌, ◌^◌, Bool, true, false, not, ◌&&◌, nat_eq, nat_lt, List, [], ◌∷◌, length, map, slice_get}
+use Rattle.std.proofs.Common.{◌≡◌, ℕ, zero, suc, ◌+◌, ◌-◌, ◌<◌, ◌^◌, Bool, true, false, not, ◌&&◌, nat_eq, List, [], ◌∷◌, length, map, slice_get}
 use Rattle.std.proofs.Common.{slice_index, Some, refl, sym, ap, subst, ◌∙◌, arith}
-use Rattle.std.proofs.lemmas.Bool.Decides.{nat_tests}
 use Rattle.std.proofs.lemmas.List.{length-map}
 use Rattle.std.proofs.lemmas.Option.{slice_get_within, get_or_from_slice_get, slice_get-get_or}
 use Rattle.lists.proofs.Places.{get_there}
@@ -33,9 +32,6 @@ use Rattle.thread_layout.proofs.Placed.{no_argument, from_early, wide_bit, banks
 use Rattle.thread_requests.proofs.Spreading.{spread_there, spread_count}
 
 -- ---- lists
-
-pub is_not_less : (n : ℕ) → nat_lt n n ≡ false
-is_not_less n = grind (arith, nat_tests)
 
 -- a bit is told by whether it is 1
 pub bit_told : (n : ℕ) (b : Bool) → n ≡ bit_of b → n ≡ bit_of (nat_eq n 1)

@@ -13,7 +13,6 @@ use Rattle.netlist.specs.declared.netlist.Module.{Module}
 use Rattle.verilog_meaning.specs.Readings.{Reading, width, next_reading}
 use Rattle.circuit.specs.Modules.{Obeys, Agree}
 use Rattle.planned_block.specs.Advance.{any_below}
-use Rattle.thread_promise.specs.Globals.{bank_total}
 use Rattle.thread_slots.specs.declared.shape.Shape.{Shape}
 use Rattle.thread_slots.specs.Bits.{HaveBits}
 use Rattle.thread_states.specs.Control.{got, is_left, counts_of, Steers}
@@ -41,9 +40,6 @@ mapped_index (q ∷ hs) zero h e = let same : q ≡ h = cc in ap (λ (z : Held).
 mapped_index (q ∷ hs) (suc i) h e = mapped_index hs i h e
 
 module _ (shape : Shape) (code : ThreadCode) (plan : Planned) (m : Module) (t : IsModule shape code plan m) (served : IsServed shape code plan) where
-  abbrev banks : ℕ
-  banks = bank_total shape.spreads
-
   -- where the bit of global x stands, among those of all
   pub mark_at : (x : ℕ) → x < length shape.globals → slice_index (marks_of t.inside) x ≡ inputs_of shape + 3 + length code.variables + plan.registers + x
   mark_at x less = let v = mark_held shape code plan m t served x less in mapped_index t.inside.granted x v.held v.listed ∙ v.at

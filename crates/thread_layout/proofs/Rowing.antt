@@ -110,22 +110,6 @@ all_widths (o ∷ rows) (p ∷ ports) e =
 pub all_count : (rows : List (List Row)) (ports : List CorePort) → HaveWidths rows ports → length (asks_of ports) ≡ length (joined rows)
 all_count rows ports e = ap length (all_widths rows ports e) ∙ length-map (joined rows) row_width
 
--- row j of core k has width j of its port
-pub row_there : (rows : List (List Row)) (ports : List CorePort) → HaveWidths rows ports → (k j : ℕ) (p : CorePort) → slice_get ports k ≡ Some p → j < length p.asks
-    → (own : List Row) × (row : Row) × (slice_get rows k ≡ Some own) × (slice_get own j ≡ Some row)
-row_there [] [] e k j p listed less = absurd cc
-row_there [] (q ∷ ports) e k j p listed less = absurd cc
-row_there (o ∷ rows) [] e k j p listed less = absurd cc
-row_there (o ∷ rows) (q ∷ ports) e zero j p listed less =
-    let same : q ≡ p = cc in
-    let head : map row_width o ≡ own_asks q = cc in
-    let one : length p.asks ≡ length o = ap (λ (z : CorePort). length z.asks) (sym same) ∙ ap length (sym head) ∙ length-map o row_width in
-    let found = get_there o j (omega arith) in
-    (o, found.0, refl, found.1)
-row_there (o ∷ rows) (q ∷ ports) e (suc k) j p listed less =
-    let tail : map (map row_width) rows ≡ map own_asks ports = cc in
-    row_there rows ports tail k j p listed less
-
 -- ---- the rows of banks and of those that acts ask
 
 fields_widths : (w n : ℕ) (fields : List ℕ) → map row_width (fields_from w (suc n) fields) ≡ replicate (length fields) 64

@@ -24,7 +24,7 @@ use Rattle.netlist.specs.declared.netlist.Memory.{Memory as Words}
 use Rattle.netlist.specs.declared.netlist.Module.{Module}
 use Rattle.verilog_meaning.specs.Readings.{Reading, initial_reading, initial_word, or_zero}
 use Rattle.circuit.specs.Modules.{Agree}
-use Rattle.thread_promise.specs.Globals.{bank_total, IsAccess}
+use Rattle.thread_promise.specs.Globals.{IsAccess}
 use Rattle.thread_promise.specs.Types.{value_type}
 use Rattle.thread_promise.specs.Slots.{ShowsData, ShowsInBlock}
 use Rattle.thread_promise.specs.Moves.{first_slot}
@@ -68,9 +68,6 @@ global_of spreads b accesses k x w below target =
     target_spread spreads o.0 x w (accesses k o.0 o.1) (ap (λ (z : PlannedOperation). target_of z.kind) (sym view) ∙ target)
 
 module _ (shape : Shape) (code : ThreadCode) (plan : Planned) (m : Module) (t : IsModule shape code plan m) (served : IsServed shape code plan) where
-  abbrev banks : ℕ
-  banks = bank_total shape.spreads
-
   abbrev behind : ℕ
   behind = inputs_of shape
 

@@ -5,7 +5,7 @@ use Rattle.std.proofs.lemmas.Option.{slice_get_within, slice_get-get_or}
 use Rattle.hls_ints.specs.Residues.{residue_of, bit_of}
 use Rattle.hls_ints.specs.Types.{IntegerType, HasType, width_of}
 use Rattle.bank_partition.specs.declared.banks.Spread.{Spread}
-use Rattle.thread_promise.specs.Globals.{IsSmallPower, bank_total, bank_of, IsAccess}
+use Rattle.thread_promise.specs.Globals.{IsSmallPower, bank_of, IsAccess}
 use Rattle.block_ir.specs.Run.{global_read}
 use Rattle.planned_block.specs.Block.{element}
 use Rattle.block_ir.specs.declared.block.Operation.{Operation}
@@ -69,9 +69,6 @@ module _ (shape : Shape) (code : ThreadCode) (plan : Planned) (m : Module) (t : 
   -- and the last one
   pub chains_bits : AreBits t.with_inside t.inside.chains
   chains_bits = (wait_off t.laid.with_rest t.with_inside t.laid.rested t.inside.chains t.inside.early.lost t.laid.waits).bits rested_bits
-
-  abbrev banks : ℕ
-  banks = bank_total shape.spreads
 
   abbrev behind : ℕ
   behind = inputs_of shape

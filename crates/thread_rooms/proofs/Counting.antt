@@ -4,15 +4,12 @@ use Rattle.std.specs.Prelude.{◌⊎◌, slice_get}
 use Rattle.std.specs.List.{sum_by}
 use Rattle.std.proofs.Math.Nat.{eq-or-lt_of_le}
 use Rattle.std.proofs.Math.Seq.{take-suc}
-use Rattle.std.proofs.lemmas.List.Sums.{sum_by_push, sum_by-take-le}
-use Rattle.std.proofs.lemmas.List.{take_all}
+use Rattle.std.proofs.lemmas.List.Sums.{sum_by_push}
 use Rattle.lists.proofs.Places.{get_last}
 use Rattle.c_program.specs.declared.tree.ThreadObject.{ThreadObject}
 use Rattle.c_program.specs.declared.tree.MutexObject.{MutexObject}
 use Rattle.c_program.specs.declared.tree.BarrierObject.{BarrierObject}
 use Rattle.c_program.specs.Tree.{Program}
-use Rattle.straight_code.specs.declared.fault.LoweringFault.{LoweringFault}
-use Rattle.straight_code.specs.Room.{IsFull}
 use Rattle.thread_rooms.specs.declared.objects.Counted.{Counted}
 use Rattle.thread_rooms.specs.declared.objects.Objects.{Objects}
 use Rattle.thread_rooms.specs.Objects.{AreObjects, AreNumbers}
@@ -35,14 +32,6 @@ module _ {A : Type 0} (first : ℕ) (elements : A → ℕ) (objects : List A) wh
       ap (λ n. sum_by elements (take n objects)) (let e : i + 1 ≡ suc i = omega arith in e)
       ∙ ap (sum_by elements) (take-suc objects i d lt) ∙ sum_by_push elements (take i objects) (get_or objects i d)
 
-  pub none_counted : (c : Counted) → c.numbers ≡ [] → c.next ≡ first → first < 2 ^ 32 → AreCounted first elements objects 0 c
-  none_counted c none next few = record {
-    each = λ x lt. absurd (omega arith);
-    long = ap length none;
-    next = (omega (arith, next));
-    few = (omega (arith, next, few));
-  }
-
   pub one_counted : (i : ℕ) (d : A) (old new : Counted) → AreCounted first elements objects i old → i < length objects →
       new.numbers ≡ old.numbers ++ old.next ∷ [] → new.next ≡ old.next + elements (get_or objects i d) → new.next < 2 ^ 32 → AreCounted first elements objects (i + 1) new
   one_counted i d old new before lt numbers next few = record {
@@ -63,18 +52,6 @@ module _ {A : Type 0} (first : ℕ) (elements : A → ℕ) (objects : List A) wh
       earlier : (x : ℕ) → x < i → slice_get new.numbers x ≡ Some (first + sum_by elements (take x objects))
       earlier x less =
           ap (λ ns. slice_get ns x) numbers ∙ get_pushed old.numbers old.next x (let long = before.long in omega (arith, long)) ∙ before.each x less
-
-  pub all_counted : (n : ℕ) (c : Counted) → AreCounted first elements objects n c → length objects ≤ n → AreNumbers first elements objects c.numbers
-  all_counted n c is le = record {
-    each = λ x lt. is.each x (omega (arith, lt, le));
-    few = (let next = is.next in let few = is.few in let all = ap (sum_by elements) (take_all n objects le) in omega (arith, next, few, all));
-  }
-
-  -- what an object adds is no more than all
-  pub counted_full : (i : ℕ) (d : A) (c : Counted) (fault : LoweringFault) → AreCounted first elements objects i c → i < length objects →
-      IsFull (c.next + elements (get_or objects i d)) fault → IsFull (first + sum_by elements objects) fault
-  counted_full i d c fault before lt full large =
-      let f = full large in let next = before.next in let s = sum_next i d lt in let all = sum_by-take-le elements objects (i + 1) in omega (arith, f, next, s, all)
 
 pub are_objects : (P : Program) (o : Objects) → AreNumbers 1 (λ (a : ThreadObject). a.length) P.threads o.threads → AreNumbers 0 (λ (a : MutexObject). a.length) P.mutexes o.mutexes →
     AreNumbers 0 (λ (a : BarrierObject). a.length) P.barriers o.barriers → AreObjects P o

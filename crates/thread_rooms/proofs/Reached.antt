@@ -173,10 +173,6 @@ runs_marked P r g f resolved (inr reaches) at =
 
 -- ---- the locals are few
 
-kept_few : (b : Bool) (f : Function) → length (kept b f).locals ≤ length f.locals
-kept_few true f = omega arith
-kept_few false f = omega arith
-
 one_more : (marks : List Bool) (fs : List Function) (g : ℕ) (f : Function) → slice_get fs g ≡ Some f →
     length (all_locals (with_marks (slice_set marks g true) fs)) ≤ length (all_locals (with_marks marks fs)) + length f.locals
 one_more marks [] g f at = cc
@@ -283,11 +279,6 @@ locals_few P root resolved =
     omega (arith, counted, none, less, is, most)
 
 -- ---- one function after another
-
-pub marked_off : (fs : List Function) (depth : ℕ) (marks : List Bool) (g : ℕ) → (depth ≡ 0) ⊎ (has marks g ≡ true) → mark_from fs depth marks g ≡ marks
-marked_off fs zero marks g off = refl
-marked_off fs (suc d) marks g (inl e) = absurd (omega (arith, e))
-marked_off fs (suc d) marks g (inr e) = ap (λ b. if b then marks else slice_set (mark_all (mark_from fs d) marks (callees (slice_get fs g))) g true) e
 
 pub marked_on : (fs : List Function) (depth : ℕ) (marks : List Bool) (g : ℕ) → (depth ≡ 0 → ⊥) → has marks g ≡ false →
     mark_from fs depth marks g ≡ slice_set (mark_all (mark_from fs (depth - 1)) marks (callees (slice_get fs g))) g true

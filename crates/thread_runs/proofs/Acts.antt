@@ -149,9 +149,6 @@ module _ (shape : Shape) (code : ThreadCode) (plan : Planned) (m : Module) (t : 
         (does shape code plan m t served q.stage (stage.Act a next) listed).acts a next refl m r (from_rest shape code plan m t served) o
         (knows shape code plan m t served r o) (still shape code plan m t served r o) here
 
-    target_now : target shape code plan m t served r q o shows ≡ core_asked (numbers_of shape) (asks_now q)
-    target_now = refl
-
     -- ---- its core is there
 
     module _ (call : Call) (is_call : request_of shape.is_main a ≡ Some call) (k : ℕ) (found : core_asked (numbers_of shape) (Some (value_of q.variables call)) ≡ Some k) where

@@ -24,7 +24,7 @@ use Rattle.planned_view.specs.View.{planned_view, plan_view}
 use Rattle.netlist.specs.declared.netlist.Module.{Module}
 use Rattle.verilog_meaning.specs.Readings.{Reading, initial_reading, next_reading, word_after}
 use Rattle.circuit.specs.Modules.{Obeys}
-use Rattle.thread_promise.specs.Globals.{bank_total, bank_of}
+use Rattle.thread_promise.specs.Globals.{bank_of}
 use Rattle.thread_promise.specs.Types.{value_type}
 use Rattle.thread_promise.specs.Slots.{element_at, IsAlive, ShowsData, ShowsInBlock}
 use Rattle.thread_promise.specs.Moves.{first_slot}
@@ -52,9 +52,6 @@ use Rattle.thread_layout.proofs.Sight.{in_stage, shared_so, told_so, told_nothin
 use Rattle.thread_runs.proofs.Unasked.{asks_outside_so, quiet_so}
 
 module _ (shape : Shape) (code : ThreadCode) (plan : Planned) (m : Module) (t : IsModule shape code plan m) (served : IsServed shape code plan) where
-  abbrev banks : ℕ
-  banks = bank_total shape.spreads
-
   abbrev behind : ℕ
   behind = inputs_of shape
 

@@ -1,14 +1,14 @@
 -- Lists that grow by what one step of a loop puts behind them.
-use Rattle.std.proofs.Common.{◌≡◌, ℕ, zero, suc, ◌+◌, ◌<◌, ◌≤◌, List, [], ◌∷◌, ◌++◌, length, get_or, take, map, refl, sym, ap, ◌∙◌, arith, append_assoc, add-zero, zero-add, length-append}
+use Rattle.std.proofs.Common.{◌≡◌, ℕ, zero, suc, ◌+◌, ◌<◌, ◌≤◌, List, [], ◌∷◌, ◌++◌, length, get_or, take, refl, sym, ap, ◌∙◌, arith, append_assoc, add-zero, zero-add, length-append}
 use Rattle.std.specs.Prelude.{slice_get, slice_index}
 use Rattle.std.specs.List.{flat_map}
-use Rattle.std.proofs.lemmas.List.{take_more, map-append, append-nil, length-take-le}
+use Rattle.std.proofs.lemmas.List.{take_more, append-nil, length-take-le}
 use Rattle.std.proofs.lemmas.List.Concat.{flat_map-append}
 use Rattle.netlist.specs.declared.netlist.Module.{Module}
 use Rattle.top_wiring.specs.declared.parts.Part.{Part}
 use Rattle.top_wiring.specs.declared.wires.Wire.{Wire}
 use Rattle.top_wiring.specs.Parts.{each_from, flat_from, flat_spread, output_count}
-use Rattle.top_wiring.specs.Wires.{port_wire, first_port, ports, enables, blocks, starts_from}
+use Rattle.top_wiring.specs.Wires.{port_wire, first_port, ports, enables, starts_from}
 
 take_next : {A : Type 0} (xs : List A) (i : ℕ) (x : A) → x ≡ get_or xs i x → i < length xs → take (i + 1) xs ≡ take i xs ++ x ∷ []
 take_next xs i x is lt = take_more xs i x lt ∙ ap (λ y. take i xs ++ y ∷ []) (sym is)
@@ -17,13 +17,6 @@ more_behind : {A : Type 0} (a b c m n : List A) → b ≡ a ++ m → c ≡ b ++ 
 more_behind a b c m n e h = h ∙ ap (λ l. l ++ n) e ∙ append_assoc a m n
 
 -- ---- maps
-
-map_next : {A B : Type 0} (f : A → B) (xs : List A) (i : ℕ) (x : A) → x ≡ get_or xs i x → i < length xs → map f (take (i + 1) xs) ≡ map f (take i xs) ++ f x ∷ []
-map_next f xs i x is lt = ap (map f) (take_next xs i x is lt) ∙ map-append f (take i xs) (x ∷ [])
-
-pub map_onto : {A B : Type 0} (f : A → B) (a b c : List B) (xs : List A) (i : ℕ) (x : A) → b ≡ a ++ map f (take i xs) → c ≡ b ++ f x ∷ []
-    → x ≡ get_or xs i x → i < length xs → c ≡ a ++ map f (take (i + 1) xs)
-map_onto f a b c xs i x e h is lt = more_behind a b c (map f (take i xs)) (f x ∷ []) e h ∙ ap (λ l. a ++ l) (sym (map_next f xs i x is lt))
 
 pub flat_next : {A B : Type 0} (f : A → List B) (xs : List A) (i : ℕ) (x : A) → x ≡ get_or xs i x → i < length xs → flat_map f (take (i + 1) xs) ≡ flat_map f (take i xs) ++ f x
 flat_next f xs i x is lt =
@@ -137,24 +130,6 @@ wires_grow modules parts threads place i wires more starts new p h e g is lt =
           ∙ sym (starts_from-append (place + length (enables threads)) (take i parts) p modules 0)
           ∙ ap (starts_from (place + length (enables threads))) (sym (take_next parts i p is lt));
     }
-
-flat_from_fewer : {A B : Type 0} (f : ℕ → A → List B) (k : ℕ) (xs : List A) (i : ℕ) → length (flat_from f k (take i xs)) ≤ length (flat_from f k xs)
-flat_from_fewer f k [] zero = omega arith
-flat_from_fewer f k [] (suc i) = omega arith
-flat_from_fewer f k (x ∷ xs) zero = omega arith
-flat_from_fewer f k (x ∷ xs) (suc i) =
-    let l = flat_from_fewer f (k + 1) xs i in
-    let a = length-append (f k x) (flat_from f (k + 1) (take i xs)) in
-    let b = length-append (f k x) (flat_from f (k + 1) xs) in
-    omega arith
-
-pub wires_few : (modules : List Module) (parts : List Part) (threads place i limit : ℕ) (wires : List Wire) (starts : List ℕ)
-    → AreWires modules parts threads place i wires starts → length (enables threads ++ blocks modules parts) < limit → length wires < limit
-wires_few modules parts threads place i limit wires starts h l =
-    let a = ap length h.wires_are ∙ length-append (enables threads) (flat_from (ports modules) 0 (take i parts)) in
-    let b = length-append (enables threads) (blocks modules parts) in
-    let c = flat_from_fewer (ports modules) 0 parts i in
-    omega arith
 
 pub starts_low : (at : ℕ) (ps : List Part) (modules : List Module) (i j : ℕ) → slice_index (starts_from at ps) j ≤ at + length (flat_from (ports modules) i ps)
 starts_low at [] modules i j = omega arith

@@ -1,6 +1,6 @@
 -- Elements of lists by their places.
 use Rattle.std.proofs.Common.{◌≡◌, ℕ, zero, suc, ◌+◌, ◌*◌, ◌<◌, ◌⊎◌, List, [], ◌∷◌, ◌++◌, length, take}
-use Rattle.std.proofs.Common.{map, replicate, Some, refl, sym, ap, ◌∙◌, subst, inl, inr, arith, add-zero, zero-add, length-append}
+use Rattle.std.proofs.Common.{replicate, Some, refl, sym, ap, ◌∙◌, subst, inl, inr, arith, add-zero, zero-add, length-append}
 use Rattle.std.specs.Prelude.{slice_get, slice_index}
 use Rattle.std.specs.List.{flat_map}
 use Rattle.std.proofs.Math.Nat.{suc-mul}
@@ -124,21 +124,6 @@ pub record IsSpread {B : Type 0} (f : ℕ → List B) (c i n p : ℕ) (y : B) : 
   pub rest : ℕ
   pub found : slice_get (f (i + number)) rest ≡ Some y
   pub place : p ≡ number * c + rest
-
-pub flat_spread_back : {B : Type 0} (f : ℕ → List B) (c i n p : ℕ) (y : B) → ((j : ℕ) → length (f j) ≡ c) → slice_get (flat_spread f i n) p ≡ Some y → IsSpread f c i n p y
-flat_spread_back f c i zero p y all h = absurd (none-some y h)
-flat_spread_back f c i (suc n) p y all h = elim (get_either (f i) (flat_spread f (i + 1) n) p y h) [
-  | inl g ↦ record { number = 0; few = omega arith; rest = p; found = ap (λ j. slice_get (f j) p) (add-zero i) ∙ g; place = omega arith }
-  | inr g ↦
-      let m = flat_spread_back f c (i + 1) n g.at y all g.found in
-      let e : i + suc m.number ≡ i + 1 + m.number = omega arith in
-      let s = suc-mul m.number c in
-      let w = all i in
-      let a : p ≡ length (f i) + g.at = g.is in
-      let b : g.at ≡ m.number * c + m.rest = m.place in
-      let l : m.number < n = m.few in
-      record { number = suc m.number; few = omega arith; rest = m.rest; found = ap (λ j. slice_get (f j) m.rest) e ∙ m.found; place = omega arith }
-]
 
 -- ---- where the wires of an instance begin
 

@@ -78,20 +78,11 @@ module _ (layout : Layout) (modules : List Module) (n : Netlist) (w : IsWired mo
 
   -- ---- where the modules stand
 
-  given_there : (k : ℕ) (m : Module) → slice_get modules k ≡ Some m → slice_get n.modules k ≡ Some m
-  given_there k m e = ap (λ l. slice_get l k) w.are ∙ get_front (modules ++ w.top ∷ []) (w.round ∷ []) k m (get_front modules (w.top ∷ []) k m e)
-
   top_there : slice_get n.modules (length modules) ≡ Some w.top
   top_there =
       ap (λ l. slice_get l (length modules)) w.are
       ∙ get_front (modules ++ w.top ∷ []) (w.round ∷ []) (length modules) w.top
       (ap (slice_get (modules ++ w.top ∷ [])) (sym (add-zero (length modules))) ∙ get_back modules (w.top ∷ []) 0 w.top refl)
-
-  round_there : slice_get n.modules (length modules + 1) ≡ Some w.round
-  round_there =
-      let a = length-append modules (w.top ∷ []) in
-      let q : length modules + 1 ≡ length (modules ++ w.top ∷ []) + 0 = omega arith in
-      ap (λ l. slice_get l (length modules + 1)) w.are ∙ ap (slice_get (modules ++ w.top ∷ [] ++ w.round ∷ [])) q ∙ get_back (modules ++ w.top ∷ []) (w.round ∷ []) 0 w.round refl
 
   before_given : (k : ℕ) (m : Module) → slice_get modules k ≡ Some m → take k modules ≡ take k n.modules
   before_given k m e =

@@ -1,8 +1,8 @@
 -- The operations of one kind, with the rows of their packing.
-use Rattle.std.proofs.Common.{◌≡◌, ◌≢◌, ℕ, ◌+◌, ◌<◌, List, length, get_or, Bool, true, false, if◌then◌else◌, nat_lt, ◌&&◌, refl, ap, subst, sym, ◌∙◌, ◌⊎◌, inl, inr, arith}
+use Rattle.std.proofs.Common.{◌≡◌, ◌≢◌, ℕ, ◌<◌, List, length, Bool, true, false, nat_lt, ◌&&◌, refl, ap, sym, ◌∙◌, ◌⊎◌, inl, inr, arith}
 use Rattle.std.specs.Prelude.{nat_le, slice_index}
 use Rattle.std.specs.List.{count_by, range_with_len}
-use Rattle.std.proofs.lemmas.Bool.{cases_eq, cases_Bool, cond-true, cond-false}
+use Rattle.std.proofs.lemmas.Bool.{cases_Bool, cond-true, cond-false}
 use Rattle.interval_pack.specs.declared.interval.Interval.{Interval}
 use Rattle.interval_pack.specs.LeftEdge.{IsBefore}
 use Rattle.interval_pack.specs.Packing.{at, nowhere, start_of, Meet, crowd_at}
@@ -16,24 +16,6 @@ use Rattle.op_graph.proofs.OneByOne.{at_least_one}
 use Rattle.unit_binding.specs.Units.{WorkTogether, works_at, use_at, IsGreatestUse}
 use Rattle.unit_binding.specs.Works.{AreWorks, IsTakenOver, IsTaken, IsBoundKind}
 use Rattle.unit_binding.proofs.SameKinds.{same_along, same_back}
-
--- one more unit
-pub taken_more : (nodes : List Node) (kind : Kind) (row : List ℕ) (k : ℕ) (old new newer : List ℕ) → IsTakenOver nodes kind row k old new → length newer ≡ length new →
-    get_or newer k 0 ≡ (if same_kind kind (kind_at nodes k) then get_or row k 0 else get_or new k 0) → ((i : ℕ) → i ≢ k → get_or newer i 0 ≡ get_or new i 0) →
-    IsTakenOver nodes kind row (k + 1) old newer
-taken_more nodes kind row k old new newer s n here other = record {
-  count = n ∙ s.count;
-  taken = λ i l. taken i l (cases_eq i k);
-  others = λ i f. (let ne : i ≢ k = λ e. f (omega arith) in other i ne ∙ s.others i (λ l. f (omega arith)));
-}
-  where
-    taken : (i : ℕ) → i < k + 1 → (i ≡ k) ⊎ (i ≡ k → ⊥) → get_or newer i 0 ≡ (if same_kind kind (kind_at nodes i) then get_or row i 0 else get_or old i 0)
-    taken i l (inl e) =
-        let was : get_or new k 0 ≡ get_or old k 0 = s.others k (λ m. omega arith) in
-        let now : get_or newer k 0 ≡ (if same_kind kind (kind_at nodes k) then get_or row k 0 else get_or old k 0) =
-        here ∙ ap (λ (z : ℕ). if same_kind kind (kind_at nodes k) then get_or row k 0 else z) was in
-        subst (λ (z : ℕ). get_or newer z 0 ≡ (if same_kind kind (kind_at nodes z) then get_or row z 0 else get_or old z 0)) (sym e) now
-    taken i l (inr ne) = let n' : i ≢ k = ne in other i n' ∙ s.taken i (omega arith)
 
 module _ (nodes : List Node) (starts : List ℕ) (kind : Kind) (works : List Interval) (are : AreWorks nodes starts kind works) where
   abbrev n : ℕ

@@ -136,9 +136,6 @@ module _ (stop : List ℕ) (widths : List ℕ) (r : ℕ) (narrow : All (λ w. w 
 
 -- ---- the frames
 
-later_none : (o : Option ℕ) → later o None ≡ o
-later_none o = refl
-
 module _ (widths : List ℕ) (values : ℕ → List ℕ) (n k r : ℕ) (each : (j : ℕ) → j ≤ n → AreValues widths (values j)) (narrow : All (λ w. w ≤ 64) widths)
     (few : length widths < 2 ^ 64) (count : n < 2 ^ 32) (within : k ≤ n) (low : r < length widths) where
   abbrev stop : List ℕ
@@ -226,10 +223,6 @@ module _ (widths : List ℕ) (values : ℕ → List ℕ) (n k r : ℕ) (each : (
       ap (reads last) (append_assoc (frames widths values j) (frame (suc j) widths (values j) (values (suc j))) rest)
       ∙ past_by j last rest (nat_eq j k) refl lt
       (λ less. frames_past j last (frame (suc j) widths (values j) (values (suc j)) ++ rest) less (omega (arith, le)))
-
-  -- nothing more is told at the end
-  at_end : (o : Option ℕ) → reads o [] ≡ o
-  at_end o = refl
 
   all_frames : (b : Bool) → nat_eq n k ≡ b → (last : Option ℕ) → reads last (frames widths values n ++ []) ≡ Some (value_of k)
   all_frames true e last =

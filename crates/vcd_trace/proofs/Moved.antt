@@ -1,13 +1,8 @@
 -- Another simulator of the same net.
-use Rattle.std.proofs.Common.{◌≡◌, sym, ap, ◌∙◌, subst, ℕ, List, map, replicate, arith}
-use Rattle.std.specs.Prelude.{◌%◌}
+use Rattle.std.proofs.Common.{sym, ap, ◌∙◌, subst, List, map}
 use Rattle.netlist.specs.declared.netlist.Module.{Module}
-use Rattle.verilog_meaning.specs.Cycles.{Choice}
-use Rattle.verilog_meaning.specs.Threads.{all_enabled}
 use Rattle.sim_values.specs.declared.edge.Part.{Part}
-use Rattle.sim_layout.specs.Running.{Running, Stands, Fits, IsSameNet}
-use Rattle.sim_layout.specs.Rounds.{threads_of}
-use Rattle.cycle_sim.proofs.Turning.{net_refl, takes_rounds, fits_round}
+use Rattle.sim_layout.specs.Running.{Running, IsSameNet}
 use Rattle.net_registers.specs.declared.listing.Listing.{Listing}
 use Rattle.net_registers.specs.Heads.{IsListing, place_of, IsOfNet}
 use Rattle.net_registers.specs.Marks.{AreMarks, registers_of}
@@ -26,7 +21,3 @@ listing_moved old new l net is = record {
   is_top = ap top_of net.modules ∙ is.is_top;
   net = subst (λ (ms : List Module). AllByRecursion (IsOfNet ms is.top) (registers_of is.marks)) (sym net.modules) is.net;
 }
-
--- the choice of a cycle fits
-pub fits_cycle : (r : Running) (number : ℕ) (c : Choice) → Stands r → c ≡ all_enabled (threads_of r.modules) (replicate r.prefs (number % 16)) → Fits r c
-fits_cycle r number c is e = fits_round r r (takes_rounds r is) (net_refl r) c (number % 16) e (omega arith)

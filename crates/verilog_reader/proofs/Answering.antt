@@ -34,9 +34,6 @@ pub record Answered (text : Text) (r : Result Net ReadError) : Type 0 where
   pub every : (n : Net) → IsRead text n → Finds n r
 
 module _ (text : Text) where
-  pub memory : (e : ReadError) → e ≡ error.Memory → Answered text (Err e)
-  memory e is = subst (λ x. Answered text (Err x)) (sym is) (record { ok = tt; not_net = tt; every = λ n r. tt })
-
   syntax : (offset : ℕ) → IsSyntaxFault text offset → Answered text (Err (error.NotNet offset))
   syntax offset s = record { ok = tt; not_net = f.Syntax s; every = λ n r. fault_no_net text offset n s r.reads }
 

@@ -10,7 +10,7 @@ use Rattle.verilog_tree.specs.declared.tree.BinaryOperator.TheVariants as op
 use Rattle.verilog_tree.specs.declared.tree.DivisionOperator.{DivisionOperator}
 use Rattle.verilog_tree.specs.declared.tree.DivisionOperator.TheVariants as division
 use Rattle.verilog_tree.specs.Grammar.{Tokens, operator_mark, division_mark}
-use Rattle.grammar.specs.Rules.{Placed, pure, one, ◌>>=◌, ◌>>◌, ◌<|>◌, many, nested}
+use Rattle.grammar.specs.Rules.{Placed, pure, one, ◌>>=◌, ◌>>◌, ◌<|>◌, many}
 use Rattle.grammar.specs.Sentences.{plain}
 use Rattle.grammar.proofs.Lists.{plain-append}
 use Rattle.verilog_rules.specs.declared.sign.Sign.{Sign}
@@ -69,9 +69,6 @@ either_means left right = record {
   to = λ at ts v h. ⊎_elim (λ k. inl (left.to at ts v k)) (λ k. inr (right.to at ts v k)) h;
   from = λ at z v h. ⊎_elim (λ k. let got = left.from at z v k in (got.0, got.1, inl got.2)) (λ k. let got = right.from at z v k in (got.0, got.1, inr got.2)) h;
 }
-
-pub nested_means : {A : Type 0} {P : Phrase A} {R : Spelling A} → Means P R → Means (nested P) R
-nested_means good = record { to = λ at ts v h. good.to (at + 1) ts v h; from = λ at z v h. good.from (at + 1) z v h }
 
 module _ {A : Type 0} {P : Phrase A} {R : Spelling A} (good : Means P R) where
   many_to : (at : ℕ) (ts : List (Placed Token)) (vs : List A) → many P at ts vs → Many R (plain ts) vs

@@ -70,9 +70,6 @@ module _ {A : Type 0} {P : g.Phrase A} (f : A → Tokens) (good : Means P (Is f)
   pub listed_means : Means (g.listed P) Listed
   listed_means = same_means (then_means good (λ first. then_means more_means (λ more. pure_means (first ∷ more)))) listed_there listed_back
 
-abbrev pub one_name : List ℕ → Tokens
-one_name = v.name
-
 -- a name alone
 pub name_alone : Means g.name (Is v.name)
 name_alone = record { to = λ at ts n h. ap plain h.1 ∙ ap (λ x. x ∷ []) (name_token h.0 n h.2); from = λ at z n h. ((t.Name n, at) ∷ [], sym h, (t.Name n, refl, refl)) }
