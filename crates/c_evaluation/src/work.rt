@@ -2,7 +2,7 @@
 ghost use Rattle.std.specs.Prelude.{◌≡◌, ◌+◌, ◌≤◌, ◌<◌, [], ◌∷◌, true, false, MatchOption, IfOk};
 ghost use Rattle.c_program.specs.Plain.{expression_of, condition_of, statement_of};
 ghost use Rattle.thread_semantics.specs.Work.{Do, Onward, Leaving, Turning, settled, next_turn, asked, decided, first_offset, first_operand, waiting_parts};
-ghost use Rattle.c_evaluation.specs.View.{work_of, loop_of};
+ghost use Rattle.c_evaluation.specs.View.{item_of, loop_of, work_of};
 ghost use Rattle.c_evaluation.specs.Size.{work_size, turn_size, statement_size};
 
 use c_program::tree::{Condition, Expression, Piece, Place, Statement};
@@ -61,6 +61,14 @@ pub enum Item<'p> {
     Perform(u32, Act<'p>),
 }
 
+/// An item is done first.
+pub fn put<'p>(work: &mut VecDeque<Item<'p>>, item: Item<'p>) -> Result<(), AllocError>
+    ensures { IfOk result (λ _. work_of work.new.items ≡ item_of item.entry ∷ work_of work.old.items) }
+{
+    work.push_front(item)?;
+    Ok(())
+}
+
 /// Takes items off to the end of the body of the innermost loop, which is the answer.
 fn leave<'p>(work: &mut VecDeque<Item<'p>>) -> Option<Loop<'p>>
     ensures leaving { MatchOption result (settled Leaving (work_of work.old.items) ≡ []) (λ l. settled Leaving (work_of work.old.items) ≡ settled Onward (work_of work.new.items)) }
@@ -80,8 +88,8 @@ fn leave<'p>(work: &mut VecDeque<Item<'p>>) -> Option<Loop<'p>>
 fn ask<'p>(work: &mut VecDeque<Item<'p>>, looping: Loop<'p>) -> Result<(), AllocError>
     ensures { IfOk result (λ _. work_of work.new.items ≡ asked (loop_of looping.entry) (work_of work.old.items)) }
 {
-    work.push_front(Item::Turn(looping))?;
-    work.push_front(Item::Ask(looping.condition))?;
+    put(work, Item::Turn(looping))?;
+    put(work, Item::Ask(looping.condition))?;
     Ok(())
 }
 
@@ -93,8 +101,8 @@ fn put_both<'p>(
 ) -> Result<(), AllocError>
     ensures { IfOk result (λ _. work_of work.new.items ≡ Do (statement_of first.now) ∷ Do (statement_of next.now) ∷ work_of work.old.items) }
 {
-    work.push_front(Item::Do(next))?;
-    work.push_front(Item::Do(first))?;
+    put(work, Item::Do(next))?;
+    put(work, Item::Do(first))?;
     Ok(())
 }
 
@@ -112,12 +120,12 @@ fn unfold<'p>(statement: &'p Statement, work: &mut VecDeque<Item<'p>>) -> Result
         }
         Statement::Continue => {
             if let Some(looping) = leave(work) {
-                work.push_front(Item::Next(looping))?;
+                put(work, Item::Next(looping))?;
             }
             Ok(true)
         }
         Statement::Block(body) => {
-            work.push_front(Item::Do(body))?;
+            put(work, Item::Do(body))?;
             Ok(true)
         }
         Statement::Sequence(first, next) => {
@@ -125,8 +133,8 @@ fn unfold<'p>(statement: &'p Statement, work: &mut VecDeque<Item<'p>>) -> Result
             Ok(true)
         }
         Statement::If(condition, consequent, alternative) => {
-            work.push_front(Item::Choose(consequent, alternative))?;
-            work.push_front(Item::Ask(condition))?;
+            put(work, Item::Choose(consequent, alternative))?;
+            put(work, Item::Ask(condition))?;
             Ok(false)
         }
         Statement::While(condition, body) => {
@@ -141,12 +149,15 @@ fn unfold<'p>(statement: &'p Statement, work: &mut VecDeque<Item<'p>>) -> Result
             Ok(false)
         }
         Statement::DoWhile(body, condition) => {
-            work.push_front(Item::Next(Loop {
-                condition,
-                last: None,
-                body,
-            }))?;
-            work.push_front(Item::Do(body))?;
+            put(
+                work,
+                Item::Next(Loop {
+                    condition,
+                    last: None,
+                    body,
+                }),
+            )?;
+            put(work, Item::Do(body))?;
             Ok(true)
         }
         Statement::For(first, condition, last, body) => {
@@ -158,7 +169,7 @@ fn unfold<'p>(statement: &'p Statement, work: &mut VecDeque<Item<'p>>) -> Result
                     body,
                 },
             )?;
-            work.push_front(Item::Do(first))?;
+            put(work, Item::Do(first))?;
             Ok(true)
         }
         Statement::Declare(_, _, _)
@@ -168,7 +179,7 @@ fn unfold<'p>(statement: &'p Statement, work: &mut VecDeque<Item<'p>>) -> Result
         | Statement::Call(_, _, _)
         | Statement::Print(_, _, _)
         | Statement::Thread(_, _) => {
-            work.push_front(Item::Do(statement))?;
+            put(work, Item::Do(statement))?;
             Ok(false)
         }
     }
@@ -185,7 +196,7 @@ fn turn<'p>(looping: Loop<'p>, work: &mut VecDeque<Item<'p>>) -> Result<bool, Al
     match looping.last {
         None => Ok(false),
         Some(last) => {
-            work.push_front(Item::Do(last))?;
+            put(work, Item::Do(last))?;
             Ok(true)
         }
     }
@@ -200,7 +211,7 @@ pub fn settle<'p>(work: &mut VecDeque<Item<'p>>) -> Result<(), AllocError>
             Item::Do(statement) => unfold(statement, work)?,
             Item::Next(looping) => turn(looping, work)?,
             other => {
-                work.push_front(other)?;
+                put(work, other)?;
                 false
             }
         };
@@ -220,31 +231,31 @@ pub fn decide<'p>(work: &mut VecDeque<Item<'p>>, truth: bool) -> Result<(), Allo
         match item {
             Item::ThenBoth(second) => {
                 if value {
-                    work.push_front(Item::Ask(second))?;
+                    put(work, Item::Ask(second))?;
                     return Ok(());
                 }
             }
             Item::ThenEither(second) => {
                 if !value {
-                    work.push_front(Item::Ask(second))?;
+                    put(work, Item::Ask(second))?;
                     return Ok(());
                 }
             }
             Item::ThenOpposite => value = !value,
             Item::Choose(consequent, alternative) => {
                 let way = if value { consequent } else { alternative };
-                work.push_front(Item::Do(way))?;
+                put(work, Item::Do(way))?;
                 return settle(work);
             }
             Item::Turn(looping) => {
                 if value {
-                    work.push_front(Item::Next(looping))?;
-                    work.push_front(Item::Do(looping.body))?;
+                    put(work, Item::Next(looping))?;
+                    put(work, Item::Do(looping.body))?;
                 }
                 return settle(work);
             }
             other => {
-                work.push_front(other)?;
+                put(work, other)?;
                 return settle(work);
             }
         }
@@ -264,15 +275,15 @@ pub fn first_operand<'p>(
     match condition {
         Condition::Operand(offset, operand) => Ok((*offset, operand)),
         Condition::Both(first, second) => {
-            work.push_front(Item::ThenBoth(second))?;
+            put(work, Item::ThenBoth(second))?;
             first_operand(first, work)
         }
         Condition::Either(first, second) => {
-            work.push_front(Item::ThenEither(second))?;
+            put(work, Item::ThenEither(second))?;
             first_operand(first, work)
         }
         Condition::Opposite(inner) => {
-            work.push_front(Item::ThenOpposite)?;
+            put(work, Item::ThenOpposite)?;
             first_operand(inner, work)
         }
     }

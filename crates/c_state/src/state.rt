@@ -8,7 +8,7 @@ ghost use Rattle.c_state.specs.Fresh.{fresh_row};
 ghost use Rattle.c_state.specs.View.{frame_of, slot_of, barrier_of, state_of};
 
 use crate::place::{barrier_elements, thread_elements};
-use c_evaluation::work::{Item, settle};
+use c_evaluation::work::{Item, put, settle};
 use c_program::tree::{Function, GlobalVariable, LocalVariable, MutexObject, Program};
 use hls_ints::wrap;
 use hls_io::Bytes;
@@ -112,7 +112,7 @@ pub fn begin<'p>(
 {
     let locals = fresh_locals(alloc, &code.locals, arguments)?;
     let mut work = VecDeque::new(alloc);
-    work.push_front(Item::Do(&code.body))?;
+    put(&mut work, Item::Do(&code.body))?;
     settle(&mut work)?;
     Ok(Frame {
         function,

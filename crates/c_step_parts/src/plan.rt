@@ -15,7 +15,7 @@ ghost use Rattle.c_step_parts.specs.Planned.{IsPlanned};
 ghost use Rattle.c_step_parts.specs.Plan.{Integers, Callers, erased, going, plan_of, assign_move, return_move, ask_move};
 
 use c_evaluation::evaluate::{evaluate, evaluate_all};
-use c_evaluation::work::{Act, Item, decide, first_operand, settle};
+use c_evaluation::work::{Act, Item, decide, first_operand, put, settle};
 use c_program::tree::{Condition, Expression, Place, Program, RightSide, Statement, ThreadCall};
 use c_state::memory::Change;
 use c_state::place::{Assignment, assigned, delivery, operands, update};
@@ -99,7 +99,7 @@ fn call<'p>(
             };
             let callee = begin(alloc, code, function, &values)?;
             let mut work = rest_of(&frame.work)?;
-            work.push_front(waiting)?;
+            put(&mut work, waiting)?;
             Ok(Plan::Enter(work, callee))
         }
     }
@@ -119,7 +119,7 @@ fn prepare<'p>(
         Err(cause) => Ok(Plan::Fault(offset, cause)),
         Ok(operands) => {
             let mut work = rest_of(&frame.work)?;
-            work.push_front(Item::Perform(offset, act))?;
+            put(&mut work, Item::Perform(offset, act))?;
             Ok(Plan::Onward(work, operands, Change::Nothing))
         }
     }
