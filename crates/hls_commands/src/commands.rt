@@ -304,8 +304,9 @@ fn stopped(alloc: Global, stop: Stop) -> Answer
     }
 }
 
+/// All that is owed for a task, before a byte is written.
 #[tactic(auto, using(crate::proofs::Owing::owed_steps))]
-fn run_task<R: Threads + Wait + Sync, S: Source, G: Gate + Sync>(
+pub fn run_task<R: Threads + Wait + Sync, S: Source, G: Gate + Sync>(
     rt: &R,
     alloc: Global,
     task: Task,
@@ -329,7 +330,7 @@ fn run_task<R: Threads + Wait + Sync, S: Source, G: Gate + Sync>(
     }
 }
 
-/// All that the call owes, before a byte is written.
+/// All that the call owes for its words, before a byte is written.
 pub fn answer<R: Threads + Wait + Sync, S: Source, G: Gate + Sync>(
     rt: &R,
     alloc: Global,

@@ -12,9 +12,10 @@ ghost use Rattle.hls_commands.specs.Answers.{HasLoopOf, HasRunOut, IsBadEntryOf,
 use crate::deliver::deliver;
 use crate::outcome::Outcome;
 use hardware_threads::gate::Gate;
-use hls_commands::commands::answer;
+use hls_commands::commands::{answer, run_task};
 use hls_io::{Sink, Source};
 use hls_status::status::Status;
+use hls_words::Task;
 use std::alloc::Global;
 use std::sync::Wait;
 use std::thread::Threads;
@@ -57,5 +58,24 @@ pub fn hls<R: Threads + Wait + Sync, S: Source, O: Sink, E: Sink, G: Gate + Sync
         (passage (E.held err.old) (E.held err.new) (E.faults err.old) (E.faults err.new)) result }
 {
     let answer = answer(rt, alloc, words, source, gate);
+    deliver(answer, out, err)
+}
+
+/// Does what a task asks: all that [`hls`] does once it has read its words.
+pub fn perform<R: Threads + Wait + Sync, S: Source, O: Sink, E: Sink, G: Gate + Sync>(
+    rt: &R,
+    alloc: Global,
+    task: Task,
+    source: &mut S,
+    out: &mut O,
+    err: &mut E,
+    gate: &G,
+) -> Outcome
+    ensures answered { Answered (Some task) (S.left source.old)
+        (Rose (S.faults source.old) (S.faults source.new))
+        (passage (O.held out.old) (O.held out.new) (O.faults out.old) (O.faults out.new))
+        (passage (E.held err.old) (E.held err.new) (E.faults err.old) (E.faults err.new)) result }
+{
+    let answer = run_task(rt, alloc, task, source, gate);
     deliver(answer, out, err)
 }

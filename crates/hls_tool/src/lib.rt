@@ -5,7 +5,8 @@ mod call;
 mod deliver;
 mod outcome;
 
-pub use call::hls;
+pub use call::{hls, perform};
 pub use deliver::tell_memory;
 pub use hls_status::status::{Status, WalkEnd};
+pub use hls_words::Task;
 pub use outcome::Outcome;

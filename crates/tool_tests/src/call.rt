@@ -1,12 +1,14 @@
 // Calls of the tool.
 
-use crate::meeting::Meeting;
+use hardware_threads::gate::OpenGate;
 use hls_io::{MemSink, MemSource};
-use hls_tool::{Outcome, Status, hls};
+use hls_tool::{Outcome, Status, Task, perform};
+use sqlite_items::Items;
 use std::alloc::{AllocError, Global};
 use std::process::Abort;
 use std::sync::Wait;
 use std::thread::Threads;
+use turns::Turn;
 
 /// The most bytes that a sink for a text takes.
 const ROOM: usize = 300_000;
@@ -14,14 +16,24 @@ const ROOM: usize = 300_000;
 /// The most bytes that a sink for lines takes.
 const LINES: usize = 20_000;
 
-pub const BUILD: &[&str] = &["hls", "build"];
+/// The most entries of a run.
+const ENTRIES: u32 = 100_000;
 
-pub const RUN: &[&str] = &["hls", "run"];
-
-pub const REPLAY: &[&str] = &["hls", "replay"];
-
-/// As many cycles as one of the Verilog texts needs.
-pub const SIM: &[&str] = &["hls", "sim", "--cycles", "2"];
+/// What a test asks of the tool.
+#[derive(Clone, Copy)]
+pub enum Asked {
+    Build,
+    Step { cycles: u32 },
+    /// A dump of so many cycles.
+    Dump { cycles: u32 },
+    Run,
+    /// The journal of a run, of so many entries.
+    Journal { entries: u32 },
+    Replay,
+    /// So many steps of main.
+    Walk { steps: u32 },
+    Sim { cycles: u32 },
+}
 
 /// The most bytes that each call of a stream moves, and the numbers of the calls that fail, from 1.
 pub type Moves<'a> = (usize, &'a [u64]);
@@ -49,42 +61,48 @@ pub struct Ended<'a> {
     pub err: MemSink<'a>,
 }
 
-fn words_of(alloc: Global, words: &[&str]) -> Result<Vec<String>, AllocError> {
-    words
-        .iter()
-        .map(|word| word.to_string(alloc))
-        .try_collect(alloc)
+fn turns_of_main(alloc: Global, steps: u32) -> Result<Items<Turn>, AllocError> {
+    let mut turns = Items::new(alloc);
+    turns.push(Turn { thread: 0, steps })?;
+    Ok(turns)
 }
 
-/// What a call on the text answers over such streams, where workers meet at the gate. There is one kind of gate in all tests, since the whole
-/// call is compiled for each kind.
-pub fn told_at<'a, R: Threads + Wait + Sync>(
-    rt: &R,
-    alloc: Global,
-    text: &[u8],
-    words: &[&str],
-    streams: &Streams<'a>,
-    gate: &Meeting,
-) -> Result<Box<Ended<'a>>, AllocError> {
-    let (reads, outs, errs) = (streams.reads, streams.outs, streams.errs);
-    let words = words_of(alloc, words)?;
-    let words = words.as_slice();
-    let mut source = MemSource::new(text, reads.0.max(1), reads.1);
-    let mut out = MemSink::new(alloc, ROOM, outs.0.max(1), outs.1)?;
-    let mut err = MemSink::new(alloc, LINES, errs.0.max(1), errs.1)?;
-    let outcome = hls(rt, alloc, words, &mut source, &mut out, &mut err, gate);
-    let ended = Box::new(alloc, Ended { outcome, out, err })?;
-    Ok(ended)
+fn task_of(alloc: Global, asked: Asked) -> Result<Task, AllocError> {
+    let task = match asked {
+        Asked::Build => Task::Build { jobs: 1 },
+        Asked::Step { cycles } => Task::Step { cycles, vcd: false },
+        Asked::Dump { cycles } => Task::Step { cycles, vcd: true },
+        Asked::Run => Task::Run {
+            entries: ENTRIES,
+            journal: false,
+        },
+        Asked::Journal { entries } => Task::Run {
+            entries,
+            journal: true,
+        },
+        Asked::Replay => Task::Replay,
+        Asked::Walk { steps } => return Ok(Task::Walk(turns_of_main(alloc, steps)?)),
+        Asked::Sim { cycles } => Task::Sim { cycles },
+    };
+    Ok(task)
 }
 
+/// What a call on the text answers over such streams.
 pub fn told<'a, R: Threads + Wait + Sync>(
     rt: &R,
     alloc: Global,
     text: &[u8],
-    words: &[&str],
+    asked: Asked,
     streams: &Streams<'a>,
 ) -> Result<Box<Ended<'a>>, AllocError> {
-    told_at(rt, alloc, text, words, streams, &Meeting::of(0))
+    let (reads, outs, errs) = (streams.reads, streams.outs, streams.errs);
+    let mut source = MemSource::new(text, reads.0.max(1), reads.1);
+    let mut out = MemSink::new(alloc, ROOM, outs.0.max(1), outs.1)?;
+    let mut err = MemSink::new(alloc, LINES, errs.0.max(1), errs.1)?;
+    let task = task_of(alloc, asked)?;
+    let outcome = perform(rt, alloc, task, &mut source, &mut out, &mut err, &OpenGate);
+    let ended = Box::new(alloc, Ended { outcome, out, err })?;
+    Ok(ended)
 }
 
 /// Whether the call ended so, and out and err took just these bytes.
@@ -106,13 +124,13 @@ pub fn is_told<R: Threads + Wait + Sync>(
     rt: &R,
     alloc: Global,
     text: &[u8],
-    words: &[&str],
+    asked: Asked,
     streams: &Streams<'_>,
     status: Status,
     out: &[u8],
     err: &[u8],
 ) -> Result<bool, AllocError> {
-    let told = told(rt, alloc, text, words, streams)?;
+    let told = told(rt, alloc, text, asked, streams)?;
     Ok(is_ended(&told, status, out, err))
 }
 
@@ -121,13 +139,13 @@ pub fn is_right<R: Threads + Wait + Sync>(
     rt: &R,
     alloc: Global,
     text: &[u8],
-    words: &[&str],
+    asked: Asked,
     streams: &Streams<'_>,
     number: u8,
     printed: &str,
     line: &str,
 ) -> Result<bool, AllocError> {
-    let told = told(rt, alloc, text, words, streams)?;
+    let told = told(rt, alloc, text, asked, streams)?;
     Ok(
         told.outcome.status.number() == number
             && is_as(told.out.held(), printed)
@@ -135,14 +153,8 @@ pub fn is_right<R: Threads + Wait + Sync>(
     )
 }
 
-/// A text, the words behind it, the number of the status, and what is written to out and to err.
-pub type Row = (
-    &'static str,
-    &'static [&'static str],
-    u8,
-    &'static str,
-    &'static str,
-);
+/// A text, what is asked of it, the number of the status, and what is written to out and to err.
+pub type Row = (&'static str, Asked, u8, &'static str, &'static str);
 
 /// Asserts each row.
 pub fn each<R: Threads + Wait + Sync + Abort>(
@@ -150,9 +162,9 @@ pub fn each<R: Threads + Wait + Sync + Abort>(
     alloc: Global,
     rows: &[Row],
 ) -> Result<(), AllocError> {
-    for (source, words, number, printed, line) in rows {
+    for (source, asked, number, printed, line) in rows {
         let text = source.as_bytes();
-        let is_right = is_right(rt, alloc, text, words, &SURE, *number, printed, line)?;
+        let is_right = is_right(rt, alloc, text, *asked, &SURE, *number, printed, line)?;
         if !is_right {
             rt.panic(*source);
         }

@@ -1,43 +1,48 @@
 // A call of each command.
 
-use crate::call::{BUILD, REPLAY, RUN, Row, SIM, each};
+use crate::call::{Asked, Row, each};
 use crate::programs::{COUNTING, MAIN};
 use crate::sims::CLIMBING;
 use std::test::Fail;
 
-const COMMANDS: [Row; 8] = [
+const COMMANDS: [Row; 7] = [
     (
         MAIN,
-        BUILD,
+        Asked::Build,
         0,
         "module ",
         "hls: built, 1 threads, weight 2, ",
     ),
-    ("int x;", BUILD, 1, "", "hls: refused E14: no main\n"),
+    ("int x;", Asked::Build, 1, "", "hls: refused E14: no main\n"),
     (
         COUNTING,
-        &["hls", "step", "--cycles", "11520"],
+        Asked::Step { cycles: 11_520 },
         0,
         "1\n2\n3\n",
         "hls: done, ",
     ),
     (
         COUNTING,
-        &["hls", "walk", "--threads", "0*1000000"],
+        Asked::Walk { steps: 1_000_000 },
         0,
         "1\n2\n3\n",
         "hls: ended, 16 steps\n",
     ),
-    (COUNTING, RUN, 0, "1\n2\n3\n", "hls: done, "),
+    (COUNTING, Asked::Run, 0, "1\n2\n3\n", "hls: done, "),
     (
         "//@ 5 0 -\nint main(void){return 0;}",
-        REPLAY,
+        Asked::Replay,
         8,
         "",
         "hls: bad entry 0\n",
     ),
-    (CLIMBING, SIM, 0, "", "hls: done, 2 cycles\n"),
-    (MAIN, &[], 2, "", "hls: usage\n"),
+    (
+        CLIMBING,
+        Asked::Sim { cycles: 2 },
+        0,
+        "",
+        "hls: done, 2 cycles\n",
+    ),
 ];
 
 fn command_rows() -> &'static [Row] {

@@ -1,6 +1,6 @@
 // Reads and writes that fail, and the number of each status.
 
-use crate::call::{BUILD, REPLAY, RUN, Row, SIM, SURE, Streams, is_ended, is_right, is_told, told};
+use crate::call::{Asked, Row, SURE, Streams, is_ended, is_right, is_told, told};
 use crate::programs::{COUNTING, ENDLESS, MAIN};
 use crate::sims::CLIMBING;
 use c_profile::Refusal;
@@ -16,25 +16,26 @@ const READ_FAULT: &str = "hls: read fault\n";
 
 const WRITE_FAULT: &[u8] = b"hls: write fault\n";
 
-const USAGE: &str = "hls: usage\n";
-
-/// A text and the words behind it.
-type Case = (&'static str, &'static [&'static str]);
+/// A text and what is asked of it.
+type Case = (&'static str, Asked);
 
 /// Calls of each command that answer alike each time, with much, with little and with nothing for out.
 const CASES: [Case; 12] = [
-    (MAIN, BUILD),
-    ("int x;", BUILD),
-    (COUNTING, &["hls", "step", "--cycles", "11520"]),
-    (COUNTING, &["hls", "step", "--cycles", "0"]),
-    (COUNTING, &["hls", "step", "--cycles", "9", "--vcd"]),
-    (COUNTING, &["hls", "walk", "--threads", "0*1000000"]),
-    (COUNTING, &["hls", "walk", "--threads", "0*15"]),
-    (COUNTING, RUN),
-    (ENDLESS, &["hls", "run", "--entries", "1", "--journal"]),
-    ("//@ 0 9 -\nint main(void){while (1) ; return 0;}", REPLAY),
-    ("//@ 5 0 -\nint main(void){return 0;}", REPLAY),
-    (CLIMBING, SIM),
+    (MAIN, Asked::Build),
+    ("int x;", Asked::Build),
+    (COUNTING, Asked::Step { cycles: 11_520 }),
+    (COUNTING, Asked::Step { cycles: 0 }),
+    (COUNTING, Asked::Dump { cycles: 9 }),
+    (COUNTING, Asked::Walk { steps: 1_000_000 }),
+    (COUNTING, Asked::Walk { steps: 15 }),
+    (COUNTING, Asked::Run),
+    (ENDLESS, Asked::Journal { entries: 1 }),
+    (
+        "//@ 0 9 -\nint main(void){while (1) ; return 0;}",
+        Asked::Replay,
+    ),
+    ("//@ 5 0 -\nint main(void){return 0;}", Asked::Replay),
+    (CLIMBING, Asked::Sim { cycles: 2 }),
 ];
 
 fn cases() -> &'static [Case] {
@@ -184,7 +185,7 @@ fn is_faulty<R: Threads + Wait + Sync>(
         errs: (err_chunk, err_fails),
         ..SURE
     };
-    let told = told(rt, alloc, source.as_bytes(), BUILD, &streams)?;
+    let told = told(rt, alloc, source.as_bytes(), Asked::Build, &streams)?;
     let out = out.min(text.len());
     let status = Status::WriteFault {
         out,
@@ -196,7 +197,7 @@ fn is_faulty<R: Threads + Wait + Sync>(
 #[test]
 fn tells_what_both_sinks_took(rt: HostRuntime) -> Result<(), Fail> {
     for source in [MAIN, COUNTING] {
-        let built = told(&rt, rt.alloc(), source.as_bytes(), BUILD, &SURE)?;
+        let built = told(&rt, rt.alloc(), source.as_bytes(), Asked::Build, &SURE)?;
         for fault in fault_rows() {
             let is_right = is_faulty(&rt, rt.alloc(), fault, source, built.out.held())?;
             assert!(rt; is_right);
@@ -205,28 +206,15 @@ fn tells_what_both_sinks_took(rt: HostRuntime) -> Result<(), Fail> {
     Ok(())
 }
 
-/// The second read of four bytes fails. Words are judged before a byte is read, and a text only where it is read to its end.
-const ORDER: [Row; 8] = [
-    ("int x", &["hls", "step"], 2, "", USAGE),
-    ("int x", BUILD, 3, "", READ_FAULT),
-    ("int x", RUN, 3, "", READ_FAULT),
-    (
-        "int x",
-        &["hls", "step", "--cycles", "9"],
-        3,
-        "",
-        READ_FAULT,
-    ),
-    (
-        "int x",
-        &["hls", "walk", "--threads", "0"],
-        3,
-        "",
-        READ_FAULT,
-    ),
-    ("modul", SIM, 3, "", READ_FAULT),
-    ("//@ 5 0 -\nint x", REPLAY, 3, "", READ_FAULT),
-    (MAIN, BUILD, 3, "", READ_FAULT),
+/// The second read of four bytes fails. A text is judged only where it is read to its end.
+const ORDER: [Row; 7] = [
+    ("int x", Asked::Build, 3, "", READ_FAULT),
+    ("int x", Asked::Run, 3, "", READ_FAULT),
+    ("int x", Asked::Step { cycles: 9 }, 3, "", READ_FAULT),
+    ("int x", Asked::Walk { steps: 1 }, 3, "", READ_FAULT),
+    ("modul", Asked::Sim { cycles: 2 }, 3, "", READ_FAULT),
+    ("//@ 5 0 -\nint x", Asked::Replay, 3, "", READ_FAULT),
+    (MAIN, Asked::Build, 3, "", READ_FAULT),
 ];
 
 fn order_rows() -> &'static [Row] {
@@ -234,18 +222,18 @@ fn order_rows() -> &'static [Row] {
 }
 
 #[test]
-fn judges_in_order(rt: HostRuntime) -> Result<(), Fail> {
+fn judges_what_is_read_to_its_end(rt: HostRuntime) -> Result<(), Fail> {
     let streams = Streams {
         reads: (4, &[2]),
         ..SURE
     };
-    for (text, words, number, printed, line) in order_rows() {
+    for (text, asked, number, printed, line) in order_rows() {
         let text = text.as_bytes();
         let is_right = is_right(
             &rt,
             rt.alloc(),
             text,
-            words,
+            *asked,
             &streams,
             *number,
             printed,

@@ -1,6 +1,6 @@
 // What is read as Verilog.
 
-use crate::call::{SIM, SURE, told};
+use crate::call::{Asked, SURE, told};
 use hls_tool::Status;
 use std::test::Fail;
 
@@ -16,7 +16,13 @@ pub const CLIMBING: &str =
 
 #[test]
 fn names_the_signal_of_a_loop(rt: HostRuntime) -> Result<(), Fail> {
-    let told = told(&rt, rt.alloc(), circle().as_bytes(), SIM, &SURE)?;
+    let told = told(
+        &rt,
+        rt.alloc(),
+        circle().as_bytes(),
+        Asked::Sim { cycles: 2 },
+        &SURE,
+    )?;
     let is_right = match &told.outcome.status {
         Status::Loop { signal } => signal.as_str() == "a_0",
         _ => false,

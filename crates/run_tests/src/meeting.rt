@@ -1,10 +1,11 @@
 // Workers that run side by side.
 
-use crate::call::{RUN, SURE, told_at};
 use crate::programs::{ADDING, COUNTING, PRINTING, sixty_three};
+use crate::runs::{ENTRIES, run};
 use hardware_threads::gate::Gate;
-use hls_tool::Status;
-use std::alloc::{AllocError, Global};
+use hls_commands::commands::Stop;
+use hls_status::status::Status;
+use std::alloc::Global;
 use std::process::Abort;
 use std::sync::Wait;
 use std::sync::atomic::{AtomicBool, AtomicU64, Ordering};
@@ -73,14 +74,14 @@ fn all_meet<R: Threads + Wait + Sync>(
     rt: &R,
     alloc: Global,
     text: &str,
-    words: &[&str],
+    entries: u32,
     workers: u32,
     status: Status,
-) -> Result<bool, AllocError> {
+) -> Result<bool, Stop> {
     let gate = Meeting::of(workers);
-    let told = told_at(rt, alloc, text.as_bytes(), words, &SURE, &gate)?;
+    let ran = run(rt, alloc, text.as_bytes(), entries, &gate)?;
     Ok(
-        told.outcome.status == status
+        ran.status == status
             && !gate.is_late.load(Ordering::SeqCst)
             && gate.before.load(Ordering::SeqCst) == gate.all
             && gate.after.load(Ordering::SeqCst) == gate.all,
@@ -97,7 +98,7 @@ fn meeting_rows() -> &'static [(&'static str, u32)] {
 #[test]
 fn workers_meet(rt: HostRuntime) -> Result<(), Fail> {
     for (text, workers) in meeting_rows() {
-        let met = all_meet(&rt, rt.alloc(), text, RUN, *workers, Status::Ok)?;
+        let met = all_meet(&rt, rt.alloc(), text, ENTRIES, *workers, Status::Ok)?;
         if !met {
             rt.panic(*text);
         }
@@ -108,8 +109,7 @@ fn workers_meet(rt: HostRuntime) -> Result<(), Fail> {
 /// As many workers as there can be. All have met before the first entry is made; of the run no more than its beginning is asked for.
 #[test]
 fn sixty_four_workers_meet(rt: HostRuntime) -> Result<(), Fail> {
-    let words = ["hls", "run", "--entries", "1"];
-    let met = all_meet(&rt, rt.alloc(), sixty_three(), &words, 64, Status::Entries)?;
+    let met = all_meet(&rt, rt.alloc(), sixty_three(), 1, 64, Status::Entries)?;
     assert!(rt; met);
     Ok(())
 }
