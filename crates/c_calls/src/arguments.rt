@@ -27,7 +27,7 @@ pub fn argument_offset(argument: &Argument) -> usize
     ensures { result ≡ spec.argument_offset argument.now }
 {
     match argument {
-        Argument::Value(value) => value.offset,
+        Argument::Value(value) => value.get().offset,
         Argument::Text(_, offset) => *offset,
         Argument::Address(_, offset) => *offset,
         Argument::Pointer(pointer) => pointer.offset,
@@ -101,7 +101,7 @@ pub fn value_argument(
     ensures { Walks expression_of (spec.value_argument scope.now argument.now found.old) result found.new }
 {
     match argument {
-        Argument::Value(value) => expression(alloc, scope, found, value),
+        Argument::Value(value) => expression(alloc, scope, found, value.get()),
         Argument::Text(_, _) | Argument::Address(_, _) | Argument::Pointer(_) => {
             refused_value(alloc, scope, found, argument)
         }
@@ -321,6 +321,7 @@ fn place_in(argument: &Argument) -> Option<(&Place, usize)>
     let Argument::Value(value) = argument else {
         return None;
     };
+    let value = value.get();
     match &value.form {
         Form::Place(place) => Some((place, value.offset)),
         _ => None,

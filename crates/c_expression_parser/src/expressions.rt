@@ -299,7 +299,7 @@ impl<F: Fn(Global, &mut Cursor<'_>, usize, Part) -> Result<Boxed<Expression>, Fa
         ensures { Steps (spec.read_value_argument (spec.read_expr room) cursor.old) result cursor.new }
     {
         let value = self.whole_inside(cursor, room)?;
-        Ok(Boxed::new(self.alloc, Argument::Value(value.into_inner()))?)
+        Ok(Boxed::new(self.alloc, Argument::Value(value))?)
     }
 
     /// An argument, where a level is left for it.

@@ -348,7 +348,7 @@ pub fn argument(
 {
     match argument {
         Argument::Value(value) => {
-            expression(alloc, scope, found, value)?;
+            expression(alloc, scope, found, value.get())?;
             Ok(())
         }
         Argument::Text(_, _) => Ok(()),

@@ -106,7 +106,7 @@ fn look_through(
 {
     match initializer {
         Initializer::Value(e) => {
-            expression(alloc, scope, found, e)?;
+            expression(alloc, scope, found, e.get())?;
             Ok(())
         }
         Initializer::List(list) => look_through_all(alloc, scope, found, list.as_slice()),
@@ -172,7 +172,7 @@ fn initial_of(
     ensures { Walks (λ v. v.items) (spec.initial_of name.now ty length initializer.now scope.now found.old) result found.new }
 {
     match (length, initializer) {
-        (None, Initializer::Value(e)) => one_value(alloc, scope, found, ty, e),
+        (None, Initializer::Value(e)) => one_value(alloc, scope, found, ty, e.get()),
         (Some(length), Initializer::List(list)) => {
             initial_values(alloc, scope, found, ty, length, list.as_slice())
         }

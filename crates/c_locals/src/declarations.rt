@@ -16,6 +16,7 @@ use c_rules::findings::{Findings, place};
 use c_rules::names::{Meaning, Scope, Variable};
 use c_rules::specifiers::{Spelled, spelled_by};
 use c_tree::{Declaration, Declarator, Expression, Name};
+use sqlite_items::Boxed;
 use std::alloc::{AllocError, Global};
 
 fn variable_in(meaning: Meaning) -> Option<Variable>
@@ -28,11 +29,11 @@ fn variable_in(meaning: Meaning) -> Option<Variable>
 }
 
 /// How many operators the length has, if there is one.
-fn operators_in(length: &Option<Expression>) -> u32
+fn operators_in(length: &Option<Boxed<Expression>>) -> u32
     ensures { result ≡ spec.operators_in length.now }
 {
     match length {
-        Some(length) => operator_count(length),
+        Some(length) => operator_count(length.get()),
         None => 0,
     }
 }
@@ -113,7 +114,7 @@ fn declared_step(
     ensures { Walks boxed_statement_of (spec.declared_step declared.now meaning declared.now.initializer scope.now found.old) result found.new }
 {
     match &declared.initializer {
-        Some(value) => initialised(alloc, scope, found, &declared.name, meaning, value),
+        Some(value) => initialised(alloc, scope, found, &declared.name, meaning, value.get()),
         None => uninitialised(declared, meaning).boxed(alloc),
     }
 }

@@ -10,6 +10,7 @@ use c_rules::fault::Rule;
 use c_rules::findings::Findings;
 use c_rules::names::Scope;
 use c_tree::Expression;
+use sqlite_items::Boxed;
 use std::alloc::{AllocError, Global};
 
 /// A positive number, as far as a length goes.
@@ -66,13 +67,13 @@ pub fn optional_length(
     alloc: Global,
     scope: &Scope<'_>,
     found: &mut Findings,
-    written: &Option<Expression>,
+    written: &Option<Boxed<Expression>>,
 ) -> Result<Option<u64>, AllocError>
     ensures { Walks (λ n. n) (spec.optional_length written.now scope.now found.old) result found.new }
 {
     match written {
         Some(e) => {
-            let length = array_length(alloc, scope, found, e)?;
+            let length = array_length(alloc, scope, found, e.get())?;
             Ok(Some(length))
         }
         None => Ok(None),

@@ -19,7 +19,7 @@ use c_tree::{
     Initializer, Name, Parameter, Sign, Specifiers, TranslationUnit,
 };
 use grammar::{Fault, too_deep};
-use sqlite_items::Items;
+use sqlite_items::{Boxed, Items};
 use std::alloc::Global;
 
 // ---- parameters
@@ -121,7 +121,11 @@ fn parameters(
 
 /// A comma and one more value.
 #[tactic(auto, unfolding(c_reading::specs::Tokens::read_next))]
-fn next_value(alloc: Global, cursor: &mut Cursor<'_>, room: usize) -> Result<Expression, Fault>
+fn next_value(
+    alloc: Global,
+    cursor: &mut Cursor<'_>,
+    room: usize,
+) -> Result<Boxed<Expression>, Fault>
     ensures { Steps (tokens_of.read_next (read_expr room) cursor.old) result cursor.new }
 {
     cursor.mark(Punctuator::Comma)?;
@@ -133,17 +137,17 @@ fn values(
     alloc: Global,
     cursor: &mut Cursor<'_>,
     room: usize,
-    first: Expression,
+    first: Boxed<Expression>,
 ) -> Result<Items<Expression>, Fault>
     ensures { Steps (spec.read_values room first cursor.old) result cursor.new }
 {
     let mut found = Items::new(alloc);
-    found.push(first)?;
+    found.push(first.into_inner())?;
     for _turn in 0..cursor.left() {
         if !cursor.begins_next_value() {
             return Ok(found);
         }
-        found.push(next_value(alloc, cursor, room)?)?;
+        found.push(next_value(alloc, cursor, room)?.into_inner())?;
     }
     Ok(found)
 }

@@ -190,7 +190,7 @@ pub fn simple(
     let offset = statement.offset;
     match &statement.form {
         SimpleForm::Assign(place, operator, value) => {
-            assign(alloc, scope, found, offset, place, *operator, value)
+            assign(alloc, scope, found, offset, place, *operator, value.get())
         }
         SimpleForm::Step(place, direction) => step(alloc, scope, found, offset, place, *direction),
         SimpleForm::Call(inner) => call(alloc, scope, found, place(offset), inner),
@@ -225,7 +225,7 @@ fn may_return(gives: Gives, value: &Returned) -> bool
         (Gives::Nothing, Returned::Nothing) => true,
         (Gives::Integer, Returned::Value(_)) => true,
         (Gives::Pointer, Returned::Pointer(_)) => true,
-        (Gives::Pointer, Returned::Value(e)) => is_zero(e),
+        (Gives::Pointer, Returned::Value(e)) => is_zero(e.get()),
         _ => false,
     }
 }
@@ -242,7 +242,7 @@ fn right_of(
     match value {
         Returned::Nothing => Ok(None),
         Returned::Value(e) => {
-            let right = right_side(alloc, scope, found, e)?;
+            let right = right_side(alloc, scope, found, e.get())?;
             Ok(Some(right))
         }
         Returned::Pointer(inner) => {

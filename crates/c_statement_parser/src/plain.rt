@@ -29,7 +29,7 @@ pub fn inside(room: usize) -> usize
 
 // ---- what is read of expressions
 
-fn boxed_value(
+pub fn value(
     alloc: Global,
     cursor: &mut Cursor<'_>,
     room: usize,
@@ -39,25 +39,8 @@ fn boxed_value(
     expression(alloc, cursor, room, Part::Whole)
 }
 
-/// The same out of its box.
-pub fn value(alloc: Global, cursor: &mut Cursor<'_>, room: usize) -> Result<Expression, Fault>
-    ensures { Steps (expressions_of.read_expr room cursor.old) result cursor.new }
-{
-    Ok(boxed_value(alloc, cursor, room)?.into_inner())
-}
-
-/// What is in the box, if there is one.
-pub fn unboxed<T>(boxed: Option<Boxed<T>>) -> Option<T>
-    ensures { result ≡ boxed }
-{
-    match boxed {
-        Some(inner) => Some(inner.into_inner()),
-        None => None,
-    }
-}
-
 /// What stands between brackets, if there are any.
-fn boxed_index(
+pub fn optional_index(
     alloc: Global,
     cursor: &mut Cursor<'_>,
     room: usize,
@@ -69,17 +52,6 @@ fn boxed_index(
         read: expression,
     };
     rules.optional_index(cursor, room)
-}
-
-/// The same out of its box.
-pub fn optional_index(
-    alloc: Global,
-    cursor: &mut Cursor<'_>,
-    room: usize,
-) -> Result<Option<Expression>, Fault>
-    ensures { Steps (expressions_of.read_optional_index (expressions_of.read_expr room) room cursor.old) result cursor.new }
-{
-    Ok(unboxed(boxed_index(alloc, cursor, room)?))
 }
 
 fn place(alloc: Global, cursor: &mut Cursor<'_>, room: usize) -> Result<Place, Fault>
@@ -185,8 +157,8 @@ fn assigned(
 {
     let offset = name.offset;
     let operator = cursor.assignment_operator()?;
-    let value = boxed_value(alloc, cursor, room)?;
-    let form = SimpleForm::Assign(Place { name, index }, operator, value.into_inner());
+    let value = value(alloc, cursor, room)?;
+    let form = SimpleForm::Assign(Place { name, index }, operator, value);
     Ok(boxed_simple(alloc, form, offset)?)
 }
 
@@ -200,7 +172,7 @@ fn changed(
 ) -> Result<Boxed<SimpleStatement>, Fault>
     ensures { Steps (spec.read_changed room (spec.below room) name cursor.old) result cursor.new }
 {
-    let index = boxed_index(alloc, cursor, inside(room))?;
+    let index = optional_index(alloc, cursor, inside(room))?;
     if cursor.sees_direction() {
         step_behind(alloc, cursor, room, name, index)
     } else {
@@ -253,7 +225,7 @@ fn initial_value(
     ensures { Steps (spec.read_value room (spec.below room) cursor.old) result cursor.new }
 {
     cursor.mark(Punctuator::Assign)?;
-    boxed_value(alloc, cursor, room)
+    value(alloc, cursor, room)
 }
 
 /// The same, if there is one.
@@ -280,12 +252,12 @@ fn declarator(
     ensures { Steps (spec.read_declarator room (spec.below room) cursor.old) result cursor.new }
 {
     let name = cursor.name(alloc)?;
-    let length = boxed_index(alloc, cursor, inside(room))?;
+    let length = optional_index(alloc, cursor, inside(room))?;
     let initializer = optional_value(alloc, cursor, room)?;
     let declarator = Declarator {
         name,
-        length: unboxed(length),
-        initializer: unboxed(initializer),
+        length,
+        initializer,
     };
     Ok(Boxed::new(alloc, declarator)?)
 }
@@ -365,7 +337,7 @@ fn simple_statement(
 {
     let simple = simple(alloc, cursor, room)?;
     cursor.mark(Punctuator::Semicolon)?;
-    Ok(Boxed::new(alloc, Statement::Simple(simple.into_inner()))?)
+    Ok(Boxed::new(alloc, Statement::Simple(simple))?)
 }
 
 #[tactic(auto, unfolding(c_reading::specs::Statements::read_empty))]
@@ -426,8 +398,8 @@ fn returned_value(
 ) -> Result<Boxed<Returned>, Fault>
     ensures { Steps (spec.read_returned_value room (spec.below room) cursor.old) result cursor.new }
 {
-    let value = boxed_value(alloc, cursor, room)?;
-    Ok(Boxed::new(alloc, Returned::Value(value.into_inner()))?)
+    let value = value(alloc, cursor, room)?;
+    Ok(Boxed::new(alloc, Returned::Value(value))?)
 }
 
 #[tactic(auto, unfolding(c_reading::specs::Statements::read_returned))]
@@ -496,7 +468,7 @@ pub fn condition(
         return Err(too_deep(cursor.sees(Sign::Mark(Punctuator::OpenRound)), false));
     }
     cursor.mark(Punctuator::OpenRound)?;
-    let value = boxed_value(alloc, cursor, room)?;
+    let value = value(alloc, cursor, room)?;
     cursor.mark(Punctuator::CloseRound)?;
     Ok(value)
 }
@@ -523,7 +495,7 @@ fn simple_start(
 {
     let simple = simple(alloc, cursor, room)?;
     cursor.mark(Punctuator::Semicolon)?;
-    Ok(Boxed::new(alloc, ForStart::Simple(simple.into_inner()))?)
+    Ok(Boxed::new(alloc, ForStart::Simple(simple))?)
 }
 
 #[tactic(auto, unfolding(c_reading::specs::Statements::read_no_start))]
@@ -559,7 +531,7 @@ fn optional_expression(
     if !cursor.begins_cast() {
         return Ok(None);
     }
-    Ok(Some(boxed_value(alloc, cursor, room)?))
+    Ok(Some(value(alloc, cursor, room)?))
 }
 
 #[tactic(auto, unfolding(c_reading::specs::Statements::read_optional_simple))]

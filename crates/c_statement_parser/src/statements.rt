@@ -8,7 +8,7 @@ ghost use Rattle.c_reading.specs.Tokens as tokens_of;
 ghost use Rattle.c_reading.specs.Statements as spec;
 ghost use Rattle.c_statement_parser.specs.NestsStatements.{NestsStatements};
 
-use crate::plain::{condition, declaration, for_head, plain_statement, unboxed};
+use crate::plain::{condition, declaration, for_head, plain_statement};
 use c_cursor::Cursor;
 use c_token::{Keyword, Punctuator};
 use c_tree::{Block, BlockItem, Sign, Statement};
@@ -132,7 +132,7 @@ impl<F: Fn(Global, &mut Cursor<'_>, usize) -> Result<Boxed<Statement>, Fault>> B
         let condition = condition(self.alloc, cursor, room)?;
         let body = self.body(cursor, room)?;
         let other = self.other(cursor, room)?;
-        let branch = Statement::If(condition.into_inner(), body, other);
+        let branch = Statement::If(condition, body, other);
         Ok(Boxed::new(self.alloc, branch)?)
     }
 
@@ -144,7 +144,7 @@ impl<F: Fn(Global, &mut Cursor<'_>, usize) -> Result<Boxed<Statement>, Fault>> B
         cursor.word(Keyword::While)?;
         let condition = condition(self.alloc, cursor, room)?;
         let body = self.body(cursor, room)?;
-        let while_loop = Statement::While(condition.into_inner(), body);
+        let while_loop = Statement::While(condition, body);
         Ok(Boxed::new(self.alloc, while_loop)?)
     }
 
@@ -158,7 +158,7 @@ impl<F: Fn(Global, &mut Cursor<'_>, usize) -> Result<Boxed<Statement>, Fault>> B
         cursor.word(Keyword::While)?;
         let condition = condition(self.alloc, cursor, room)?;
         cursor.mark(Punctuator::Semicolon)?;
-        let do_loop = Statement::DoWhile(body, condition.into_inner());
+        let do_loop = Statement::DoWhile(body, condition);
         Ok(Boxed::new(self.alloc, do_loop)?)
     }
 
@@ -185,7 +185,7 @@ impl<F: Fn(Global, &mut Cursor<'_>, usize) -> Result<Boxed<Statement>, Fault>> B
         cursor.word(Keyword::For)?;
         let head = for_head(self.alloc, cursor, room)?;
         let ((start, condition, step), body) = self.with_body(cursor, room, head)?;
-        let for_loop = Statement::For(start.into_inner(), unboxed(condition), unboxed(step), body);
+        let for_loop = Statement::For(start, condition, step, body);
         Ok(Boxed::new(self.alloc, for_loop)?)
     }
 

@@ -45,7 +45,7 @@ fn for_start<'t>(
     match start {
         ForStart::Nothing => resolved::Statement::Done.boxed(alloc),
         ForStart::Declaration(declared) => declared_start(alloc, scope, found, declared),
-        ForStart::Simple(inner) => simple(alloc, scope, found, inner),
+        ForStart::Simple(inner) => simple(alloc, scope, found, inner.get()),
     }
 }
 
@@ -54,12 +54,12 @@ fn for_condition(
     alloc: Global,
     scope: &Scope<'_>,
     found: &mut Findings,
-    test: &Option<Expression>,
+    test: &Option<Boxed<Expression>>,
 ) -> Result<resolved::Condition, AllocError>
     ensures { Walks condition_of (spec.for_condition test.now scope.now found.old) result found.new }
 {
     match test {
-        Some(test) => condition(alloc, scope, found, test),
+        Some(test) => condition(alloc, scope, found, test.get()),
         None => {
             let one = resolved::Expression::Constant(CType::INT, 1);
             Ok(resolved::Condition::Operand(0, Box::new(alloc, one)?))
@@ -72,12 +72,12 @@ fn for_step(
     alloc: Global,
     scope: &Scope<'_>,
     found: &mut Findings,
-    step: &Option<SimpleStatement>,
+    step: &Option<Boxed<SimpleStatement>>,
 ) -> Result<Box<resolved::Statement>, AllocError>
     ensures { Walks boxed_statement_of (spec.for_step step.now scope.now found.old) result found.new }
 {
     match step {
-        Some(inner) => simple(alloc, scope, found, inner),
+        Some(inner) => simple(alloc, scope, found, inner.get()),
         None => resolved::Statement::Done.boxed(alloc),
     }
 }
@@ -89,8 +89,8 @@ fn for_head<'t>(
     scope: &mut Scope<'t>,
     found: &mut Findings,
     start: &'t ForStart,
-    test: &Option<Expression>,
-    step: &Option<SimpleStatement>,
+    test: &Option<Boxed<Expression>>,
+    step: &Option<Boxed<SimpleStatement>>,
 ) -> Result<
     (
         Box<resolved::Statement>,
@@ -134,8 +134,8 @@ fn for_loop<'t>(
     found: &mut Findings,
     body: &'t Statement,
     start: &'t ForStart,
-    test: &Option<Expression>,
-    step: &Option<SimpleStatement>,
+    test: &Option<Boxed<Expression>>,
+    step: &Option<Boxed<SimpleStatement>>,
 ) -> Result<Box<resolved::Statement>, AllocError>
     ensures { Walks boxed_statement_of (spec.for_loop start.now test.now step.now (spec.statement body.now) (state scope.old found.old))
         result (state scope.new found.new) }
@@ -280,7 +280,7 @@ fn statement<'t>(
             block_of(alloc, body)
         }
         Statement::Empty => resolved::Statement::Empty.boxed(alloc),
-        Statement::Simple(inner) => simple(alloc, scope, found, inner),
+        Statement::Simple(inner) => simple(alloc, scope, found, inner.get()),
         Statement::Break(offset) => {
             jump(alloc, scope, found, resolved::Statement::Break, *offset)
         }
@@ -288,15 +288,15 @@ fn statement<'t>(
             jump(alloc, scope, found, resolved::Statement::Continue, *offset)
         }
         Statement::If(test, consequent, other) => {
-            let test = condition(alloc, scope, found, test)?;
+            let test = condition(alloc, scope, found, test.get())?;
             let consequent = statement(alloc, scope, found, consequent.get())?;
             let other = alternative(alloc, scope, found, other)?;
             if_of(alloc, test, consequent, other)
         }
-        Statement::While(test, body) => while_loop(alloc, scope, found, body.get(), test),
-        Statement::DoWhile(body, test) => do_while(alloc, scope, found, body.get(), test),
+        Statement::While(test, body) => while_loop(alloc, scope, found, body.get(), test.get()),
+        Statement::DoWhile(body, test) => do_while(alloc, scope, found, body.get(), test.get()),
         Statement::For(start, test, step, body) => {
-            for_loop(alloc, scope, found, body.get(), start, test, step)
+            for_loop(alloc, scope, found, body.get(), start.get(), test, step)
         }
         Statement::Return(value, offset) => returned(alloc, scope, found, value, *offset),
     }

@@ -2,7 +2,7 @@
 
 use crate::expression::{Expression, Name, Specifiers};
 use crate::statement::Block;
-use sqlite_items::Items;
+use sqlite_items::{Boxed, Items};
 
 /// Variables of a block.
 pub struct Declaration {
@@ -14,9 +14,9 @@ pub struct Declaration {
 pub struct Declarator {
     pub name: Name,
     /// Between brackets.
-    pub length: Option<Expression>,
+    pub length: Option<Boxed<Expression>>,
     /// Behind `=`.
-    pub initializer: Option<Expression>,
+    pub initializer: Option<Boxed<Expression>>,
 }
 
 /// A whole text.
@@ -60,14 +60,14 @@ pub struct GlobalDeclaration {
 pub struct GlobalDeclarator {
     pub name: Name,
     /// Between brackets.
-    pub length: Option<Expression>,
+    pub length: Option<Boxed<Expression>>,
     /// Behind `=`.
     pub initializer: Option<Initializer>,
 }
 
 /// What stands behind the `=` of a global (C99 6.7.8).
 pub enum Initializer {
-    Value(Expression),
+    Value(Boxed<Expression>),
     /// Between braces; at least one.
     List(Items<Expression>),
     /// `PTHREAD_MUTEX_INITIALIZER`

@@ -145,7 +145,7 @@ pub struct Call {
 #[cycle(expressions)]
 #[derive(Drop)]
 pub enum Argument {
-    Value(Expression),
+    Value(Boxed<Expression>),
     /// The bytes between the quotes of a string literal as they are written, and the place of its first quote.
     Text(Items<u8>, usize),
     /// `&` and a place, and the place of the `&` in the text.

@@ -27,7 +27,7 @@ pub struct SimpleStatement {
 
 /// What a simple statement is made of.
 pub enum SimpleForm {
-    Assign(Place, AssignmentOperator, Expression),
+    Assign(Place, AssignmentOperator, Boxed<Expression>),
     /// `++` or `--`, before the place or behind it.
     Step(Place, Direction),
     Call(Call),
@@ -36,7 +36,7 @@ pub enum SimpleForm {
 /// What a `return` gives back.
 pub enum Returned {
     Nothing,
-    Value(Expression),
+    Value(Boxed<Expression>),
     Pointer(Pointer),
 }
 
@@ -44,7 +44,7 @@ pub enum Returned {
 pub enum ForStart {
     Nothing,
     Declaration(Declaration),
-    Simple(SimpleStatement),
+    Simple(Boxed<SimpleStatement>),
 }
 
 /// `{`, declarations and statements, `}`.
@@ -71,16 +71,21 @@ pub enum Statement {
     Block(Block),
     /// `;`
     Empty,
-    Simple(SimpleStatement),
+    Simple(Boxed<SimpleStatement>),
     Break(usize),
     Continue(usize),
     /// The condition, the statement where it holds, and the one behind `else`.
-    If(Expression, Boxed<Statement>, Option<Boxed<Statement>>),
-    While(Expression, Boxed<Statement>),
+    If(Boxed<Expression>, Boxed<Statement>, Option<Boxed<Statement>>),
+    While(Boxed<Expression>, Boxed<Statement>),
     /// `do` the statement `while` the condition holds.
-    DoWhile(Boxed<Statement>, Expression),
+    DoWhile(Boxed<Statement>, Boxed<Expression>),
     /// The start, the condition, the step and the body.
-    For(ForStart, Option<Expression>, Option<SimpleStatement>, Boxed<Statement>),
+    For(
+        Boxed<ForStart>,
+        Option<Boxed<Expression>>,
+        Option<Boxed<SimpleStatement>>,
+        Boxed<Statement>,
+    ),
     Return(Returned, usize),
 }
 
