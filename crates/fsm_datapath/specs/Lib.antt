@@ -1,4 +1,5 @@
-pub use Rattle.thread_steady.specs.Steady
-pub use Rattle.thread_runs.specs.Runs
-pub use Rattle.thread_sound.specs.Leaf
-pub use Rattle.thread_sound.specs.Routine
+pub mod Runs
+pub mod Leaf
+pub mod Naming
+pub mod Routine
+pub mod Steady

@@ -1,11 +1,11 @@
 // The module of a thread.
 
 ghost use Rattle.std.specs.Prelude.{IfOk};
-ghost use Rattle.thread_runs.specs.Runs.{RunsServedCode, ServesCode};
-ghost use Rattle.thread_sound.specs.Leaf.{IsLeafOfServedCode};
-ghost use Rattle.thread_sound.specs.Naming.{NamesServedVariables};
-ghost use Rattle.thread_sound.specs.Routine.{IsRoutineOfServedCode};
-ghost use Rattle.thread_steady.specs.Steady.{IsSteadyServedCode};
+ghost use Rattle.fsm_datapath.specs.Runs.{RunsServedCode, ServesCode};
+ghost use Rattle.fsm_datapath.specs.Leaf.{IsLeafOfServedCode};
+ghost use Rattle.fsm_datapath.specs.Naming.{NamesServedVariables};
+ghost use Rattle.fsm_datapath.specs.Routine.{IsRoutineOfServedCode};
+ghost use Rattle.fsm_datapath.specs.Steady.{IsSteadyServedCode};
 
 use block_ir::code::ThreadCode;
 use block_ir::plan::Planned;

@@ -17,10 +17,10 @@ use Rattle.cycle_sim.proofs.Printing.{one_printer}
 use Rattle.cycle_sim.proofs.Right.{right_of_sound}
 use Rattle.cycle_sim.proofs.Taking.{turns_taken}
 use Rattle.journal_text.specs.declared.entry.Entry.{Entry}
-use Rattle.replay_command.specs.Lines.{summary}
-use Rattle.replay_command.specs.declared.replay.ReplayAnswer.{ReplayAnswer}
-use Rattle.replay_command.specs.declared.replay.ReplayAnswer.TheVariants as answers
-use Rattle.replay_command.specs.Replays.{AreRun, IsReplayAnswer}
+use Rattle.run_command.specs.Lines.{summary}
+use Rattle.run_command.specs.declared.replay.ReplayAnswer.{ReplayAnswer}
+use Rattle.run_command.specs.declared.replay.ReplayAnswer.TheVariants as answers
+use Rattle.run_command.specs.Replays.{AreRun, IsReplayAnswer}
 use Rattle.slot_sim.specs.Slots.{IsThreadedIn}
 use Rattle.journal_laws.specs.declared.verdict.Verdict.{Verdict}
 use Rattle.journal_laws.specs.declared.verdict.Verdict.TheVariants as verdicts

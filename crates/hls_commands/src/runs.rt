@@ -6,7 +6,7 @@ ghost use Rattle.c_program.specs.Plain.{program_of};
 ghost use Rattle.c_program.specs.Weight.{thread_count};
 ghost use Rattle.hls_compile.specs.Compiled.{IsCompiled};
 ghost use Rattle.run_command.specs.Runs.{IsRunAnswer};
-ghost use Rattle.replay_command.specs.Replays.{IsReplayAnswer};
+ghost use Rattle.run_command.specs.Replays.{IsReplayAnswer};
 ghost use Rattle.hls_commands.specs.Answers.{Gave, GaveJournal, IsRunBy, most_replayed, verdict_status};
 ghost use Rattle.hls_commands.specs.Inside.{IsAnswerOf, IsReplayOrBad, StopsBy, due_of};
 
@@ -21,7 +21,7 @@ use hls_status::status::Status;
 use journal_laws::verdict::Verdict;
 use journal_text::entry::Entry;
 use journal_text::text::{JournalText, parted};
-use replay_command::replay::{ReplayAnswer, replay_net};
+use run_command::replay::{ReplayAnswer, replay_net};
 use run_command::run::{RunAnswer, run_net};
 use sqlite_items::Items;
 use std::alloc::{AllocError, Global};

@@ -6,7 +6,7 @@ ghost use Rattle.hls_status.specs.Lines as lines;
 use c_interpreter::walk::WalkEnd;
 use c_limits::Passed;
 use c_profile::Refusal;
-use c_types::Rule;
+use c_rules::fault::Rule;
 use hls_ints::ArithmeticFault;
 use std::alloc::{AllocError, Global};
 use thread_semantics::{BlockedCause, UndefinedCause};

@@ -17,7 +17,7 @@ use Rattle.journal_text.specs.declared.entry.Entry as code
 use Rattle.journal_laws.specs.declared.verdict.Verdict.{Verdict}
 use Rattle.journal_laws.specs.declared.verdict.Verdict.TheVariants as verdict
 use Rattle.hardware_threads.specs.Run.{IsRan}
-use Rattle.replay_command.specs.Replays.{AreRun}
+use Rattle.run_command.specs.Replays.{AreRun}
 
 -- the program has an interleaving that printed what its net wrote on the way to state h; it is ended exactly where the net shows done, and deadlocked
 -- where no thread of the net can move

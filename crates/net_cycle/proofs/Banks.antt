@@ -21,11 +21,11 @@ use Rattle.thread_promise.specs.Promise.{is_run}
 use Rattle.bank_memory.specs.Cycle.{IsAskFor, AreBanked, Works, Does, Elsewhere}
 use Rattle.bank_memory.proofs.Accessing.{request_is, request_now, spread_of}
 use Rattle.bank_memory.proofs.Finding.{IsFound, find, stopped_is_silent}
-use Rattle.thread_cycle.specs.Thread as thread
-use Rattle.thread_cycle.specs.Thread.{Thread, Runs, IsThread, Where, AtAct, AtRest, AtMeeting}
-use Rattle.thread_cycle.specs.Asks.{AsksFor, IsWanted, Asks}
-use Rattle.thread_cycle.proofs.Moving.{bank_below}
-use Rattle.thread_cycle.proofs.Standing.{same_block}
+use Rattle.net_cycle.specs.Thread as thread
+use Rattle.net_cycle.specs.Thread.{Thread, Runs, IsThread, Where, AtAct, AtRest, AtMeeting}
+use Rattle.net_cycle.specs.Asks.{AsksFor, IsWanted, Asks}
+use Rattle.net_cycle.proofs.Moving.{bank_below}
+use Rattle.net_cycle.proofs.Standing.{same_block}
 
 bit_asks : (c : Bool) → nat_lt 0 (bit_of c) ≡ c
 bit_asks true = refl

@@ -40,11 +40,11 @@ use Rattle.bank_memory.specs.Laws.{owner_of}
 use Rattle.bank_memory.specs.Cycle.{memory_next}
 use Rattle.bank_memory.proofs.Owning.{places_are_owned}
 use Rattle.bank_memory.proofs.Partitioned.{there}
-use Rattle.thread_cycle.specs.Thread.{Thread, rest}
-use Rattle.thread_cycle.specs.Asks.{AsksAct}
-use Rattle.thread_cycle.specs.Moved as moved
-use Rattle.thread_cycle.specs.Moved.{Moved, IsRefused, Lost, Ungranted}
-use Rattle.thread_cycle.proofs.Moving.{core_in_is, beats}
+use Rattle.net_cycle.specs.Thread.{Thread, rest}
+use Rattle.net_cycle.specs.Asks.{AsksAct}
+use Rattle.net_cycle.specs.Moved as moved
+use Rattle.net_cycle.specs.Moved.{Moved, IsRefused, Lost, Ungranted}
+use Rattle.net_cycle.proofs.Moving.{core_in_is, beats}
 use Rattle.net_cycle.specs.Built.{Parts, IsBuilt, numbers_of, core_machine, core_count, thread_at}
 use Rattle.net_cycle.specs.Stage.{Stage, cores_shown, look, news, winner, asks_of, granted_to, next_net, printed_now}
 use Rattle.net_cycle.specs.Going.{in_block, IsAdvance, Goes, Keeps, Advanced, Woke, Acted, Returned}

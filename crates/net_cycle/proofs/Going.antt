@@ -35,12 +35,12 @@ use Rattle.planned_threads.specs.Surroundings.{routine_of, Sets_out, Goes_on}
 use Rattle.core_family.specs.Family.{CoreShape, Bank, Mutex, Barrier, Forks, Prints, machine_of}
 use Rattle.bank_memory.specs.Cycle.{Does, InBlock}
 use Rattle.bank_memory.specs.Partition.{globals_of}
-use Rattle.thread_cycle.specs.Thread as thread
-use Rattle.thread_cycle.specs.Thread.{Thread, rest, Runs, Where, AtAct, AtRest, AtMeeting}
-use Rattle.thread_cycle.specs.Moved as moved
-use Rattle.thread_cycle.specs.Moved.{Moved}
-use Rattle.thread_cycle.proofs.Standing.{inside_of}
-use Rattle.thread_cycle.proofs.Staying.{granted_accesses}
+use Rattle.net_cycle.specs.Thread as thread
+use Rattle.net_cycle.specs.Thread.{Thread, rest, Runs, Where, AtAct, AtRest, AtMeeting}
+use Rattle.net_cycle.specs.Moved as moved
+use Rattle.net_cycle.specs.Moved.{Moved}
+use Rattle.net_cycle.proofs.Standing.{inside_of}
+use Rattle.net_cycle.proofs.Staying.{granted_accesses}
 use Rattle.net_cycle.specs.Built.{Parts, IsBuilt, numbers_of, core_at, thread_at}
 use Rattle.net_cycle.specs.Stage.{Stage, StepOf, shown_as, cores_shown, news, asks_of, granted_to}
 use Rattle.net_cycle.specs.Going.{in_block, IsAdvance, Goes, Keeps, Advanced, Woke, Acted, Returned}

@@ -13,4 +13,8 @@ pub mod Cycling
 pub mod Fitting
 pub mod Clocking
 pub mod Starting
-pub use Rattle.thread_cycle.proofs.Standing
+pub mod Standing
+pub mod Moving
+pub mod Asking
+pub mod Staying
+pub mod Stepping

@@ -14,8 +14,8 @@ use Rattle.leaf_machine.specs.Settled.{IsSlot}
 use Rattle.bank_memory.specs.Cycle.{Does}
 use Rattle.bank_memory.specs.Partition.{globals_of}
 use Rattle.bank_memory.proofs.Net.{net_holds}
-use Rattle.thread_cycle.specs.Thread.{Stands}
-use Rattle.thread_cycle.specs.Moved.{Moved}
+use Rattle.net_cycle.specs.Thread.{Stands}
+use Rattle.net_cycle.specs.Moved.{Moved}
 use Rattle.net_cycle.specs.Built.{Parts, IsBuilt, core_machine, core_count, thread_at}
 use Rattle.net_cycle.specs.Stage.{Stage, news, next_net, granted_to, asks_of, cores_shown}
 use Rattle.net_cycle.specs.Going.{Goes}

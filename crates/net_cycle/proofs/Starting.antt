@@ -22,7 +22,7 @@ use Rattle.core_family.specs.Family.{CoreShape, Bank, Mutex, Barrier, Forks, Pri
 use Rattle.core_family.specs.Laws.{FitsFirst}
 use Rattle.core_family.proofs.Telling.{each_keeps_fitting}
 use Rattle.bank_memory.proofs.Net.{net_starts as banks_start}
-use Rattle.thread_cycle.proofs.Moving.{thread_starts}
+use Rattle.net_cycle.proofs.Moving.{thread_starts}
 use Rattle.net_cycle.specs.Built.{Parts, IsBuilt, Machine, numbers_of, core_at, core_machine, core_count, thread_at}
 use Rattle.net_cycle.specs.Stage.{Stage, shown_as}
 use Rattle.net_cycle.specs.Cycle.{First, NetStarts}

@@ -16,9 +16,9 @@ use Rattle.core_family.proofs.Telling.{each_keeps_fitting}
 use Rattle.bank_memory.specs.Cycle.{AreBanked}
 use Rattle.bank_memory.specs.Partition.{globals_of}
 use Rattle.bank_memory.proofs.Partitioned.{there, total, some_banks, bank_below, partition_is_banked, words_fit}
-use Rattle.thread_cycle.specs.Thread.{Thread, IsThread, AreWide, IsNews}
-use Rattle.thread_cycle.specs.Steps.{Fits}
-use Rattle.thread_cycle.proofs.Stepping.{thread_steps, thread_is_done}
+use Rattle.net_cycle.specs.Thread.{Thread, IsThread, AreWide, IsNews}
+use Rattle.net_cycle.specs.Steps.{Fits}
+use Rattle.net_cycle.proofs.Stepping.{thread_steps, thread_is_done}
 use Rattle.net_cycle.specs.Built.{Parts, IsBuilt, numbers_of, core_at, core_machine, core_count, thread_at}
 use Rattle.net_cycle.specs.Stage.{Stage, held, news, asks_of, granted_to}
 use Rattle.net_cycle.specs.Laws.{BuiltAreThreads, ThreadsAreDone, EachSteps}

@@ -28,7 +28,7 @@ use Rattle.core_family.specs.Laws.{FitsState}
 use Rattle.core_family.proofs.Telling.{each_keeps_fitting}
 use Rattle.bank_memory.specs.Laws.{owner_of}
 use Rattle.bank_memory.proofs.Partitioned.{there}
-use Rattle.thread_cycle.specs.Asks.{AsksAct}
+use Rattle.net_cycle.specs.Asks.{AsksAct}
 use Rattle.net_cycle.specs.Built.{Parts, IsBuilt, numbers_of, core_at, core_machine, core_count}
 use Rattle.net_cycle.specs.Stage.{Stage, FitsTold, shown_as, cores_shown, winner, asks_of, next_net, printed_now}
 use Rattle.net_cycle.specs.Laws.{WinsBank, WinsCore, Wins, CoreTurn, Stays, Given, EachTurns}

@@ -20,8 +20,8 @@ use Rattle.thread_promise.specs.Serving.{IsActCore}
 use Rattle.planned_threads.specs.Surroundings.{routine_of}
 use Rattle.core_family.specs.Family.{CoreShape, machine_of}
 use Rattle.core_family.proofs.Waiting.{each_waits}
-use Rattle.thread_cycle.specs.Thread.{Thread}
-use Rattle.thread_cycle.specs.Asks.{AsksAct}
+use Rattle.net_cycle.specs.Thread.{Thread}
+use Rattle.net_cycle.specs.Asks.{AsksAct}
 use Rattle.net_cycle.specs.Built.{Parts, IsBuilt, numbers_of, core_at, core_machine, core_count, thread_at}
 use Rattle.net_cycle.specs.Stage.{Stage, StepOf, winner, asks_of}
 use Rattle.net_cycle.specs.Laws.{Wins, WinsBank, WinsCore, WhoWins}

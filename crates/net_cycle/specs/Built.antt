@@ -33,7 +33,7 @@ use Rattle.thread_promise.specs.Serving.{Ports, RunsCode}
 use Rattle.planned_threads.specs.Surroundings.{routine_of}
 use Rattle.planned_threads.specs.Laws.{AreCoded}
 use Rattle.bank_memory.specs.Partition.{globals_of, ArePartitioned}
-use Rattle.thread_cycle.specs.Thread.{Thread, StageLeads, ArePorts}
+use Rattle.net_cycle.specs.Thread.{Thread, StageLeads, ArePorts}
 
 -- ---- the parts
 

@@ -18,9 +18,9 @@ use Rattle.bank_memory.specs.Memory.{Holds}
 use Rattle.bank_memory.specs.Cycle.{memory_next}
 use Rattle.bank_memory.specs.Laws.{owner_of}
 use Rattle.bank_memory.specs.Partition.{globals_of}
-use Rattle.thread_cycle.specs.Thread.{IsThread, Stands}
-use Rattle.thread_cycle.specs.Asks.{AsksAct}
-use Rattle.thread_cycle.specs.Moved.{Moved}
+use Rattle.net_cycle.specs.Thread.{IsThread, Stands}
+use Rattle.net_cycle.specs.Asks.{AsksAct}
+use Rattle.net_cycle.specs.Moved.{Moved}
 use Rattle.net_cycle.specs.Built.{Parts, IsBuilt, numbers_of, core_machine, thread_at}
 use Rattle.net_cycle.specs.Stage.{Stage, StepOf, held, news, winner, next_net, granted_to, asks_of, cores_shown, printed_now}
 use Rattle.net_cycle.specs.Going.{Goes, in_block}

@@ -4,5 +4,10 @@ pub mod Going
 pub mod Laws
 pub mod Cycle
 pub mod Clock
-pub use Rattle.thread_cycle.specs.Thread
 pub use Rattle.core_family.specs.Family
+pub mod Thread
+pub mod Moved
+pub mod Asks
+pub mod Stays
+pub mod OneThread
+pub mod Steps

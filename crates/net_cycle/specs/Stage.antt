@@ -16,8 +16,8 @@ use Rattle.core_family.specs.Family.{CoreShape, Mutex, Barrier, Forks, Prints, m
 use Rattle.core_family.specs.Laws.{FitsState}
 use Rattle.bank_memory.specs.Memory.{Holds}
 use Rattle.bank_memory.specs.Partition.{globals_of}
-use Rattle.thread_cycle.specs.Thread.{Stands}
-use Rattle.thread_cycle.specs.Steps.{Step}
+use Rattle.net_cycle.specs.Thread.{Stands}
+use Rattle.net_cycle.specs.Steps.{Step}
 use Rattle.net_cycle.specs.Built.{Parts, Machine, numbers_of, core_at, core_machine, core_count, thread_at}
 
 -- a core as the theory has it

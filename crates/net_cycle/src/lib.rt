@@ -1,9 +1,38 @@
-//! One cycle of the machine of a program of T threads: it is a cycle of the net of planned threads that the theory knows.
+//! One thread of the machine in one cycle, from the promise of its module alone; and one cycle of the machine of a program of T threads: it is a cycle
+//! of the net of planned threads that the theory knows.
 #![tactic(auto)]
 
 ghost use Rattle.net_cycle.specs.Laws.{BuiltAreThreads, ThreadsAreDone, EachSteps, NetGoes, WhoWins, EachTurns};
 ghost use Rattle.net_cycle.specs.Clock.{NetIsClocked};
 ghost use Rattle.net_cycle.specs.Cycle.{BuiltFits, NetCycles, NetStarts};
+ghost use Rattle.net_cycle.specs.OneThread.{ThreadStarts, ThreadMoves, Beats, ThreadAsks};
+ghost use Rattle.net_cycle.specs.Stays.{WhoStays, GrantedAccesses, StillReading};
+ghost use Rattle.net_cycle.specs.Steps.{ThreadSteps, ThreadIsDone};
+
+/// Whatever a thread hears, its next reading stands at a next slot, and the move is one of a few; the beat turns where the slot moves.
+pub fn thread_moves()
+    ensures starts { ThreadStarts }
+    ensures moves { ThreadMoves }
+    ensures beats { Beats }
+{}
+
+/// It asks the bank of each access that is still to be granted, the core of its act, and nobody else.
+pub fn thread_asks()
+    ensures asks { ThreadAsks }
+{}
+
+/// An enabled thread that keeps its beat, or its registers, keeps its slot and is stuck; and the accesses that it makes are at banks that grant it.
+pub fn who_stays()
+    ensures stays { WhoStays }
+    ensures accesses { GrantedAccesses }
+    ensures still { StillReading }
+{}
+
+/// From a state of its module that stands at a slot it steps to one that stands at the next; and it is done where it rests.
+pub fn thread_steps()
+    ensures steps { ThreadSteps }
+    ensures done { ThreadIsDone }
+{}
 
 /// Each thread of what is built is a thread of the machine, makes a step of its own by what it hears of the cores, and is
 /// done where it rests.

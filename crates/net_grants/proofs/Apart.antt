@@ -18,14 +18,14 @@ use Rattle.circuit.specs.Wiring.{NetPlaces, IsInstanceOf}
 use Rattle.circuit.proofs.Arbitration.{granted_same}
 use Rattle.circuit.proofs.Stepping.{obeys}
 use Rattle.leaf_machine.specs.Steady.{Asks}
-use Rattle.steady_net.specs.Steady.{HoldsNothing, IsSteady}
-use Rattle.steady_net.proofs.Agreeing.{agree_back, agree_on}
-use Rattle.steady_net.proofs.Feeding.{core_grants, thread_granted, thread_told}
-use Rattle.steady_net.proofs.Same.{nothing_agrees, same_at}
-use Rattle.steady_net.proofs.Winning.{core_state, core_shows, may, granted, wins, asks_if, enabled_if, bit_below, low_bit}
-use Rattle.steady_net.proofs.Resting.{instance_is, one_module, off_rests, edge_is, stays_by}
-use Rattle.steady_net.proofs.Fields.{own_obeys, own_holds, own_enable, need_low}
-use Rattle.steady_net.proofs.Stuck.{part_alike, may_alike}
+use Rattle.net_grants.specs.Steady.{HoldsNothing, IsSteady}
+use Rattle.net_grants.proofs.Agreeing.{agree_back, agree_on}
+use Rattle.net_grants.proofs.Feeding.{core_grants, thread_granted, thread_told}
+use Rattle.net_grants.proofs.Same.{nothing_agrees, same_at}
+use Rattle.net_grants.proofs.Winning.{core_state, core_shows, may, granted, wins, asks_if, enabled_if, bit_below, low_bit}
+use Rattle.net_grants.proofs.Resting.{instance_is, one_module, off_rests, edge_is, stays_by}
+use Rattle.net_grants.proofs.Fields.{own_obeys, own_holds, own_enable, need_low}
+use Rattle.net_grants.proofs.Stuck.{part_alike, may_alike}
 use Rattle.net_grants.specs.Grants.{DifferIn, thread_at, IsOutside}
 use Rattle.net_grants.proofs.Granting.{thread_place}
 

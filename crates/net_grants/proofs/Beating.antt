@@ -10,9 +10,9 @@ use Rattle.circuit.specs.Modules.{FitsAction}
 use Rattle.circuit.specs.Machines.{CoreMachine, ThreadMachine}
 use Rattle.circuit.specs.Wiring.{NetPlaces}
 use Rattle.circuit.proofs.States.{register_fits}
-use Rattle.steady_net.specs.Steady.{IsSteady}
-use Rattle.steady_net.proofs.Resting.{edge_is, stays_by}
-use Rattle.steady_net.proofs.Fields.{own_obeys, own_holds, slot_of}
+use Rattle.net_grants.specs.Steady.{IsSteady}
+use Rattle.net_grants.proofs.Resting.{edge_is, stays_by}
+use Rattle.net_grants.proofs.Fields.{own_obeys, own_holds, slot_of}
 use Rattle.net_grants.specs.Laws.{TurnsBeat}
 
 -- two bits that differ

@@ -14,12 +14,12 @@ use Rattle.circuit.specs.Modules.{Agree}
 use Rattle.circuit.specs.Arbitration.{is_granted}
 use Rattle.circuit.specs.Machines.{CoreMachine, ThreadMachine}
 use Rattle.circuit.specs.Wiring.{IsFed, NetPlaces, IsInstanceOf}
-use Rattle.steady_net.specs.Steady.{HoldsNothing, IsSteady}
-use Rattle.steady_net.proofs.Feeding.{grant_is}
-use Rattle.steady_net.proofs.Same.{nothing_agrees, same_at, same_in}
-use Rattle.steady_net.proofs.Winning.{core_state, core_shows, granted, Wins, wins, low_bit, core_rests, core_silent}
-use Rattle.steady_net.proofs.Resting.{instance_is, one_module, stays_by}
-use Rattle.steady_net.proofs.Fields.{own_obeys, need_low, slot_rests}
+use Rattle.net_grants.specs.Steady.{HoldsNothing, IsSteady}
+use Rattle.net_grants.proofs.Feeding.{grant_is}
+use Rattle.net_grants.proofs.Same.{nothing_agrees, same_at, same_in}
+use Rattle.net_grants.proofs.Winning.{core_state, core_shows, granted, Wins, wins, low_bit, core_rests, core_silent}
+use Rattle.net_grants.proofs.Resting.{instance_is, one_module, stays_by}
+use Rattle.net_grants.proofs.Fields.{own_obeys, need_low, slot_rests}
 use Rattle.net_grants.specs.Grants.{thread_at, IsOutside, IsDrivenBy, HasCores, Grants, GrantsOne, IsServed, AreRightGrants}
 
 -- a bit that says who is granted

@@ -16,14 +16,14 @@ use Rattle.top_wiring.specs.Top.{starts, arbiter_instance}
 use Rattle.top_wiring.specs.Wired.{IsWired}
 use Rattle.top_wiring.proofs.Standing as standing
 use Rattle.leaf_machine.specs.Leaves.{LeafPorts, leaf_thread, leaf_places}
-use Rattle.net_threads.specs.Family.{machine_at}
-use Rattle.net_threads.specs.Tables.{Table, layout_of, modules_of, shapes_of}
-use Rattle.net_threads.specs.Whole.{IsWholeTable, AreThreads, places_of}
-use Rattle.net_threads.specs.Nets.{IsNetOfTable}
-use Rattle.net_threads.proofs.Netting.{tables_are_nets}
-use Rattle.steady_net.specs.Steady.{IsSteady}
-use Rattle.net_threads.specs.Threads.{AreSteady}
-use Rattle.net_threads.proofs.Steady.{is_steady}
+use Rattle.net_grants.specs.Family.{machine_at}
+use Rattle.net_grants.specs.Tables.{Table, layout_of, modules_of, shapes_of}
+use Rattle.net_grants.specs.Whole.{IsWholeTable, AreThreads, places_of}
+use Rattle.net_grants.specs.Nets.{IsNetOfTable}
+use Rattle.net_grants.proofs.Netting.{tables_are_nets}
+use Rattle.net_grants.specs.Steady.{IsSteady}
+use Rattle.net_grants.specs.Threads.{AreSteady}
+use Rattle.net_grants.proofs.Steady.{is_steady}
 use Rattle.net_grants.specs.Grants.{HasBeat, IsGranting}
 use Rattle.net_grants.specs.Laws.{TurnsBeat, NetOfTableGrants}
 use Rattle.net_grants.proofs.Granting.{has_cores, right_grants}

@@ -9,9 +9,9 @@ use Rattle.verilog_meaning.specs.Cycles.{IsRegister}
 use Rattle.circuit.specs.Modules.{Obeys, Agree}
 use Rattle.top_wiring.specs.Wired.{IsWired}
 use Rattle.leaf_machine.specs.Leaves.{LeafPorts}
-use Rattle.net_threads.specs.Tables.{Table, layout_of, modules_of}
-use Rattle.net_threads.specs.Whole.{IsWholeTable, AreThreads}
-use Rattle.net_threads.specs.Threads.{AreSteady}
+use Rattle.net_grants.specs.Tables.{Table, layout_of, modules_of}
+use Rattle.net_grants.specs.Whole.{IsWholeTable, AreThreads}
+use Rattle.net_grants.specs.Threads.{AreSteady}
 use Rattle.net_grants.specs.Grants.{IsGranting}
 
 -- a module has a register `beat` of one bit at this place, and an edge that leaves it leaves each register and each word of a memory

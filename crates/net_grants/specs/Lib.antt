@@ -1,6 +1,9 @@
 pub mod Grants
 pub mod Laws
-pub use Rattle.net_threads.specs.Threads
-pub use Rattle.net_threads.specs.Nets
-pub use Rattle.net_threads.specs.Tables
-pub use Rattle.net_threads.specs.Whole
+pub mod Threads
+pub use Rattle.net_tables.specs.Nets
+pub use Rattle.net_tables.specs.Tables
+pub use Rattle.net_tables.specs.Whole
+pub use Rattle.net_tables.specs.Family
+pub mod Steady
+pub mod Holding

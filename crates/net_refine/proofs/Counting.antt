@@ -4,9 +4,9 @@ use Rattle.c_program.specs.Tree.{Program}
 use Rattle.netlist.specs.declared.netlist.Module.{Module}
 use Rattle.verilog_meaning.specs.Cycles.{Valuation, Choice}
 use Rattle.verilog_meaning.specs.Threads as net
-use Rattle.machine_follows.specs.Built.{Parts, Machine}
-use Rattle.machine_follows.specs.Follows as machine
-use Rattle.machine_follows.specs.Follows.{next_machine}
+use Rattle.net_refine.specs.Built.{Parts, Machine}
+use Rattle.net_refine.specs.Follows as machine
+use Rattle.net_refine.specs.Follows.{next_machine}
 use Rattle.net_refine.specs.Whole.{IsWhole}
 use Rattle.net_refine.proofs.Cycles.{Shows, cycle_shows}
 use Rattle.net_refine.proofs.Slots.{changes, changed}

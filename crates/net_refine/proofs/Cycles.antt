@@ -9,11 +9,11 @@ use Rattle.circuit.proofs.Staged.{net_fits, net_statements, no_deeper}
 use Rattle.circuit.proofs.States.{keeps_states}
 use Rattle.circuit.proofs.Running.{starts, cycle_steps, runs_steps}
 use Rattle.block_ir.specs.Asked.{printer_core}
-use Rattle.machine_follows.specs.Family.{CoreShape, Bank, Mutex, Barrier, Forks, Prints, machine_of}
+use Rattle.net_refine.specs.Family.{CoreShape, Bank, Mutex, Barrier, Forks, Prints, machine_of}
 use Rattle.print_core.specs.declared.printer.Shape.{Shape as PrinterShape}
-use Rattle.machine_follows.specs.Built.{Parts, Machine, numbers_of, core_at, core_machine, core_count}
-use Rattle.machine_follows.proofs.Cores.{Kind, IsBank, IsMutex, IsBarrier, IsForks, IsPrinter, IsPast, kind_of}
-use Rattle.machine_follows.specs.Follows.{machine_of_thread}
+use Rattle.net_refine.specs.Built.{Parts, Machine, numbers_of, core_at, core_machine, core_count}
+use Rattle.net_refine.proofs.Cores.{Kind, IsBank, IsMutex, IsBarrier, IsForks, IsPrinter, IsPast, kind_of}
+use Rattle.net_refine.specs.Follows.{machine_of_thread}
 use Rattle.net_refine.specs.Whole.{places_of, IsWhole}
 
 -- a core that is no printer prints nothing

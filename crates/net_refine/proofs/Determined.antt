@@ -14,7 +14,7 @@ use Rattle.circuit.proofs.Stepping.{obeys, holds}
 use Rattle.leaf_machine.specs.Leaves.{leaf_thread}
 use Rattle.leaf_machine.proofs.Leaves.{slot_bit_is}
 use Rattle.net_refine.proofs.Agreeing.{agree_on, agree_here}
-use Rattle.machine_follows.specs.Built.{Parts, core_machine, core_count}
+use Rattle.net_refine.specs.Built.{Parts, core_machine, core_count}
 use Rattle.net_refine.specs.Whole.{Carries, IsWhole}
 
 module _ (P : Program) (K : Parts) (modules : List Module) (top : Module) (whole : IsWhole P K modules top) where

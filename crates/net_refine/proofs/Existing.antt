@@ -10,8 +10,8 @@ use Rattle.circuit.specs.Wiring.{output}
 use Rattle.circuit.proofs.Staged.{staged_settles, no_deeper}
 use Rattle.circuit.proofs.Running.{step_is_written}
 use Rattle.block_ir.specs.Asked.{printer_core}
-use Rattle.machine_follows.specs.Built.{Parts, Machine, numbers_of, core_machine, core_count}
-use Rattle.machine_follows.specs.Follows.{machine_of_thread, first_machine, next_machine}
+use Rattle.net_refine.specs.Built.{Parts, Machine, numbers_of, core_machine, core_count}
+use Rattle.net_refine.specs.Follows.{machine_of_thread, first_machine, next_machine}
 use Rattle.net_refine.specs.Whole.{places_of, IsWhole, RunsExist}
 use Rattle.net_refine.proofs.Cycles.{Shows, prints_alone, initial_shows, cycle_shows, initial_is_state, cycle_state}
 

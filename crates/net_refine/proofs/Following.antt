@@ -28,14 +28,14 @@ use Rattle.verilog_meaning.proofs.Banks.{banks_below}
 use Rattle.circuit.proofs.Staged.{staged_settles}
 use Rattle.leaf_machine.specs.Leaves.{leaf_thread}
 use Rattle.good_verilog.specs.Program.{HasBits, seen_of}
-use Rattle.machine_follows.specs.Family.{CoreShape, Mutex, Barrier, Forks, Prints, machine_of, places_of, words_of}
-use Rattle.machine_follows.specs.Family as family
-use Rattle.machine_follows.proofs.Partitioned.{some_banks, count_low, bank_below, core_of, type_here}
-use Rattle.machine_follows.specs.Built.{Parts, Machine, core_at}
-use Rattle.machine_follows.proofs.Cores.{bank_at}
-use Rattle.machine_follows.specs.Follows as machine
-use Rattle.machine_follows.specs.Follows.{first_machine, machine_after, printed_after, IsFull, Changes}
-use Rattle.machine_follows.proofs.Whole.{machine_follows}
+use Rattle.net_refine.specs.Family.{CoreShape, Mutex, Barrier, Forks, Prints, machine_of, places_of, words_of}
+use Rattle.net_refine.specs.Family as family
+use Rattle.net_refine.proofs.Partitioned.{some_banks, count_low, bank_below, core_of, type_here}
+use Rattle.net_refine.specs.Built.{Parts, Machine, core_at}
+use Rattle.net_refine.proofs.Cores.{bank_at}
+use Rattle.net_refine.specs.Follows as machine
+use Rattle.net_refine.specs.Follows.{first_machine, machine_after, printed_after, IsFull, Changes}
+use Rattle.net_refine.proofs.Whole.{machine_follows}
 use Rattle.net_refine.specs.Whole.{IsWhole, RunsExist, NetFollows}
 use Rattle.net_refine.proofs.Determined.{some_thread, done_is, shown_is, determined}
 use Rattle.net_refine.proofs.Cycles.{Shows, initial_shows, run_shows, initial_is_state, run_state}

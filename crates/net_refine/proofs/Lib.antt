@@ -5,4 +5,13 @@ pub mod Counting
 pub mod Determined
 pub mod Existing
 pub mod Following
-pub use Rattle.machine_follows.proofs.Cores
+pub mod Planned
+pub mod Start
+pub mod First
+pub mod Masks
+pub mod Clock
+pub mod Beats
+pub mod Seen
+pub mod Whole
+pub use Rattle.net_cycle.proofs.Cores
+pub use Rattle.bank_memory.proofs.Partitioned

@@ -9,8 +9,8 @@ use Rattle.verilog_meaning.specs.Cycles.{Path, Valuation, Choice, IsAt, HasMemor
 use Rattle.verilog_meaning.specs.Threads.{IsSameSlot, ChangesSlot}
 use Rattle.circuit.specs.Modules.{Agree}
 use Rattle.circuit.proofs.Staged.{no_deeper}
-use Rattle.machine_follows.specs.Built.{Parts, Machine}
-use Rattle.machine_follows.specs.Follows.{next_machine, Changes}
+use Rattle.net_refine.specs.Built.{Parts, Machine}
+use Rattle.net_refine.specs.Follows.{next_machine, Changes}
 use Rattle.net_refine.specs.Whole.{IsWhole}
 use Rattle.net_refine.proofs.Cycles.{Shows, cycle_shows}
 

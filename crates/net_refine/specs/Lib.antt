@@ -1,5 +1,7 @@
 pub mod Whole
-pub use Rattle.machine_follows.specs.Follows
-pub use Rattle.machine_follows.specs.Built
-pub use Rattle.machine_follows.specs.Thread
-pub use Rattle.machine_follows.specs.Surroundings
+pub mod Start
+pub mod Follows
+pub use Rattle.net_cycle.specs.Built
+pub use Rattle.net_cycle.specs.Thread
+pub use Rattle.planned_threads.specs.Surroundings
+pub use Rattle.net_cycle.specs.Family

@@ -22,9 +22,9 @@ use Rattle.circuit.specs.Nets.{FitsChoice}
 use Rattle.circuit.specs.Staging.{Stages, IsStaged}
 use Rattle.circuit.specs.Wiring.{NetPlaces, IsNet}
 use Rattle.leaf_machine.specs.Leaves.{leaf_places}
-use Rattle.machine_follows.specs.Family.{places_at}
-use Rattle.machine_follows.specs.Built.{Parts, IsBuilt, cores_of, core_machine, core_count}
-use Rattle.machine_follows.specs.Follows.{machine_of_thread, TurnsBeats}
+use Rattle.net_refine.specs.Family.{places_at}
+use Rattle.net_refine.specs.Built.{Parts, IsBuilt, cores_of, core_machine, core_count}
+use Rattle.net_refine.specs.Follows.{machine_of_thread, TurnsBeats}
 use Rattle.good_verilog.specs.Program.{seen_of}
 
 module _ (P : Program) (K : Parts) (modules : List Module) (top : Module) where

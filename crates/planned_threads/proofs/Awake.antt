@@ -22,8 +22,8 @@ use Rattle.planned_hardware.specs.Following.{AtStage, IsStage, Follows}
 use Rattle.bank_partition.specs.declared.banks.Spread.{Spread}
 use Rattle.thread_promise.specs.Globals.{bank_of}
 use Rattle.block_ir.specs.Asked.{Numbers}
-use Rattle.act_steps.specs.Routines.{Codes, stage_at, rest_of, blocks_of, plans_of, AtStageOf, AtAct, Starts}
-use Rattle.act_steps.specs.Threads.{plan_at, IsTyped}
+use Rattle.planned_threads.specs.Routines.{Codes, stage_at, rest_of, blocks_of, plans_of, AtStageOf, AtAct, Starts}
+use Rattle.planned_threads.specs.Threads.{plan_at, IsTyped}
 use Rattle.planned_threads.specs.Surroundings.{around, hardware_code}
 use Rattle.planned_threads.specs.Laws.{AreCoded, StandsAwake}
 use Rattle.planned_threads.proofs.Counts.{past}

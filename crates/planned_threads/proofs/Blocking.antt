@@ -24,9 +24,9 @@ use Rattle.thread_promise.specs.Globals.{bank_of}
 use Rattle.thread_promise.specs.Promise.{went_on}
 use Rattle.thread_cores.specs.Cores.{Core, argument_at, waits_bit, may_grant}
 use Rattle.thread_promise.specs.Moves.{set_out}
-use Rattle.act_steps.specs.Routines.{Codes, rest_of}
-use Rattle.act_steps.specs.Requests.{AreNumbers}
-use Rattle.act_steps.proofs.Requests.{all_are_steps}
+use Rattle.planned_threads.specs.Routines.{Codes, rest_of}
+use Rattle.planned_threads.specs.Requests.{AreNumbers}
+use Rattle.planned_threads.proofs.Requests.{all_are_steps}
 use Rattle.planned_threads.specs.Surroundings.{Waits, Absent, Over, Idle, Handed, Meeting, Sets_out, Goes_on, around, hardware_code}
 use Rattle.planned_threads.specs.Laws.{AreCoded, marks, MarksThreads, AtAct, Rests_on, WhatBlocks}
 use Rattle.planned_threads.proofs.Counts.{past_states}

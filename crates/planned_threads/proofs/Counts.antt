@@ -12,8 +12,8 @@ use Rattle.planned_hardware.specs.Hardware.{Code, block_of, plan_of, is_open, ch
 use Rattle.planned_hardware.specs.Following.{own_latencies}
 use Rattle.planned_hardware.proofs.Budget.{within_chain}
 use Rattle.planned_hardware.proofs.Counting.{count_le}
-use Rattle.act_steps.specs.Routines.{Codes, stage_at, rest_of, blocks_of, plans_of}
-use Rattle.act_steps.specs.Threads.{block_at, plan_at}
+use Rattle.planned_threads.specs.Routines.{Codes, stage_at, rest_of, blocks_of, plans_of}
+use Rattle.planned_threads.specs.Threads.{block_at, plan_at}
 use Rattle.planned_threads.specs.Surroundings.{hardware_code}
 use Rattle.planned_threads.specs.Laws.{AreChainsThere}
 

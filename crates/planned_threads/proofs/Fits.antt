@@ -32,13 +32,13 @@ use Rattle.thread_cores.specs.Cores.{Core, may_grant, status_at, argument_at, wa
 use Rattle.thread_cores.specs.Stands.{StandsFor}
 use Rattle.thread_promise.specs.Moves.{meeting, stage_after, is_variable, set_out}
 use Rattle.code_following.specs.Following.{HasArguments}
-use Rattle.act_steps.specs.Routines.{Codes, stage_at, rest_of, Starts}
-use Rattle.act_steps.specs.Acts.{IsDefined}
-use Rattle.act_steps.specs.RoutineActs.{ReturnsThere}
-use Rattle.act_steps.specs.Requests.{AreNumbers, OwnAfter, Goes, cores_after}
-use Rattle.act_steps.proofs.RoutineLaws.{code_follows}
-use Rattle.act_steps.proofs.RoutineActs.{returns_are_steps}
-use Rattle.act_steps.proofs.Requests.{all_are_steps}
+use Rattle.planned_threads.specs.Routines.{Codes, stage_at, rest_of, Starts}
+use Rattle.planned_threads.specs.Acts.{IsDefined}
+use Rattle.planned_threads.specs.RoutineActs.{ReturnsThere}
+use Rattle.planned_threads.specs.Requests.{AreNumbers, OwnAfter, Goes, cores_after}
+use Rattle.planned_threads.proofs.RoutineLaws.{code_follows}
+use Rattle.planned_threads.proofs.RoutineActs.{returns_are_steps}
+use Rattle.planned_threads.proofs.Requests.{all_are_steps}
 use Rattle.planned_threads.specs.Surroundings.{routine_in, routine_of, Waits, Absent, Over, Idle, Handed, Meeting, Wakes, Sets_out, Goes_on, Does, Requests, Returns, Acts}
 use Rattle.planned_threads.specs.Surroundings.{around, hardware_code}
 use Rattle.planned_threads.specs.Laws.{AreCoded, FitsThreads}

@@ -6,4 +6,18 @@ pub mod Staying
 pub mod Fits
 pub mod Blocking
 mod Scenes
-pub use Rattle.act_steps.proofs.Requests
+pub mod ActByAct
+pub mod Common
+pub mod Locking
+pub mod Creating
+pub mod Anywhere
+pub mod Barring
+pub mod Meeting
+pub mod Mutexes
+pub mod Barriers
+pub mod Joining
+pub mod Finishing
+pub mod Printing
+pub mod Requests
+pub use Rattle.block_refine.proofs.RoutineActs
+pub use Rattle.block_refine.proofs.RoutineLaws

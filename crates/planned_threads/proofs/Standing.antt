@@ -9,7 +9,7 @@ use Rattle.race_model.specs.Shared.{Shared, shared_of}
 use Rattle.thread_cores.specs.Cores.{Core, OfPrinter}
 use Rattle.block_ir.specs.Asked.{Numbers}
 use Rattle.thread_cores.specs.Stands.{status_of, StandsFor}
-use Rattle.act_steps.specs.Acts.{KeepsOthers}
+use Rattle.planned_threads.specs.Acts.{KeepsOthers}
 
 -- in slots that look alike each has the same status
 alike : (xs ys : List Slot) (i : ℕ) (y : Slot) → map is_unused ys ≡ map is_unused xs →

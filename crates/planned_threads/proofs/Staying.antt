@@ -15,8 +15,8 @@ use Rattle.thread_promise.specs.Globals.{bank_of}
 use Rattle.hls_ints.specs.Residues.{residue_of}
 use Rattle.thread_cores.specs.Cores.{Core, status_at, argument_at, waits_bit}
 use Rattle.block_ir.specs.Asked.{Numbers}
-use Rattle.act_steps.specs.Routines.{Codes}
-use Rattle.act_steps.specs.Requests.{HearsSame, Other, Same, Begun, Joined, Released}
+use Rattle.planned_threads.specs.Routines.{Codes}
+use Rattle.planned_threads.specs.Requests.{HearsSame, Other, Same, Begun, Joined, Released}
 use Rattle.planned_threads.specs.Surroundings.{Waits, Absent, Over, Idle, Handed, Meeting, around, hardware_code}
 use Rattle.planned_threads.specs.Laws.{AreCoded, Rests}
 use Rattle.planned_threads.proofs.Awake.{awake}

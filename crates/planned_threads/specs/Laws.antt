@@ -21,9 +21,9 @@ use Rattle.block_ir.specs.Asked.{Asked, asked, Numbers, core_of}
 use Rattle.thread_cores.specs.Cores.{Core, may_grant}
 use Rattle.thread_cores.specs.Stands.{StandsFor}
 use Rattle.code_following.specs.Following.{IsLowered}
-use Rattle.act_steps.specs.Routines.{Codes, stage_at, rest_of, blocks_of, plans_of, ArePlanned, Starts}
-use Rattle.act_steps.specs.Acts.{IsDefined}
-use Rattle.act_steps.specs.Requests.{AreNumbers}
+use Rattle.planned_threads.specs.Routines.{Codes, stage_at, rest_of, blocks_of, plans_of, ArePlanned, Starts}
+use Rattle.planned_threads.specs.Acts.{IsDefined}
+use Rattle.planned_threads.specs.Requests.{AreNumbers}
 use Rattle.planned_threads.specs.Surroundings.{Waits, Wakes, around, hardware_code}
 
 -- the chains of blocks, with room at a rest or a meeting for what a wake leads to

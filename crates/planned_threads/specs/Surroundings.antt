@@ -21,8 +21,8 @@ use Rattle.thread_cores.specs.Cores.{Core, may_grant, status_at, argument_at, wa
 use Rattle.thread_cores.specs.Stands.{StandsFor}
 use Rattle.thread_promise.specs.Moves.{meeting, stage_after, set_out}
 use Rattle.c_program.specs.Weight.{hardware_routines}
-use Rattle.act_steps.specs.Routines.{Codes, stage_at, rest_of, blocks_of, plans_of, Starts}
-use Rattle.act_steps.specs.Requests.{Meets, cores_after}
+use Rattle.planned_threads.specs.Routines.{Codes, stage_at, rest_of, blocks_of, plans_of, Starts}
+use Rattle.planned_threads.specs.Requests.{Meets, cores_after}
 
 -- the function that hardware thread i runs, and a number that no function has where it runs none
 abbrev pub routine_in : Program → Option (Option ℕ) → ℕ

@@ -1,7 +1,15 @@
-//! The threads of a program around their blocks: they wait, wake and act as the theory of planned hardware asks.
+//! The threads of a program around their blocks: a request that a core grants is the step of its act, and one that may not be is blocked; they wait,
+//! wake and act as the theory of planned hardware asks.
 #![tactic(auto)]
 
+ghost use Rattle.planned_threads.specs.ActLaws.{AllRequestsAreSteps};
 ghost use Rattle.planned_threads.specs.Laws.{StandsAwake, FitsThreads, MarksThreads, WhatBlocks};
+
+/// Where the core that an act asks may grant it, the act is the next step of its thread, and the cores after the grant stand
+/// for the state after the step; where it may not, the step is blocked.
+pub fn requests_are_steps()
+    ensures { AllRequestsAreSteps }
+{}
 
 /// A thread at the start of a stage runs, and waits nowhere.
 pub fn starts_awake()

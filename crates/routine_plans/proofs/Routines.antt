@@ -28,8 +28,8 @@ use Rattle.planned_threads.specs.Laws.{AreChainsThere, AreCoded}
 use Rattle.net_cycle.specs.Thread.{LeadsBelow, StageLeads}
 use Rattle.net_cycle.specs.Built.{IsCode}
 use Rattle.routine_plans.specs.Plans.{IsRoutine, AreRoutines, chain_of, RoutinesAreCoded, RoutinesAreCode}
-use Rattle.planned_code.proofs.Chains.{planned_at, short, busy, low}
-use Rattle.planned_code.proofs.Whole.{planned}
+use Rattle.routine_plans.proofs.Chains.{planned_at, short, busy, low}
+use Rattle.routine_plans.proofs.Whole.{planned}
 
 -- ---- one function
 

@@ -2,7 +2,7 @@
 use Rattle.std.specs.Prelude.{◌≡◌, ℕ, Bool, List, ◌++◌}
 use Rattle.netlist.specs.declared.netlist.Module.{Module}
 use Rattle.hardware_threads.specs.Run.{IsRan}
-use Rattle.verdict_lines.specs.Lines.{listed_lines, summary}
+use Rattle.run_command.specs.Lines.{listed_lines, summary}
 use Rattle.run_command.specs.declared.run.RunAnswer.{RunAnswer}
 
 -- a journal of at most so many entries that a run made, what it printed and its verdict, and the lines that say so

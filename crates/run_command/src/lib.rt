@@ -1,5 +1,8 @@
-//! The running simulator as a command: a run of a net, and what it says of itself.
-//! `rt plant`: of 5 wrong bodies in 1 function 4 are refused and 1 by the premise of a callee alone.
+//! The running simulator as commands: a run of a net, a journal done again, and what they say of themselves: their verdict, entries and cycles.
+//! `rt plant`: of 22 wrong bodies in 7 functions 20 are refused and 2 by the premise of a callee alone.
 #![tactic(auto)]
 
+pub mod count;
+pub mod lines;
+pub mod replay;
 pub mod run;

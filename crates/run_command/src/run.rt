@@ -6,6 +6,7 @@ ghost use Rattle.cycle_sim.specs.Opened.{IsOpenable};
 ghost use Rattle.journal_laws.specs.Slots.{IsThreadedIn};
 ghost use Rattle.run_command.specs.Runs.{IsRunAnswer};
 
+use crate::lines::run_lines;
 use hardware_threads::gate::Gate;
 use hardware_threads::run::run;
 use hls_io::Bytes;
@@ -16,7 +17,6 @@ use sqlite_items::Items;
 use std::alloc::{AllocError, Global};
 use std::sync::Wait;
 use std::thread::Threads;
-use verdict_lines::lines::run_lines;
 
 /// How a run ended, what it printed, its journal, and the lines for err.
 #[derive(Drop)]

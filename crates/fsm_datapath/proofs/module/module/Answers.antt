@@ -1,17 +1,17 @@
 use Rattle.operator_wires.proofs.Making.{of_ok}
 use Rattle.thread_layout.specs.Modules.{IsModule}
-use Rattle.thread_runs.specs.Runs.{RunsServedCode, ServesCode}
-use Rattle.thread_runs.proofs.Promising.{runs_code}
-use Rattle.thread_runs.proofs.Serving.{serves_code}
-use Rattle.thread_sound.specs.Routine.{IsRoutineOfServedCode}
-use Rattle.thread_sound.specs.Leaf.{IsLeafOfServedCode}
-use Rattle.thread_sound.proofs.Standing.{routine_is}
-use Rattle.thread_sound.proofs.Forming.{checked_is}
-use Rattle.thread_sound.proofs.Leafing.{leaf_is}
-use Rattle.thread_sound.specs.Naming.{NamesServedVariables}
-use Rattle.thread_sound.proofs.Naming.{laid_out_is_named}
-use Rattle.thread_steady.specs.Steady.{IsSteadyServedCode}
-use Rattle.thread_steady.proofs.Steadying.{steady_is}
+use Rattle.fsm_datapath.specs.Runs.{RunsServedCode, ServesCode}
+use Rattle.fsm_datapath.proofs.Promising.{runs_code}
+use Rattle.fsm_datapath.proofs.Serving.{serves_code}
+use Rattle.fsm_datapath.specs.Routine.{IsRoutineOfServedCode}
+use Rattle.fsm_datapath.specs.Leaf.{IsLeafOfServedCode}
+use Rattle.fsm_datapath.proofs.Standing.{routine_is}
+use Rattle.fsm_datapath.proofs.Forming.{checked_is}
+use Rattle.fsm_datapath.proofs.Leafing.{leaf_is}
+use Rattle.fsm_datapath.specs.Naming.{NamesServedVariables}
+use Rattle.fsm_datapath.proofs.Naming.{laid_out_is_named}
+use Rattle.fsm_datapath.specs.Steady.{IsSteadyServedCode}
+use Rattle.fsm_datapath.proofs.Steadying.{steady_is}
 use Rattle.fsm_datapath.proofs.module.module.Goals as goal
 
 pub returns-clause-runs : goal.returns-clause-runs

@@ -4,7 +4,7 @@ use Rattle.netlist.specs.declared.netlist.Module.{Module}
 use Rattle.cycle_sim.specs.Opened.{IsOpenable}
 use Rattle.sim_layout.specs.Rounds.{threads_of}
 use Rattle.slot_sim.specs.Slots.{IsThreadedIn}
-use Rattle.replay_command.specs.Replays.{IsReplayAnswer}
+use Rattle.run_command.specs.Replays.{IsReplayAnswer}
 use Rattle.hls_commands.proofs.RunLemmas.{openable, threads_are, few_threads, is_threaded}
 use Rattle.hls_commands.proofs.runs.replayed.Goals as goal
 

@@ -1,6 +1,0 @@
-pub mod Start
-pub mod Follows
-pub use Rattle.net_cycle.specs.Built
-pub use Rattle.net_cycle.specs.Thread
-pub use Rattle.planned_threads.specs.Surroundings
-pub use Rattle.net_cycle.specs.Family

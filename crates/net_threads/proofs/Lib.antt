@@ -1,2 +1,0 @@
-pub mod Steady
-pub use Rattle.net_tables.proofs.Netting

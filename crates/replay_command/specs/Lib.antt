@@ -1,2 +1,0 @@
-pub mod Replays
-pub use Rattle.verdict_lines.specs.Lines

@@ -1,0 +1,5 @@
+use Rattle.run_command.proofs.Counting.{are_its_choices}
+use Rattle.run_command.proofs.count.counts_choices.Goals as goal
+
+pub returns : goal.returns
+returns c = are_its_choices
