@@ -1,6 +1,7 @@
 -- What a parse of the command line says of its words.
 use Rattle.std.proofs.Common.{◌≡◌, ◌≢◌, inl, inr, List, [], ◌∷◌, true, refl, sym, subst, ap, ◌∙◌}
 use Rattle.std.specs.Prelude.{Result, Ok, IfOk, Option, None, option_and_then}
+use Rattle.std.proofs.lemmas.Result.{IfOk-weaker}
 use Rattle.clap.specs.Words.{App, HasKind, HasMatchesOf, IsAmong, Kinds, Text, app_of, fault_of, is_simple, is_simple_and_free, kind_of, subcommand_rows_of, with_subcommand}
 use Rattle.clap.specs.declared.builder.command.Command.{Command}
 use Rattle.clap.specs.declared.error.Error.{Error}
@@ -38,9 +39,14 @@ task_of-refused a words error e free other =
     let kind : HasKind (fault_of command_line words) error = subst (λ (x : App). HasKind (fault_of x words) error) e (free (subst (λ (x : App). is_simple_and_free x ≡ true) (sym e) line_is_free)) in
     elim kind [ inl memory ↦ absurd (other memory) | inr among ↦ some_fails (fault_of command_line words) _ _ among ]
 
--- a command that was added is that of its line
-pub added_is : {E : Type 0} (x : Result Command E) (line : App) (program c : Command) → IfOk x (λ a. app_of a ≡ line)
-    → (added : Command) × (x ≡ Ok added) × (app_of c ≡ with_subcommand (app_of program) (app_of added).top) → app_of c ≡ with_subcommand (app_of program) line.top
-added_is x line program c of is =
-    let at : app_of is.0 ≡ line = subst (λ (y : Result Command _). IfOk y (λ a. app_of a ≡ line)) is.1 of in
-    is.2 ∙ ap (λ (a : App). with_subcommand (app_of program) a.top) at
+-- a program of a line to which a command of another was added is that of both
+pub adds : {E : Type 0} (result program command : Result Command E) (line last : App) → IfOk program (λ p. app_of p ≡ line) → IfOk command (λ c. app_of c ≡ last)
+    → IfOk result (λ c. (before : Command) × (added : Command) × (program ≡ Ok before) × (command ≡ Ok added) × (app_of c ≡ with_subcommand (app_of before) (app_of added).top))
+    → IfOk result (λ c. app_of c ≡ with_subcommand line last.top)
+adds result program command line last first second both =
+    IfOk-weaker result _ _
+    (λ c h.
+    let at : app_of h.0 ≡ line = subst (λ (y : Result Command _). IfOk y (λ p. app_of p ≡ line)) h.2 first in
+    let to : app_of h.1 ≡ last = subst (λ (y : Result Command _). IfOk y (λ a. app_of a ≡ last)) h.3 second in
+    h.4 ∙ ap (λ (p : App). with_subcommand p (app_of h.1).top) at ∙ ap (λ (a : App). with_subcommand line a.top) to)
+    both

@@ -108,27 +108,27 @@ fn sim_command<'a>(alloc: Global) -> Result<Command<'a>, AllocError>
     Command::new(alloc, "sim").arg(cycles)
 }
 
-/// Adds a command that has no global argument, where there was memory for it.
+/// Adds a command that has no global argument, where there was memory for it and for what it is added to.
 fn with_command<'a>(
-    program: Command<'a>,
+    program: Result<Command<'a>, AllocError>,
     command: Result<Command<'a>, AllocError>,
 ) -> Result<Command<'a>, AllocError>
     requires { IfOk command (λ c. (fields_of c).has_globals ≡ false) }
-    ensures { IfOk result (λ c. (added : _) × (command.entry ≡ Ok added) × (app_of c ≡ with_subcommand (app_of program.entry) (app_of added).top)) }
+    ensures { IfOk result (λ c. (before : _) × (added : _) × (program.entry ≡ Ok before) × (command.entry ≡ Ok added) × (app_of c ≡ with_subcommand (app_of before) (app_of added).top)) }
 {
-    program.subcommand(command?)
+    program?.subcommand(command?)
 }
 
 /// The program with every command of the table.
 fn whole_command<'a>(alloc: Global) -> Result<Command<'a>, AllocError>
     ensures { IfOk result (λ c. app_of c ≡ command_line) }
 {
-    let program = Command::new(alloc, "hls").subcommand_required(true);
-    let program = with_command(program, build_command(alloc))?;
-    let program = with_command(program, step_command(alloc))?;
-    let program = with_command(program, run_command(alloc))?;
-    let program = with_command(program, Ok(replay_command(alloc)))?;
-    let program = with_command(program, walk_command(alloc))?;
+    let program = Ok(Command::new(alloc, "hls").subcommand_required(true));
+    let program = with_command(program, build_command(alloc));
+    let program = with_command(program, step_command(alloc));
+    let program = with_command(program, run_command(alloc));
+    let program = with_command(program, Ok(replay_command(alloc)));
+    let program = with_command(program, walk_command(alloc));
     with_command(program, sim_command(alloc))
 }
 
