@@ -51,7 +51,7 @@ use Rattle.thread_layout.specs.Modules.{marks_of, IsWiredInside, IsModule}
 use Rattle.thread_layout.specs.Thread.{cores_of, inputs_of, core_ports, first_output, port_at, need_at, done_at, IsServed}
 use Rattle.thread_layout.specs.Memories.{memories_from, base_behind, control_base}
 use Rattle.thread_layout.specs.Wired.{IsSteered, WiresControl}
-use Rattle.fsm_datapath.specs.Leaf.{IsChecked}
+use Rattle.fsm_datapath.specs.SoundLeaf.{IsChecked}
 use Rattle.thread_slots.proofs.Laying.{stands_later}
 use Rattle.thread_slots.proofs.Wiring.{name_tells, name_differs}
 use Rattle.thread_layout.proofs.Opened.{wired}

@@ -34,7 +34,7 @@ use Rattle.thread_layout.specs.Modules.{IsModule}
 use Rattle.thread_promise.specs.Globals.{bank_total}
 use Rattle.thread_layout.specs.Thread.{cores_of, inputs_of, bank_port, act_port, core_ports, first_output, port_at, need_at, done_at, IsServed}
 use Rattle.thread_layout.specs.Leaf.{told_from, input_at, leaf_of}
-use Rattle.fsm_datapath.specs.Leaf.{parts_of, tells_of, IsChecked, IsLeafOf}
+use Rattle.fsm_datapath.specs.SoundLeaf.{parts_of, tells_of, IsChecked, IsLeafOf}
 use Rattle.module_sound.proofs.Sounding.{placed_is_sound}
 use Rattle.operator_wires.proofs.Giving.{listed}
 use Rattle.thread_layout.proofs.Opened.{wired}

@@ -17,3 +17,4 @@ pub mod Standing
 mod Telling
 mod Alike
 pub mod Steadying
+pub use Rattle.thread_layout.proofs.Spreading

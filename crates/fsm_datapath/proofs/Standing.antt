@@ -29,7 +29,7 @@ use Rattle.thread_layout.specs.Outputs.{joined}
 use Rattle.thread_layout.specs.Leaf.{leaf_of}
 use Rattle.thread_layout.specs.Modules.{IsModule}
 use Rattle.thread_layout.specs.Thread.{cores_of, inputs_of, core_ports, first_output, need_at, done_at, IsServed}
-use Rattle.fsm_datapath.specs.Leaf.{IsLeafOf}
+use Rattle.fsm_datapath.specs.SoundLeaf.{IsLeafOf}
 use Rattle.thread_slots.proofs.Laying.{stands_later}
 use Rattle.thread_layout.proofs.Placed.{rows, widths_are, ports_count, row_copies, all_long, enable_stands, grant_stands, need_stands, done_stands, from_ports, from_words, from_inputs}
 use Rattle.thread_layout.proofs.Placed.{ports_long, bank_count}

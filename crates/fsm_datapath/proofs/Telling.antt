@@ -11,7 +11,7 @@ use Rattle.thread_slots.specs.declared.shape.Service.TheVariants as kind
 use Rattle.thread_slots.specs.Services.{services, if_ids, news_widths}
 use Rattle.thread_layout.specs.Leaf.{told_from}
 use Rattle.thread_layout.specs.Thread.{bank_port, act_port}
-use Rattle.fsm_datapath.specs.Leaf.{tells_of}
+use Rattle.fsm_datapath.specs.SoundLeaf.{tells_of}
 
 -- ---- places
 

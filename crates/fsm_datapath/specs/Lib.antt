@@ -1,5 +1,10 @@
 pub mod Runs
-pub mod Leaf
+pub mod SoundLeaf
 pub mod Naming
 pub mod Routine
 pub mod Steady
+pub use Rattle.thread_layout.specs.Thread
+pub use Rattle.thread_layout.specs.Early
+pub use Rattle.thread_layout.specs.Fields
+pub use Rattle.thread_layout.specs.Acts
+pub use Rattle.thread_layout.specs.Leaf

@@ -1,6 +1,6 @@
 // The laws of a thread's module as `thread_layout` puts it together. A function here takes and answers nothing: its contract is the law.
 
-ghost use Rattle.fsm_datapath.specs.Leaf.{LaidOutIsLeaf};
+ghost use Rattle.fsm_datapath.specs.SoundLeaf.{LaidOutIsLeaf};
 ghost use Rattle.fsm_datapath.specs.Naming.{LaidOutIsNamed};
 ghost use Rattle.fsm_datapath.specs.Routine.{LaidOutIsRoutine};
 ghost use Rattle.fsm_datapath.specs.Runs.{LaidOutRuns, LaidOutServes};

@@ -2,7 +2,7 @@
 
 ghost use Rattle.std.specs.Prelude.{IfOk};
 ghost use Rattle.fsm_datapath.specs.Runs.{RunsServedCode, ServesCode};
-ghost use Rattle.fsm_datapath.specs.Leaf.{IsLeafOfServedCode};
+ghost use Rattle.fsm_datapath.specs.SoundLeaf.{IsLeafOfServedCode};
 ghost use Rattle.fsm_datapath.specs.Naming.{NamesServedVariables};
 ghost use Rattle.fsm_datapath.specs.Routine.{IsRoutineOfServedCode};
 ghost use Rattle.fsm_datapath.specs.Steady.{IsSteadyServedCode};

@@ -27,7 +27,7 @@ use Rattle.journal_text.specs.declared.entry.Entry.{Entry}
 use Rattle.journal_text.specs.Texts.{IsParted}
 use Rattle.journal_laws.specs.declared.verdict.Verdict.{Verdict}
 use Rattle.journal_laws.specs.declared.verdict.Verdict.TheVariants as verdicts
-use Rattle.hardware_threads.specs.Run.{IsRan}
+use Rattle.run_command.specs.Run.{IsRan}
 use Rattle.run_command.specs.Lines.{listed_lines, summary, bad_entry_line}
 use Rattle.run_command.specs.Replays.{AreRun, IsFirstBad}
 use Rattle.hls_status.specs.declared.status.Status.{Status}

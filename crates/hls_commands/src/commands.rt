@@ -20,7 +20,6 @@ use c_interpreter::walk::{WalkEnd as Ends, walk};
 use c_profile::{Accepted, ProfileError, Refusal, accept};
 use c_program::threads::thread_count;
 use cycle_sim::sim::OpenError;
-use hardware_threads::gate::Gate;
 use hls_compile::{CompileError, Compiled, compile};
 use hls_io::{Bytes, ReadAllError, Source, read_all};
 use hls_status::lines::{
@@ -29,6 +28,7 @@ use hls_status::lines::{
 use hls_status::status::{Status, WalkEnd};
 use hls_words::{Task, WordsError, parse};
 use round_robin::run::{Ran, run};
+use run_command::Gate;
 use sqlite_items::Items;
 use std::alloc::{AllocError, Global};
 use std::sync::Wait;

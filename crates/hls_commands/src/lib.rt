@@ -5,3 +5,5 @@ pub mod answer;
 pub mod commands;
 pub mod runs;
 pub mod sims;
+
+pub use run_command::Gate;

@@ -26,8 +26,8 @@ use Rattle.program_cores.specs.Cores.{AreCoresOf}
 use Rattle.thread_bodies.specs.Parts.{code_at, AreBodies, IsGoodText}
 use Rattle.thread_bodies.proofs.Names.{same_function}
 use Rattle.thread_bodies.proofs.Parts.{parts_are_good}
-use Rattle.program_plans.specs.declared.PlannedFunction.{PlannedFunction}
-use Rattle.program_plans.specs.Plans.{routine_of}
+use Rattle.thread_bodies.specs.PlannedFunction.{PlannedFunction}
+use Rattle.thread_bodies.specs.Plans.{routine_of}
 use Rattle.thread_bodies.specs.Bodies.{shape_of, IsLaid}
 use Rattle.thread_bodies.specs.Modules.{AreLaid, name_of, module_shape, bodies_of}
 use Rattle.thread_bodies.proofs.Served.{codes_are_served}

@@ -12,8 +12,8 @@ use Rattle.table_text.specs.Wanted.{Wanted}
 use Rattle.program_cores.specs.Cores.{AreCoresOf}
 use Rattle.thread_numbers.specs.Numbers.{function_module}
 use Rattle.thread_bodies.specs.Thread.{IsServed}
-use Rattle.program_plans.specs.declared.PlannedFunction.{PlannedFunction}
-use Rattle.program_plans.specs.Plans.{routine_of, ArePlanned}
+use Rattle.thread_bodies.specs.PlannedFunction.{PlannedFunction}
+use Rattle.thread_bodies.specs.Plans.{routine_of, ArePlanned}
 use Rattle.thread_bodies.specs.Bodies.{shape_of, IsLaid}
 
 -- beside these banks and cores, the module `fn_NAME` of the net, NAME being that of the thread function f, runs the function's code by its plan

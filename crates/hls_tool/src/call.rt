@@ -11,7 +11,7 @@ ghost use Rattle.hls_commands.specs.Answers.{HasLoopOf, HasRunOut, IsBadEntryOf,
 
 use crate::deliver::deliver;
 use crate::outcome::Outcome;
-use hardware_threads::gate::Gate;
+use hls_commands::Gate;
 use hls_commands::commands::{answer, run_task};
 use hls_io::{Sink, Source};
 use hls_status::status::Status;

@@ -6,3 +6,5 @@ pub mod count;
 pub mod lines;
 pub mod replay;
 pub mod run;
+
+pub use hardware_threads::gate::Gate;

@@ -17,12 +17,12 @@ use Rattle.thread_promise.specs.Globals.{bank_total}
 use Rattle.thread_promise.specs.Serving.{RunsCode}
 use Rattle.bank_memory.specs.Partition.{globals_of}
 use Rattle.bank_memory.proofs.Partitioned.{total}
-use Rattle.fsm_datapath.specs.Leaf.{parts_of, tells_of}
+use Rattle.fsm_datapath.specs.SoundLeaf.{parts_of, tells_of}
 use Rattle.thread_slots.specs.Services.{numbers_with}
 use Rattle.thread_slots.specs.declared.shape.Shape.{Shape}
 use Rattle.verilog_tree.specs.Scope.{is_clk}
-use Rattle.thread_layout.specs.Thread.{core_ports, cores_of, inputs_of, places_of, IsServed}
-use Rattle.thread_layout.specs.Leaf.{leaf_of}
+use Rattle.fsm_datapath.specs.Thread.{core_ports, cores_of, inputs_of, places_of, IsServed}
+use Rattle.fsm_datapath.specs.Leaf.{leaf_of}
 use Rattle.program_parts.specs.Wired.{promised_ports}
 use Rattle.program_parts.specs.Cores.{AreCoresOf}
 use Rattle.program_parts.specs.Parts.{core_count, numbers_of, IsBody}

@@ -25,9 +25,9 @@ use Rattle.block_ir.specs.declared.plan.StagePlan.{StagePlan}
 use Rattle.block_refine.specs.Routines.{RoutineCode}
 use Rattle.placed_cores.specs.declared.wanted.Wanted.{Wanted}
 use Rattle.thread_slots.specs.declared.shape.Shape.{Shape}
-use Rattle.thread_layout.specs.Thread.{IsServed}
+use Rattle.fsm_datapath.specs.Thread.{IsServed}
 use Rattle.fsm_datapath.specs.Runs.{ServesCode}
-use Rattle.fsm_datapath.specs.Leaf.{IsLeafOfServedCode}
+use Rattle.fsm_datapath.specs.SoundLeaf.{IsLeafOfServedCode}
 use Rattle.fsm_datapath.specs.Routine.{IsRoutineOfServedCode}
 use Rattle.fsm_datapath.specs.Steady.{IsSteadyServedCode}
 use Rattle.program_parts.specs.Plans.{IsRoutine}

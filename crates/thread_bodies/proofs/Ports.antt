@@ -19,10 +19,10 @@ use Rattle.bank_memory.proofs.Partitioned.{total, bank_is, type_here}
 use Rattle.thread_slots.specs.Services.{if_ids, services}
 use Rattle.thread_slots.specs.declared.shape.Service.{Service as Kind}
 use Rattle.thread_slots.specs.declared.shape.Service.TheVariants as kind
-use Rattle.fsm_datapath.specs.Leaf.{parts_of, tells_of}
-use Rattle.thread_layout.specs.Thread.{AreRightSpreads, bank_port, act_port, core_ports}
-use Rattle.thread_layout.proofs.Spreading.{spread_there, spread_count}
-use Rattle.thread_layout.specs.Early.{spread_out}
+use Rattle.fsm_datapath.specs.SoundLeaf.{parts_of, tells_of}
+use Rattle.fsm_datapath.specs.Thread.{AreRightSpreads, bank_port, act_port, core_ports}
+use Rattle.fsm_datapath.proofs.Spreading.{spread_there, spread_count}
+use Rattle.fsm_datapath.specs.Early.{spread_out}
 use Rattle.thread_bodies.specs.Bodies.{served_by, shape_of}
 
 list_same : {X : Type 0} (xs ys : List X) → length xs ≡ length ys → ((k : ℕ) (x : X) → slice_get ys k ≡ Some x → slice_get xs k ≡ Some x) → xs ≡ ys

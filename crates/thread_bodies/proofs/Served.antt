@@ -34,9 +34,9 @@ use Rattle.program_parts.specs.Plans.{IsRoutine}
 use Rattle.bank_partition.specs.declared.banks.Spread.{Spread}
 use Rattle.placed_cores.specs.declared.wanted.Wanted.{Wanted}
 use Rattle.program_parts.specs.Built.{part_of}
-use Rattle.thread_layout.specs.Fields.{IsTypedActOperand}
-use Rattle.thread_layout.specs.Acts.{IsTypedArgument}
-use Rattle.thread_layout.specs.Thread.{IsPrintable, IsServed}
+use Rattle.fsm_datapath.specs.Fields.{IsTypedActOperand}
+use Rattle.fsm_datapath.specs.Acts.{IsTypedArgument}
+use Rattle.fsm_datapath.specs.Thread.{IsPrintable, IsServed}
 use Rattle.program_parts.specs.Cores.{AreCoresOf}
 use Rattle.thread_bodies.specs.Bodies.{served_by, shape_of, CodesAreServed}
 use Rattle.thread_bodies.proofs.Spreads.{right_spreads}

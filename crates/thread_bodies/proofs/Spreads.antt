@@ -10,7 +10,7 @@ use Rattle.bank_partition.specs.Shapes.{spreads_from}
 use Rattle.bank_partition.specs.Partition.{shapes, IsPartition, AreBanks}
 use Rattle.bank_cores.specs.declared.bank.Shape.{Shape as Bank}
 use Rattle.thread_promise.specs.Globals.{bank_total}
-use Rattle.thread_layout.specs.Thread.{AreRightSpreads}
+use Rattle.fsm_datapath.specs.Thread.{AreRightSpreads}
 use Rattle.bank_memory.specs.Partition.{globals_of, ArePartitioned}
 use Rattle.bank_memory.proofs.Banks.{same_global}
 use Rattle.program_parts.proofs.Globals.{power_at, first_at, as_many, long_at, from, few_elements, total_few, within, all_there}

@@ -12,10 +12,10 @@ use Rattle.bank_memory.specs.Partition.{globals_of}
 use Rattle.placed_cores.specs.declared.wanted.Wanted.{Wanted}
 use Rattle.thread_slots.specs.declared.shape.Served.{Served}
 use Rattle.thread_slots.specs.declared.shape.Shape.{Shape}
-use Rattle.thread_layout.specs.Thread.{inputs_of, places_of, IsServed}
-use Rattle.thread_layout.specs.Leaf.{leaf_of}
+use Rattle.fsm_datapath.specs.Thread.{inputs_of, places_of, IsServed}
+use Rattle.fsm_datapath.specs.Leaf.{leaf_of}
 use Rattle.fsm_datapath.specs.Runs.{ServesCode}
-use Rattle.fsm_datapath.specs.Leaf.{IsLeafOfServedCode}
+use Rattle.fsm_datapath.specs.SoundLeaf.{IsLeafOfServedCode}
 use Rattle.fsm_datapath.specs.Routine.{IsRoutineOfServedCode}
 use Rattle.fsm_datapath.specs.Steady.{IsSteadyServedCode}
 use Rattle.program_parts.specs.Plans.{IsRoutine}

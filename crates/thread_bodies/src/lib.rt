@@ -6,6 +6,7 @@ mod threads;
 
 ghost use Rattle.thread_bodies.specs.Bodies.{CodesAreServed, LaidAreBodies, LaidMainStays};
 
+pub use program_plans::{PlannedFunction, plan_functions};
 pub use threads::modules;
 
 /// A module that is laid out for a thread, with ports for all cores of a program, is what the program's parts ask of it.

@@ -1,6 +1,6 @@
 use Rattle.std.proofs.Common.{subst, sym}
 use Rattle.c_program.specs.Plain.{program_of}
-use Rattle.program_plans.specs.Plans.{ArePlanned}
+use Rattle.thread_bodies.specs.Plans.{ArePlanned}
 use Rattle.hls_compile.specs.Plans.{RunPlanned}
 use Rattle.hls_compile.proofs.build.Goals as goal
 

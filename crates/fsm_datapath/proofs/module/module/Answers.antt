@@ -4,7 +4,7 @@ use Rattle.fsm_datapath.specs.Runs.{RunsServedCode, ServesCode}
 use Rattle.fsm_datapath.proofs.Promising.{runs_code}
 use Rattle.fsm_datapath.proofs.Serving.{serves_code}
 use Rattle.fsm_datapath.specs.Routine.{IsRoutineOfServedCode}
-use Rattle.fsm_datapath.specs.Leaf.{IsLeafOfServedCode}
+use Rattle.fsm_datapath.specs.SoundLeaf.{IsLeafOfServedCode}
 use Rattle.fsm_datapath.proofs.Standing.{routine_is}
 use Rattle.fsm_datapath.proofs.Forming.{checked_is}
 use Rattle.fsm_datapath.proofs.Leafing.{leaf_is}
