@@ -17,7 +17,7 @@ use straight_code::fault::LoweringFault;
 use thread_rooms::prints::print_count;
 
 /// The labels of an if: its two statements, and what comes after it.
-#[derive(Clone, Copy, PartialEq, Eq, Debug)]
+#[derive(Clone, Copy)]
 pub struct ChoiceLabels {
     pub if_true: usize,
     pub if_false: usize,
@@ -25,7 +25,7 @@ pub struct ChoiceLabels {
 }
 
 /// The labels of a loop.
-#[derive(Clone, Copy, PartialEq, Eq, Debug)]
+#[derive(Clone, Copy)]
 pub struct LoopLabels {
     /// The first block of each turn.
     pub head: usize,
