@@ -47,23 +47,13 @@ fn push_calls(calls: &mut Items<u32>, statement: &Statement) -> Result<(), Alloc
             push_calls(calls, last)?;
             push_calls(calls, body)
         }
-        Statement::Assign(_, _, right) | Statement::Return(_, Some(right)) => {
-            push_right_side(calls, right)
-        }
-        Statement::Call(_, function, _) => {
-            calls.push(*function)?;
-            Ok(())
-        }
-        Statement::Done
-        | Statement::Sequence(_, _)
-        | Statement::Empty
-        | Statement::Declare(_, _, _)
-        | Statement::Update(_, _, _, _, _)
-        | Statement::Break
-        | Statement::Continue
-        | Statement::Return(_, None)
-        | Statement::Print(_, _, _)
-        | Statement::Thread(_, _) => Ok(()),
+        Statement::Assign(_, _, right) => push_right_side(calls, right),
+        Statement::Return(_, returned) => match returned {
+            Some(right) => push_right_side(calls, right),
+            None => Ok(()),
+        },
+        Statement::Call(_, function, _) => calls.push(*function),
+        _ => Ok(()),
     }
 }
 
