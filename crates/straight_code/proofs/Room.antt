@@ -30,3 +30,36 @@ update_needs homes place operator ty e old mid found read made t a b fault first
     let r = load_count t found read is_read in
     let m = ap (λ (z : OpenBlock). length z.operations) is_made ∙ length-append read.operations (Binary operator ty a b ∷ []) in
     omega (arith, h, n, p, r, m)
+
+-- What a step that assigns needs at each of its parts, where k is what it takes besides the place and the right side.
+
+pub right_needs : (place : Place) (e : Expression) (k : ℕ) (old : OpenBlock) (fault : LoweringFault) → 1 ≤ k → IsFull (length old.operations + (2 * expression_weight e + 1)) fault →
+    IsFull (length old.operations + old.steps + 4 * (place_weight place + expression_weight e + k)) fault
+right_needs place e k old fault some full is = let h = full is in omega (arith, h, some)
+
+pub place_needs : (homes : List Home) (place : Place) (e : Expression) (k : ℕ) (old mid : OpenBlock) (b : Operand) (fault : LoweringFault) → 1 ≤ k → Evaluates homes e old mid b →
+    IsFull (length mid.operations + 2 * place_weight place) fault → IsFull (length old.operations + old.steps + 4 * (place_weight place + expression_weight e + k)) fault
+place_needs homes place e k old mid b fault some first full is = let h = full is in let n = first.computes.count in omega (arith, h, n, some)
+
+pub found_needs : (homes : List Home) (place : Place) (e : Expression) (k : ℕ) (old mid found : OpenBlock) (t : Target) (b : Operand) (fault : LoweringFault) → 1 ≤ k →
+    Evaluates homes e old mid b → Places homes place mid found t → IsFull (length found.operations + 1) fault →
+    IsFull (length old.operations + old.steps + 4 * (place_weight place + expression_weight e + k)) fault
+found_needs homes place e k old mid found t b fault some first at full is =
+    let h = full is in
+    let n = first.computes.count in
+    let p = place_count homes place mid found t at in
+    omega (arith, h, n, p, some)
+
+pub read_needs : (homes : List Home) (place : Place) (e : Expression) (old mid found read : OpenBlock) (t : Target) (b : Operand) (fault : LoweringFault) →
+    Evaluates homes e old mid b → Places homes place mid found t → read ≡ load_block t found → IsFull (length read.operations + 1) fault →
+    IsFull (length old.operations + old.steps + 4 * (place_weight place + expression_weight e + 2)) fault
+read_needs homes place e old mid found read t b fault first at is_read full is =
+    let h = full is in
+    let n = first.computes.count in
+    let p = place_count homes place mid found t at in
+    let r = load_count t found read is_read in
+    omega (arith, h, n, p, r)
+
+pub step_needs : (place : Place) (e : Expression) (k : ℕ) (old last : OpenBlock) (fault : LoweringFault) → 1 ≤ k → last.steps ≡ old.steps → IsFull (last.steps + 1) fault →
+    IsFull (length old.operations + old.steps + 4 * (place_weight place + expression_weight e + k)) fault
+step_needs place e k old last fault some same full is = let h = full is in omega (arith, h, same, some)

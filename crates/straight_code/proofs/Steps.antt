@@ -226,6 +226,11 @@ assignment_at homes place e old mid located_ last new t a first at st stepped =
     assigns homes (λ m. assignment place e m) old located_ last new t a
     (assignment_prepares homes place e old mid located_ t a first (located homes place mid located_ t at)) st stepped
 
+pub assignment_steps : (homes : List Home) (place : Place) (e : Expression) (old mid located_ last : OpenBlock) (t : Target) (a : Operand) →
+    Evaluates homes e old mid a → Places homes place mid located_ t → Stores t a located_ last → last.steps ≡ old.steps
+assignment_steps homes place e old mid located_ last t a first at st =
+    store_steps t a located_ last st ∙ ap (λ (z : OpenBlock). z.steps) (located homes place mid located_ t at).added ∙ ap (λ (z : OpenBlock). z.steps) first.added
+
 -- What the code of a place and of a store gives.
 
 pub scalar_at : (homes : List Home) (p : Place) (storage : Storage) (x : ℕ) (ty : IntegerType) (b : OpenBlock) (index : Operand) (t : Target) →
@@ -351,3 +356,10 @@ pub update_at : (homes : List Home) (place : Place) (operator : BinaryOperator) 
 update_at homes place operator ty ty' e old mid found read made last new t a b c first at is_read is_loaded is_made is_value st stepped =
     assigns homes (λ m. update place operator ty e m) old made last new t c
     (update_prepares homes place operator ty ty' e old mid found read made t a b c first (located homes place mid found t at) is_read is_loaded is_made is_value) st stepped
+
+pub update_steps : (homes : List Home) (place : Place) (operator : BinaryOperator) (ty : IntegerType) (e : Expression) (old mid found read made last : OpenBlock) (t : Target) (a b c : Operand) →
+    Evaluates homes e old mid b → Places homes place mid found t → read ≡ load_block t found → made ≡ with_more read (Binary operator ty a b ∷ []) → Stores t c made last →
+    last.steps ≡ old.steps
+update_steps homes place operator ty e old mid found read made last t a b c first at is_read is_made st =
+    store_steps t c made last st ∙ ap (λ (z : OpenBlock). z.steps) is_made ∙ ap (λ (z : OpenBlock). z.steps) (is_read ∙ load_added t found)
+    ∙ ap (λ (z : OpenBlock). z.steps) (located homes place mid found t at).added ∙ ap (λ (z : OpenBlock). z.steps) first.added

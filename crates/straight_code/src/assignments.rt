@@ -19,7 +19,6 @@ use hls_ints::CType;
 use std::alloc::Global;
 
 /// A step that assigns: the right side, the index, the store.
-#[tactic(auto, using(crate::proofs::Steps::assignment_at, crate::proofs::Working::assignment_works))]
 pub fn lower_assignment(
     alloc: Global,
     homes: &[Home],
@@ -40,7 +39,6 @@ pub fn lower_assignment(
 }
 
 /// A step that works on the old value: the right side, the index, the old value, the operator, the store.
-#[tactic(auto, using(crate::proofs::Steps::update_at, crate::proofs::Working::update_works))]
 pub fn lower_update(
     alloc: Global,
     homes: &[Home],
@@ -58,13 +56,16 @@ pub fn lower_update(
     let right = lower_expression(alloc, homes, block, right)?;
     let target = lower_place(alloc, homes, block, place)?;
     let left = load(alloc, block, &target)?;
-    let operation = Operation::Binary {
-        operator,
+    let value = block.put(
+        alloc,
+        Operation::Binary {
+            operator,
+            ty,
+            left,
+            right,
+        },
         ty,
-        left,
-        right,
-    };
-    let value = block.put(alloc, operation, ty)?;
+    )?;
     store(alloc, block, target, &value)?;
     block.step()?;
     Ok(())

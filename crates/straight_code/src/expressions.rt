@@ -42,45 +42,45 @@ pub fn lower_expression(
         Expression::Constant(ty, number) => Ok(plain(alloc, Source::Constant(*ty, *number))),
         Expression::Variable(storage, variable, ty) => {
             let target = target_at(homes, *storage, *variable, 1, *ty, first_index(alloc));
-            let value = load(alloc, block, &target)?;
-            Ok(value)
+            load(alloc, block, &target)
         }
         Expression::Element(storage, variable, length, ty, index) => {
             let index = lower_expression(alloc, homes, block, index)?;
             let target = target_at(homes, *storage, *variable, *length, *ty, index);
-            let value = load(alloc, block, &target)?;
-            Ok(value)
+            load(alloc, block, &target)
         }
         Expression::Unary(operator, ty, operand) => {
             let operand = lower_expression(alloc, homes, block, operand)?;
             if *operator == UnaryOperator::Plus {
-                let value = converted(alloc, &operand, *ty)?;
-                return Ok(value);
+                return Ok(converted(alloc, &operand, *ty)?);
             }
-            let operation = Operation::Unary {
-                operator: *operator,
-                ty: *ty,
-                operand,
-            };
-            let value = block.put(alloc, operation, expression_type(expression))?;
-            Ok(value)
+            block.put(
+                alloc,
+                Operation::Unary {
+                    operator: *operator,
+                    ty: *ty,
+                    operand,
+                },
+                expression_type(expression),
+            )
         }
         Expression::Binary(operator, ty, left, right) => {
             let left = lower_expression(alloc, homes, block, left)?;
             let right = lower_expression(alloc, homes, block, right)?;
-            let operation = Operation::Binary {
-                operator: *operator,
-                ty: *ty,
-                left,
-                right,
-            };
-            let value = block.put(alloc, operation, expression_type(expression))?;
-            Ok(value)
+            block.put(
+                alloc,
+                Operation::Binary {
+                    operator: *operator,
+                    ty: *ty,
+                    left,
+                    right,
+                },
+                expression_type(expression),
+            )
         }
         Expression::Cast(ty, operand) => {
             let operand = lower_expression(alloc, homes, block, operand)?;
-            let value = converted(alloc, &operand, *ty)?;
-            Ok(value)
+            Ok(converted(alloc, &operand, *ty)?)
         }
     }
 }

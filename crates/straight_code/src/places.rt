@@ -61,13 +61,11 @@ pub fn lower_place(
     match place {
         Place::Scalar(storage, variable, ty) => {
             let index = first_index(alloc);
-            let target = target_at(homes, *storage, *variable, 1, *ty, index);
-            Ok(target)
+            Ok(target_at(homes, *storage, *variable, 1, *ty, index))
         }
         Place::Element(storage, variable, length, ty, index) => {
             let index = lower_expression(alloc, homes, block, index)?;
-            let target = target_at(homes, *storage, *variable, *length, *ty, index);
-            Ok(target)
+            Ok(target_at(homes, *storage, *variable, *length, *ty, index))
         }
     }
 }
@@ -80,29 +78,30 @@ pub fn load(alloc: Global, block: &mut OpenBlock, target: &Target) -> Result<Ope
     ensures full { IfErr result (IsFull (length block.old.operations + 1)) }
 {
     match target {
-        Target::Variable(variable, ty) => {
-            let value = block.variable(alloc, *variable, *ty)?;
-            Ok(value)
-        }
+        Target::Variable(variable, ty) => { Ok(block.variable(alloc, *variable, *ty)?) }
         Target::Array(array, length, ty, index) => {
             let index = copy_of(alloc, index)?;
-            let operation = Operation::ReadArray {
-                array: *array,
-                length: *length,
-                index,
-            };
-            let value = block.put(alloc, operation, *ty)?;
-            Ok(value)
+            block.put(
+                alloc,
+                Operation::ReadArray {
+                    array: *array,
+                    length: *length,
+                    index,
+                },
+                *ty,
+            )
         }
         Target::Global(global, length, ty, index) => {
             let index = copy_of(alloc, index)?;
-            let operation = Operation::ReadGlobal {
-                global: *global,
-                length: *length,
-                index,
-            };
-            let value = block.put(alloc, operation, *ty)?;
-            Ok(value)
+            block.put(
+                alloc,
+                Operation::ReadGlobal {
+                    global: *global,
+                    length: *length,
+                    index,
+                },
+                *ty,
+            )
         }
     }
 }
@@ -127,24 +126,30 @@ pub fn store(
         }
         Target::Array(array, length, ty, index) => {
             let value = converted(alloc, value, ty)?;
-            let operation = Operation::WriteArray {
-                array,
-                length,
-                index,
-                value,
-            };
-            let _ = block.put(alloc, operation, ty)?;
+            let _ = block.put(
+                alloc,
+                Operation::WriteArray {
+                    array,
+                    length,
+                    index,
+                    value,
+                },
+                ty,
+            )?;
             Ok(())
         }
         Target::Global(global, length, ty, index) => {
             let value = converted(alloc, value, ty)?;
-            let operation = Operation::WriteGlobal {
-                global,
-                length,
-                index,
-                value,
-            };
-            let _ = block.put(alloc, operation, ty)?;
+            let _ = block.put(
+                alloc,
+                Operation::WriteGlobal {
+                    global,
+                    length,
+                    index,
+                    value,
+                },
+                ty,
+            )?;
             Ok(())
         }
     }

@@ -1,39 +1,91 @@
-use Rattle.std.proofs.Common.{ap, sym, ◌∙◌}
+use Rattle.std.proofs.Common.{◌≡◌, ◌+◌, ◌*◌, ◌≤◌, length, ap, sym, ◌∙◌, arith}
+use Rattle.std.proofs.lemmas.Result.{IfErr-weaker}
 use Rattle.c_program.specs.Plain.{expression_of}
 use Rattle.c_program.specs.Tree.{Expression}
-use Rattle.straight_code.proofs.Values.{variable_at, element_at, unary_at, binary_at}
+use Rattle.c_program.specs.Weight.{expression_weight}
+use Rattle.straight_code.proofs.Room.{full_more}
+use Rattle.straight_code.proofs.Values.{if_ok_three, variable_at, element_at, unary_at, binary_at}
 use Rattle.straight_code.proofs.expressions.+lower_expression.Goals as goal
 
-pub returns-in_ok-value-in-Variable-clause-value : goal.returns-in_ok-value-in-Variable-clause-value
-returns-in_ok-value-in-Variable-clause-value t c =
-    variable_at c.args.homes.now (expression_of c.args.expression.now) c.in-Variable.storage c.in-Variable.variable c.in-Variable.ty c.args.block.now c.load.new.block
-    c.first_index.result c.in_ok-value-in-Variable.value c.target_at-target.result (ap expression_of c.in-Variable.is) c.first_index.ensures c.target_at-target.ensures
-    c.in_ok-value-in-Variable.ensures.block c.in_ok-value-in-Variable.ensures.value c.in_ok-value-in-Variable.ensures.few
+pub returns-in-Variable : goal.returns-in-Variable
+returns-in-Variable t c = record {
+  value =
+      if_ok_three c.load.result
+      (λ value block is few.
+      variable_at c.args.homes.now (expression_of c.args.expression.now) c.in-Variable.storage c.in-Variable.variable c.in-Variable.ty c.args.block.now c.load.new.block
+      c.first_index.result value c.target_at-target.result (ap expression_of c.in-Variable.is) c.first_index.ensures c.target_at-target.ensures block is few)
+      c.load.ensures.block c.load.ensures.value c.load.ensures.few;
+  full =
+      IfErr-weaker c.load.result _ _
+      (λ fault. full_more fault (length c.args.block.now.operations + 1) (length c.args.block.now.operations + (2 * expression_weight (expression_of c.args.expression.now) + 1)) (omega arith))
+      c.load.ensures.full;
+}
 
-pub returns-in_ok-value-in-Element-clause-value : goal.returns-in_ok-value-in-Element-clause-value
-returns-in_ok-value-in-Element-clause-value t c =
-    element_at c.args.homes.now (expression_of c.deref.result.now) (expression_of c.args.expression.now) c.in-Element.storage c.in-Element.variable c.in-Element.length c.in-Element.ty
-    c.args.block.now c.lower_expression.new.block c.load-in-Element.new.block c.in_ok-index-in-Element.index c.in_ok-value-in-Element.value c.target_at-target-in-Element.result
-    (ap expression_of c.in-Element.is
-    ∙ ap (λ z. Expression.Element c.in-Element.storage c.in-Element.variable c.in-Element.length c.in-Element.ty (expression_of z)) (sym c.deref.ensures))
-    c.in_ok-index-in-Element.ensures.value c.target_at-target-in-Element.ensures
-    c.in_ok-value-in-Element.ensures.block c.in_ok-value-in-Element.ensures.value c.in_ok-value-in-Element.ensures.few
+pub returns-in_ok-index-in-Element : goal.returns-in_ok-index-in-Element
+returns-in_ok-index-in-Element t c =
+    let is =
+    ap expression_of c.in-Element.is
+    ∙ ap (λ z. Expression.Element c.in-Element.storage c.in-Element.variable c.in-Element.length c.in-Element.ty (expression_of z)) (sym c.deref.ensures) in
+    let weighs : expression_weight (expression_of c.args.expression.now) ≡ expression_weight (expression_of c.deref.result.now) + 1 = ap expression_weight is in
+    let count = c.in_ok-index-in-Element.ensures.value.computes.count in
+    record {
+      value =
+          if_ok_three c.load-in-Element.result
+          (λ value block is_value few.
+          element_at c.args.homes.now (expression_of c.deref.result.now) (expression_of c.args.expression.now) c.in-Element.storage c.in-Element.variable c.in-Element.length c.in-Element.ty
+          c.args.block.now c.lower_expression.new.block c.load-in-Element.new.block c.in_ok-index-in-Element.index value c.target_at-target-in-Element.result
+          is c.in_ok-index-in-Element.ensures.value c.target_at-target-in-Element.ensures block is_value few)
+          c.load-in-Element.ensures.block c.load-in-Element.ensures.value c.load-in-Element.ensures.few;
+      full =
+          IfErr-weaker c.load-in-Element.result _ _
+          (λ fault. full_more fault (length c.lower_expression.new.block.operations + 1)
+          (length c.args.block.now.operations + (2 * expression_weight (expression_of c.args.expression.now) + 1)) (omega (arith, weighs, count)))
+          c.load-in-Element.ensures.full;
+    }
 
-pub returns-in_ok-value-in-Unary-2-clause-value : goal.returns-in_ok-value-in-Unary-2-clause-value
-returns-in_ok-value-in-Unary-2-clause-value t c =
-    unary_at c.args.homes.now (expression_of c.deref-in-Unary.result.now) (expression_of c.args.expression.now) c.in-Unary.operator c.in-Unary.ty c.expression_type.result
-    c.args.block.now c.lower_expression-in-Unary.new.block c.put.new.self c.in_ok-operand-in-Unary.operand c.in_ok-value-in-Unary-2.value
-    (ap expression_of c.in-Unary.is ∙ ap (λ z. Expression.Unary c.in-Unary.operator c.in-Unary.ty (expression_of z)) (sym c.deref-in-Unary.ensures))
-    c.in_ok-operand-in-Unary.ensures.value c.in_ok-value-in-Unary-2.ensures.block c.in_ok-value-in-Unary-2.ensures.value c.expression_type.ensures c.in_ok-value-in-Unary-2.ensures.few
+pub returns-else-eq : goal.returns-else-eq
+returns-else-eq t c =
+    let is = ap expression_of c.in-Unary.is ∙ ap (λ z. Expression.Unary c.in-Unary.operator c.in-Unary.ty (expression_of z)) (sym c.deref-in-Unary.ensures) in
+    let weighs : expression_weight (expression_of c.args.expression.now) ≡ expression_weight (expression_of c.deref-in-Unary.result.now) + 1 = ap expression_weight is in
+    let count = c.in_ok-operand-in-Unary.ensures.value.computes.count in
+    record {
+      value =
+          if_ok_three c.put.result
+          (λ value block is_value few.
+          unary_at c.args.homes.now (expression_of c.deref-in-Unary.result.now) (expression_of c.args.expression.now) c.in-Unary.operator c.in-Unary.ty c.expression_type.result
+          c.args.block.now c.lower_expression-in-Unary.new.block c.put.new.self c.in_ok-operand-in-Unary.operand value
+          is c.in_ok-operand-in-Unary.ensures.value block is_value c.expression_type.ensures few)
+          c.put.ensures.block c.put.ensures.value c.put.ensures.few;
+      full =
+          IfErr-weaker c.put.result _ _
+          (λ fault. full_more fault (length c.lower_expression-in-Unary.new.block.operations + 1)
+          (length c.args.block.now.operations + (2 * expression_weight (expression_of c.args.expression.now) + 1)) (omega (arith, weighs, count)))
+          c.put.ensures.full;
+    }
 
-pub returns-in_ok-value-in-Binary-clause-value : goal.returns-in_ok-value-in-Binary-clause-value
-returns-in_ok-value-in-Binary-clause-value t c =
-    binary_at c.args.homes.now (expression_of c.deref-in-Binary.result.now) (expression_of c.deref-in-Binary-2.result.now) (expression_of c.args.expression.now)
-    c.in-Binary.operator c.in-Binary.ty c.expression_type-in-Binary.result
-    c.args.block.now c.lower_expression-in-Binary.new.block c.lower_expression-in-Binary-2.new.block c.put-in-Binary.new.self
-    c.in_ok-left-in-Binary.left c.in_ok-right-in-Binary.right c.in_ok-value-in-Binary.value
-    (ap expression_of c.in-Binary.is
+pub returns-in_ok-right-in-Binary : goal.returns-in_ok-right-in-Binary
+returns-in_ok-right-in-Binary t c =
+    let is =
+    ap expression_of c.in-Binary.is
     ∙ ap (λ z. Expression.Binary c.in-Binary.operator c.in-Binary.ty (expression_of z) (expression_of c.in-Binary.right.value)) (sym c.deref-in-Binary.ensures)
-    ∙ ap (λ z. Expression.Binary c.in-Binary.operator c.in-Binary.ty (expression_of c.deref-in-Binary.result.now) (expression_of z)) (sym c.deref-in-Binary-2.ensures))
-    c.in_ok-left-in-Binary.ensures.value c.in_ok-right-in-Binary.ensures.value c.in_ok-value-in-Binary.ensures.block c.in_ok-value-in-Binary.ensures.value
-    c.expression_type-in-Binary.ensures c.in_ok-value-in-Binary.ensures.few
+    ∙ ap (λ z. Expression.Binary c.in-Binary.operator c.in-Binary.ty (expression_of c.deref-in-Binary.result.now) (expression_of z)) (sym c.deref-in-Binary-2.ensures) in
+    let weighs : expression_weight (expression_of c.args.expression.now)
+    ≡ expression_weight (expression_of c.deref-in-Binary.result.now) + expression_weight (expression_of c.deref-in-Binary-2.result.now) + 1 = ap expression_weight is in
+    let left = c.in_ok-left-in-Binary.ensures.value.computes.count in
+    let right = c.in_ok-right-in-Binary.ensures.value.computes.count in
+    record {
+      value =
+          if_ok_three c.put-in-Binary.result
+          (λ value block is_value few.
+          binary_at c.args.homes.now (expression_of c.deref-in-Binary.result.now) (expression_of c.deref-in-Binary-2.result.now) (expression_of c.args.expression.now)
+          c.in-Binary.operator c.in-Binary.ty c.expression_type-in-Binary.result
+          c.args.block.now c.lower_expression-in-Binary.new.block c.lower_expression-in-Binary-2.new.block c.put-in-Binary.new.self
+          c.in_ok-left-in-Binary.left c.in_ok-right-in-Binary.right value
+          is c.in_ok-left-in-Binary.ensures.value c.in_ok-right-in-Binary.ensures.value block is_value c.expression_type-in-Binary.ensures few)
+          c.put-in-Binary.ensures.block c.put-in-Binary.ensures.value c.put-in-Binary.ensures.few;
+      full =
+          IfErr-weaker c.put-in-Binary.result _ _
+          (λ fault. full_more fault (length c.lower_expression-in-Binary-2.new.block.operations + 1)
+          (length c.args.block.now.operations + (2 * expression_weight (expression_of c.args.expression.now) + 1)) (omega (arith, weighs, left, right)))
+          c.put-in-Binary.ensures.full;
+    }
