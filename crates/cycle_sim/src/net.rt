@@ -36,27 +36,17 @@ fn is_done(signal: &Signal) -> bool
     signal.name.as_str() == "done" && signal.is_output && signal.width == 1
 }
 
-/// The number of the first output `done` of one bit.
-fn first_done(signals: &[Signal]) -> Option<usize>
-    ensures { MatchOption result (LacksDone signals.now) (IsDoneNumber signals.now) }
-{
-    for number in 0..signals.len() {
-        if is_done(&signals[number]) {
-            return Some(number);
-        }
-    }
-    None
-}
-
 /// The number of the output `done`, where there is one of one bit.
 pub fn done_number(signals: &[Signal]) -> usize
     requires { LacksDone signals.now → ⊥ }
     ensures { IsDoneNumber signals.now result }
 {
-    match first_done(signals) {
-        Some(number) => number,
-        None => unreachable!(),
+    for number in 0..signals.len() {
+        if is_done(&signals[number]) {
+            return number;
+        }
     }
+    unreachable!()
 }
 
 fn is_enable(signal: &Signal) -> bool

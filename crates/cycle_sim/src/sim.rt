@@ -4,6 +4,7 @@ ghost use Rattle.std.specs.Prelude.{◌≡◌, ◌++◌, ◌-◌, ◌^◌, ◌<�
 ghost use Rattle.std.specs.Prelude.{ℕ, OnErr, IfNone, IfSome, is_ok, if◌then◌else◌};
 ghost use Rattle.cycle_sim.specs.declared.sim.OpenError.TheVariants as errors;
 ghost use Rattle.sim_values.specs.Order.{IsStuck};
+ghost use Rattle.sim_values.specs.Stands.{spot_of};
 ghost use Rattle.sim_layout.specs.Wires.{signals_of, AreWires};
 ghost use Rattle.cycle_sim.specs.LaidOut.{IsPlacedNet};
 ghost use Rattle.cycle_sim.specs.Opened.{IsOpened, IsOpenable, IsReady, IsTopNumber, IsCause};
@@ -11,7 +12,7 @@ ghost use Rattle.verilog_meaning.specs.Cycles.{Choice as Choosing};
 ghost use Rattle.verilog_meaning.specs.Threads.{all_enabled};
 ghost use Rattle.sim_layout.specs.Rounds.{threads_of, prefs_of};
 ghost use Rattle.verilog_meaning.specs.Names.{top_of};
-ghost use Rattle.cycle_sim.specs.Globals.{element_at, global_of, global_word, IsWord};
+ghost use Rattle.cycle_sim.specs.Globals.{global_of, global_word, IsWord};
 ghost use Rattle.cycle_sim.specs.Lockstep.{TakesRounds, AreRounds, IsLockstep, IsCutOff};
 ghost use Rattle.sim_values.specs.Flat.{Flat, AreNarrow, all_numbers, all_words, all_written};
 ghost use Rattle.sim_layout.specs.Running.{Running, Stands, running, flat, state_of, choice_of, Fits, IsSettledRun, IsSameNet, IsSameState, IsCycleOf, Prints, TellsDone, advanced};
@@ -39,7 +40,6 @@ use thiserror::Error;
 
 /// A net at work: one word for each signal of each instance, in which each step gives one signal its number, and the
 /// words of all memories side by side. `mask` has a bit for each thread.
-#[derive(Drop)]
 pub struct Sim<'a> {
     modules: &'a [Module],
     parts: Vec<Part>,
@@ -52,6 +52,26 @@ pub struct Sim<'a> {
     done: usize,
     mask: u64,
     alloc: Global,
+}
+
+// A drop that is written here is proved here; a derived one is proved again in each crate that drops the type.
+
+impl Drop for Sim<'_> {
+    fn drop(self) {
+        let Sim {
+            modules: _,
+            parts: _,
+            steps: _,
+            numbers: _,
+            next: _,
+            words: _,
+            starts: _,
+            prefs: _,
+            done: _,
+            mask: _,
+            alloc: _,
+        } = self;
+    }
 }
 
 impl<'a> Model for Sim<'a> {
@@ -97,26 +117,13 @@ impl<'a> Sim<'a> {
         requires { Fits self.old (choice_of choice.now) }
         ensures { IsSettledRun (choice_of choice.now) self.old self.new }
     {
-        let Sim {
-            modules,
-            parts: _,
-            steps,
-            numbers,
-            next: _,
-            words,
-            starts,
-            prefs: _,
-            done: _,
-            mask: _,
-            alloc: _,
-        } = self;
         settle(
-            modules,
-            steps.as_slice(),
+            self.modules,
+            self.steps.as_slice(),
             choice,
-            numbers.as_mut_slice(),
-            words.as_slice(),
-            starts.as_slice(),
+            self.numbers.as_mut_slice(),
+            self.words.as_slice(),
+            self.starts.as_slice(),
         );
     }
 
@@ -138,26 +145,13 @@ impl<'a> Sim<'a> {
         requires { (c : Choosing) × (before : Running) × IsSettledRun c before self.old }
         ensures { self.new ≡ advanced self.old }
     {
-        let Sim {
-            modules,
-            parts,
-            steps: _,
-            numbers,
-            next,
-            words,
-            starts,
-            prefs: _,
-            done: _,
-            mask: _,
-            alloc: _,
-        } = self;
         pass_edge(
-            modules,
-            parts.as_slice(),
-            numbers.as_mut_slice(),
-            next.as_mut_slice(),
-            words.as_mut_slice(),
-            starts.as_slice(),
+            self.modules,
+            self.parts.as_slice(),
+            self.numbers.as_mut_slice(),
+            self.next.as_mut_slice(),
+            self.words.as_mut_slice(),
+            self.starts.as_slice(),
         );
     }
 
@@ -236,24 +230,13 @@ impl<'a> Sim<'a> {
         word_at(self.words.as_slice(), start, location.word)
     }
 
-    fn element(&self, location: Option<Location>) -> Option<u64>
-        ensures { result ≡ element_at (state_of self.now) location }
-    {
-        match location {
-            Some(location) => Some(self.word(location)),
-            None => None,
-        }
-    }
-
     /// What `global` answers.
     fn global_word(&self, name: &str, element: u64) -> Option<u64>
         ensures word { result ≡ global_of self.now name.now element }
         ensures stands { Stands self.now }
     {
-        match self.top() {
-            Some(top) => self.element(locate(self.modules, top, name, element)),
-            None => None,
-        }
+        let location = locate(self.modules, self.top()?, name, element)?;
+        Some(self.word(location))
     }
 
     /// The bits of element `element` of a global: word `element / K` of its bank `element mod K`, where it has K banks, the instances
@@ -414,40 +397,32 @@ fn wires_of(
     alloc: Global,
     modules: &[Module],
     top: usize,
-    base: usize,
     parts: &[Part],
     prefs: usize,
 ) -> Result<Vec<Step>, AllocError>
-    ensures { IfOk result (λ wires. AreWires modules.now parts.now (signals_of (slice_get modules.now top)) base prefs wires.items) }
+    ensures { IfOk result (λ wires. AreWires modules.now parts.now (signals_of (slice_get modules.now top)) (spot_of (slice_get parts.now 0)).base prefs wires.items) }
 {
-    let mut wires = roots(alloc, base, module_signals(modules, top), prefs)?;
+    let signals = module_signals(modules, top);
+    let mut wires = roots(alloc, base_at(parts, 0), signals, prefs)?;
     push_parts(&mut wires, modules, parts)?;
     Ok(wires)
 }
 
 /// The first signal that depends on itself, where no order has all steps.
-fn loop_of(
-    alloc: Global,
-    modules: &[Module],
-    placed: &Placed,
-    wires: &[Step],
-) -> Result<OpenError, AllocError>
+fn loop_of(alloc: Global, modules: &[Module], placed: &Placed, wires: &[Step]) -> OpenError
     requires laid { IsPlacedNet modules.now placed.now wires.now }
     requires stuck { IsStuck modules.now wires.now placed.now.free.items }
-    ensures { IfOk result (IsCause modules.now) }
+    ensures { IsCause modules.now result }
 {
-    let found = first_loop(
-        alloc,
-        modules,
-        placed.parts.as_slice(),
-        wires,
-        placed.numbers.len(),
-    )?;
+    let words = placed.numbers.len();
+    let Ok(found) = first_loop(alloc, modules, placed.parts.as_slice(), wires, words) else {
+        return OpenError::Memory;
+    };
     match found {
-        Some(found) => Ok(OpenError::Loop {
+        Some(found) => OpenError::Loop {
             module: found.module,
             signal: found.signal,
-        }),
+        },
         None => unreachable!(),
     }
 }
@@ -475,31 +450,33 @@ impl<'a> Sim<'a> {
         let signals = module_signals(modules, top);
         let prefs = pref_count(signals);
         let mask = enable_mask(signals);
+        let done = done_number(signals);
         let tree = tree_of(alloc, modules, top)?;
         let placed = place(alloc, modules, &tree)?;
-        let base = base_at(placed.parts.as_slice(), 0);
-        let done = further(base, done_number(signals))?;
-        let wires = wires_of(alloc, modules, top, base, placed.parts.as_slice(), prefs)?;
+        let wires = wires_of(alloc, modules, top, placed.parts.as_slice(), prefs)?;
         match order(alloc, modules, wires.as_slice(), placed.free.as_slice())? {
             Some(steps) => Sim::built(alloc, modules, placed, steps, prefs, done, mask),
-            None => Err(loop_of(alloc, modules, &placed, wires.as_slice())?),
+            None => Err(loop_of(alloc, modules, &placed, wires.as_slice())),
         }
     }
 
+    /// A simulator whose output `done` has this number among the signals of the outermost instance.
     fn built(
         alloc: Global,
         modules: &'a [Module],
         placed: Placed,
         steps: Vec<Step>,
         prefs: usize,
-        done: usize,
+        number: usize,
         mask: u64,
     ) -> Result<Self, OpenError>
-        requires ready { IsReady (running modules.now placed.parts.items steps.items placed.numbers.items placed.words.items placed.starts.items prefs done) }
+        requires ready { IsReady (running modules.now placed.parts.items steps.items placed.numbers.items placed.words.items placed.starts.items prefs
+            ((spot_of (slice_get placed.parts.items 0)).base + number)) }
         requires mask { mask ≡ 2 ^ threads_of modules.now - 1 }
         ensures ok { IfOk result (IsOpened modules.entry.now) }
         ensures cause { IfErr result (λ e. e ≡ errors.Memory) }
     {
+        let done = further(base_at(placed.parts.as_slice(), 0), number)?;
         let next = vec![in alloc; 0u64; placed.numbers.len()]?;
         let Placed {
             parts,
