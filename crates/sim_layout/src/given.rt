@@ -4,7 +4,7 @@
 ghost use Rattle.std.specs.Prelude.{◌≡◌, codes, IfOk, OnOk};
 ghost use Rattle.verilog_meaning.specs.Names.{numbered};
 ghost use Rattle.std.specs.Str.{bytes_eq};
-ghost use Rattle.sim_layout.specs.Given.{IsInput, TellsPref, IsPrefOf, IsGivenOne, IsGivenFor, AreRooted, AreRoots};
+ghost use Rattle.sim_layout.specs.Given.{IsInput, TellsPref, IsPrefOf, IsGivenFor, AreRooted, AreRoots};
 
 use crate::wires::further;
 use netlist::netlist::{Signal, Source};
@@ -65,23 +65,6 @@ fn given(alloc: Global, name: &Identifier, prefs: usize) -> Result<Feed, AllocEr
     }
 }
 
-fn push_given(
-    alloc: Global,
-    wires: &mut Vec<Step>,
-    place: usize,
-    name: &Identifier,
-    prefs: usize,
-) -> Result<(), AllocError>
-    ensures { OnOk result (IsGivenOne place prefs name.now wires.old.items wires.new.items) }
-{
-    let feed = given(alloc, name, prefs)?;
-    wires.push(Step {
-        target: place,
-        feed,
-    })?;
-    Ok(())
-}
-
 fn push_root(
     alloc: Global,
     wires: &mut Vec<Step>,
@@ -92,7 +75,14 @@ fn push_root(
     ensures { OnOk result (IsGivenFor place prefs signal.now.name signal.now.source wires.old.items wires.new.items) }
 {
     match &signal.source {
-        Source::Input => push_given(alloc, wires, place, &signal.name, prefs),
+        Source::Input => {
+            let feed = given(alloc, &signal.name, prefs)?;
+            wires.push(Step {
+                target: place,
+                feed,
+            })?;
+            Ok(())
+        }
         Source::Register(_) | Source::Assigned(_) | Source::Port { .. } => Ok(()),
     }
 }

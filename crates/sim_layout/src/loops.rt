@@ -17,14 +17,14 @@ use sim_values::settle::Step;
 use std::alloc::{AllocError, Global};
 
 /// A signal by the number of its module and its own.
-#[derive(Clone, Copy, Debug, PartialEq, Eq)]
+#[derive(Clone, Copy)]
 pub struct Found {
     pub module: usize,
     pub signal: usize,
 }
 
 /// A signal of a part, by the part's number and its own.
-#[derive(Clone, Copy, Debug, PartialEq, Eq)]
+#[derive(Clone, Copy)]
 pub struct Site {
     pub part: usize,
     pub signal: usize,
@@ -230,27 +230,6 @@ fn is_loop(
     leads_back(alloc, modules, wires, words, place, apart.as_mut_slice())
 }
 
-/// Whether the word at a place depends on itself, where all that do are marked.
-fn is_suspect_loop(
-    alloc: Global,
-    modules: &[Module],
-    wires: &[Step],
-    suspects: &[bool],
-    place: usize,
-) -> Result<bool, AllocError>
-    requires room { AreInRoom modules.now wires.now (length suspects.now) }
-    requires suspects { AreSuspects modules.now wires.now suspects.now }
-    requires place { place < length suspects.now }
-    ensures found { IfOk result (λ b. b ≡ true → Leads modules.now wires.now place place) }
-    ensures lacks { IfOk result (λ b. b ≡ false → Leads modules.now wires.now place place → ⊥) }
-{
-    if suspects[place] {
-        is_loop(alloc, modules, wires, suspects.len(), place)
-    } else {
-        Ok(false)
-    }
-}
-
 /// The first of so many words from a place on that depends on itself, where all that do are marked.
 #[tactic(auto, using(crate::proofs::Leading::nowhere_more))]
 fn first_from(
@@ -267,7 +246,8 @@ fn first_from(
     ensures { IfOk result (λ o. MatchOption o (LoopsNowhere modules.now wires.now base signals) (IsLoopIn modules.now wires.now base signals)) }
 {
     for signal in 0..signals {
-        if is_suspect_loop(alloc, modules, wires, suspects, base + signal)? {
+        let place = base + signal;
+        if suspects[place] && is_loop(alloc, modules, wires, suspects.len(), place)? {
             return Ok(Some(signal));
         }
     }

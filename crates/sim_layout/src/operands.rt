@@ -2,7 +2,7 @@
 
 ghost use Rattle.std.specs.Prelude.{◌≡◌, ◌+◌, map, slice_get};
 ghost use Rattle.verilog_meaning.specs.Threads.{operands};
-ghost use Rattle.sim_values.specs.Order.{reads, module_reads, signal_reads, source_reads};
+ghost use Rattle.sim_values.specs.Order.{reads, module_reads};
 ghost use Rattle.sim_layout.specs.Ranks.{operand};
 
 use netlist::netlist::{Module, Source, Value};
@@ -42,24 +42,6 @@ fn value_operand(base: usize, value: &Value, index: usize) -> Option<usize>
     }
 }
 
-fn source_operand(base: usize, source: &Source, index: usize) -> Option<usize>
-    ensures { result ≡ operand (source_reads base source.now) index }
-{
-    match source {
-        Source::Assigned(value) => value_operand(base, value, index),
-        Source::Input | Source::Register(_) | Source::Port { .. } => None,
-    }
-}
-
-fn signal_operand(base: usize, module: &Module, signal: usize, index: usize) -> Option<usize>
-    ensures { result ≡ operand (signal_reads base (slice_get module.now.signals signal)) index }
-{
-    match at(module.signals.as_slice(), signal) {
-        Some(found) => source_operand(base, &found.source, index),
-        None => None,
-    }
-}
-
 fn computed_operand(
     base: usize,
     modules: &[Module],
@@ -69,9 +51,11 @@ fn computed_operand(
 ) -> Option<usize>
     ensures { result ≡ operand (module_reads base signal (slice_get modules.now number)) index }
 {
-    match at(modules, number) {
-        Some(module) => signal_operand(base, module, signal, index),
-        None => None,
+    let module = at(modules, number)?;
+    let found = at(module.signals.as_slice(), signal)?;
+    match &found.source {
+        Source::Assigned(value) => value_operand(base, value, index),
+        Source::Input | Source::Register(_) | Source::Port { .. } => None,
     }
 }
 

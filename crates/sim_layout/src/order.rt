@@ -4,7 +4,7 @@ ghost use Rattle.std.specs.Prelude.{◌≡◌, ℕ, ◌+◌, ◌<◌, ◌≤◌,
 ghost use Rattle.sim_values.specs.declared.settle.Step.{Step as Stepping};
 ghost use Rattle.verilog_meaning.specs.Threads.{operands};
 ghost use Rattle.sim_values.specs.Flat.{EachOf};
-ghost use Rattle.sim_values.specs.Order.{reads, module_reads, signal_reads, source_reads, IsMarked, IsClear, SomeOf, Takes, IsOrder};
+ghost use Rattle.sim_values.specs.Order.{reads, module_reads, IsMarked, IsClear, SomeOf, Takes, IsOrder};
 ghost use Rattle.sim_values.specs.Order.{AreHeld, IsLeft, IsStuck};
 ghost use Rattle.sim_layout.specs.Waits.{IsWaiting, IsListed};
 ghost use Rattle.sim_layout.specs.Growing.{IsUnmet, IsBlocked, IsGrowing};
@@ -70,25 +70,6 @@ fn unmet_operand(marks: &[bool], base: usize, value: &Value) -> Option<usize>
     }
 }
 
-fn unmet_of(marks: &[bool], base: usize, source: &Source) -> Option<usize>
-    ensures { MatchOption result (EachOf (IsMarked marks.now) (source_reads base source.now)) (IsUnmet marks.now (source_reads base source.now)) }
-{
-    match source {
-        Source::Assigned(value) => unmet_operand(marks, base, value),
-        Source::Input | Source::Register(_) | Source::Port { .. } => None,
-    }
-}
-
-fn unmet_signal(marks: &[bool], base: usize, module: &Module, signal: usize) -> Option<usize>
-    ensures { MatchOption result (EachOf (IsMarked marks.now) (signal_reads base (slice_get module.now.signals signal)))
-        (IsUnmet marks.now (signal_reads base (slice_get module.now.signals signal))) }
-{
-    match at(module.signals.as_slice(), signal) {
-        Some(found) => unmet_of(marks, base, &found.source),
-        None => None,
-    }
-}
-
 fn unmet_computed(
     marks: &[bool],
     base: usize,
@@ -99,9 +80,11 @@ fn unmet_computed(
     ensures { MatchOption result (EachOf (IsMarked marks.now) (module_reads base signal (slice_get modules.now number)))
         (IsUnmet marks.now (module_reads base signal (slice_get modules.now number))) }
 {
-    match at(modules, number) {
-        Some(module) => unmet_signal(marks, base, module, signal),
-        None => None,
+    let module = at(modules, number)?;
+    let found = at(module.signals.as_slice(), signal)?;
+    match &found.source {
+        Source::Assigned(value) => unmet_operand(marks, base, value),
+        Source::Input | Source::Register(_) | Source::Port { .. } => None,
     }
 }
 
@@ -237,7 +220,7 @@ fn growth_of(
 {
     Ok(Growth {
         marks: Vec::from_slice(alloc, free)?,
-        taken: Vec::with_capacity(alloc, wires.len())?,
+        taken: Vec::new(alloc),
         waits: no_waits(alloc, free.len())?,
         looks: numbers_below(alloc, wires.len())?,
     })

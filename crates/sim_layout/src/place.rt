@@ -36,19 +36,16 @@ fn is_free(source: &Source) -> bool
     matches!(source, Source::Register(_))
 }
 
-fn push_numbers(numbers: &mut Vec<u64>, signals: &[Signal]) -> Result<(), AllocError>
-    ensures { OnOk result (numbers.new.items ≡ numbers.old.items ++ numbers_in signals.now) }
+fn push_signals(
+    numbers: &mut Vec<u64>,
+    free: &mut Vec<bool>,
+    signals: &[Signal],
+) -> Result<(), AllocError>
+    ensures numbers { OnOk result (numbers.new.items ≡ numbers.old.items ++ numbers_in signals.now) }
+    ensures free { OnOk result (free.new.items ≡ free.old.items ++ frees_in signals.now) }
 {
     for signal in signals {
         numbers.push(initial_of(&signal.source))?;
-    }
-    Ok(())
-}
-
-fn push_frees(free: &mut Vec<bool>, signals: &[Signal]) -> Result<(), AllocError>
-    ensures { OnOk result (free.new.items ≡ free.old.items ++ frees_in signals.now) }
-{
-    for signal in signals {
         free.push(is_free(&signal.source))?;
     }
     Ok(())
@@ -69,22 +66,6 @@ fn push_memories(
     Ok(())
 }
 
-fn push_module(placed: &mut Placed, module: &Module) -> Result<(), AllocError>
-    ensures parts { OnOk result (placed.new.parts.items ≡ placed.old.parts.items) }
-    ensures numbers { OnOk result (placed.new.numbers.items ≡ placed.old.numbers.items ++ numbers_in module.now.signals) }
-    ensures free { OnOk result (placed.new.free.items ≡ placed.old.free.items ++ frees_in module.now.signals) }
-    ensures words { OnOk result (placed.new.words.items ≡ placed.old.words.items ++ words_in module.now.memories) }
-    ensures starts { OnOk result (placed.new.starts.items ≡ placed.old.starts.items ++ starts_in (length placed.old.words.items) module.now.memories) }
-{
-    push_numbers(&mut placed.numbers, module.signals.as_slice())?;
-    push_frees(&mut placed.free, module.signals.as_slice())?;
-    push_memories(
-        &mut placed.starts,
-        &mut placed.words,
-        module.memories.as_slice(),
-    )
-}
-
 fn push_words(placed: &mut Placed, modules: &[Module], kind: usize) -> Result<(), AllocError>
     ensures parts { OnOk result (placed.new.parts.items ≡ placed.old.parts.items) }
     ensures numbers { OnOk result (placed.new.numbers.items ≡ placed.old.numbers.items ++ numbers_of (slice_get modules.now kind)) }
@@ -92,10 +73,19 @@ fn push_words(placed: &mut Placed, modules: &[Module], kind: usize) -> Result<()
     ensures words { OnOk result (placed.new.words.items ≡ placed.old.words.items ++ words_of (slice_get modules.now kind)) }
     ensures starts { OnOk result (placed.new.starts.items ≡ placed.old.starts.items ++ starts_of (length placed.old.words.items) (slice_get modules.now kind)) }
 {
-    match at(modules, kind) {
-        Some(module) => push_module(placed, module),
-        None => Ok(()),
-    }
+    let Some(module) = at(modules, kind) else {
+        return Ok(());
+    };
+    push_signals(
+        &mut placed.numbers,
+        &mut placed.free,
+        module.signals.as_slice(),
+    )?;
+    push_memories(
+        &mut placed.starts,
+        &mut placed.words,
+        module.memories.as_slice(),
+    )
 }
 
 /// Puts an instance behind the others.

@@ -16,7 +16,7 @@ use sqlite_items::at;
 use std::alloc::AllocError;
 
 /// How far a string is read: at a plain byte, after a backslash, after a %, and after %0.
-#[derive(Clone, Copy, Debug, PartialEq, Eq)]
+#[derive(Clone, Copy)]
 pub enum Mode {
     Plain,
     Escape,
@@ -167,31 +167,6 @@ fn put_string(
     Ok(())
 }
 
-fn put_effect(
-    out: &mut Bytes,
-    module: &Module,
-    spot: Spot,
-    now: &Now,
-    effect: &Effect,
-) -> Result<(), AllocError>
-    requires { IsNarrowEffect «module».now effect.now }
-    ensures ok { OnOk result (out.new ≡ out.old ++ effect_bytes «module».now (reading spot (flat_of now.now)) effect.now) }
-    ensures kept { Keeps out.old out.new }
-    ensures prints { OnErr result (IsSomething (effect_bytes «module».now (reading spot (flat_of now.now)) effect.now)) }
-{
-    match effect {
-        Effect::Write { text, arguments } => put_string(
-            out,
-            module,
-            spot,
-            now,
-            text.as_str().as_bytes(),
-            arguments.as_slice(),
-        ),
-        Effect::Set { .. } | Effect::Store { .. } => Ok(()),
-    }
-}
-
 fn put_action(
     out: &mut Bytes,
     module: &Module,
@@ -206,10 +181,19 @@ fn put_action(
     ensures prints { OnErr result
         (IsSomething (if is_on (reading spot (flat_of now.now)) action.now.conditions then effect_bytes «module».now (reading spot (flat_of now.now)) action.now.effect else [])) }
 {
-    if conditions_hold(spot, now, action.conditions.as_slice()) {
-        put_effect(out, module, spot, now, &action.effect)
-    } else {
-        Ok(())
+    if !conditions_hold(spot, now, action.conditions.as_slice()) {
+        return Ok(());
+    }
+    match &action.effect {
+        Effect::Write { text, arguments } => put_string(
+            out,
+            module,
+            spot,
+            now,
+            text.as_str().as_bytes(),
+            arguments.as_slice(),
+        ),
+        Effect::Set { .. } | Effect::Store { .. } => Ok(()),
     }
 }
 

@@ -10,12 +10,6 @@ use netlist::netlist::Module;
 use sim_values::settle::{Feed, Step};
 use std::alloc::{AllocError, Global};
 
-fn rank_of(ranks: &[usize], word: usize) -> usize
-    ensures { result ≡ slice_index ranks.now word }
-{
-    if word < ranks.len() { ranks[word] } else { 0 }
-}
-
 /// A rank that none of the words that a feed reads has a higher one than: where there are any, the highest of theirs. None: one of them has no rank.
 fn highest(ranks: &[usize], modules: &[Module], feed: Feed) -> Option<usize>
     ensures { MatchOption result ⊤ (λ most. AreUpTo ranks.now most (reads modules.now feed)) }
@@ -43,7 +37,7 @@ fn suspect(modules: &[Module], ranks: &[usize], wire: Step, suspects: &mut [bool
     let Some(most) = highest(ranks, modules, wire.feed) else {
         return false;
     };
-    let own = rank_of(ranks, wire.target);
+    let own = ranks.get(wire.target).copied().unwrap_or(0);
     if most >= own {
         suspects[wire.target] = true;
     }

@@ -7,7 +7,7 @@ use sqlite_items::at;
 use std::alloc::{AllocError, Global};
 
 /// A step that waits for a word, and the number of the wait before it for the same word.
-#[derive(Clone, Copy, Debug, PartialEq, Eq)]
+#[derive(Clone, Copy)]
 pub struct Wait {
     pub step: usize,
     pub before: Option<usize>,

@@ -4,7 +4,7 @@ ghost use Rattle.std.specs.Prelude.{◌≡◌, ◌+◌, ◌++◌, ◌∷◌, [],
 ghost use Rattle.verilog_meaning.specs.Readings.{or_zero};
 ghost use Rattle.sim_values.specs.declared.settle.Feed.TheVariants as feeds;
 ghost use Rattle.sim_values.specs.Stands.{spot_of};
-ghost use Rattle.sim_layout.specs.Wires.{signals_of, steps_to, own_feed, own_steps, join_feed, join_steps, instance_steps, all_instances, part_steps, all_steps};
+ghost use Rattle.sim_layout.specs.Wires.{signals_of, steps_to, own_feed, own_steps, join_steps, all_instances, all_steps};
 
 use netlist::netlist::{Instance, Module, Signal, Source};
 use sim_values::edge::Part;
@@ -58,21 +58,6 @@ fn push_copy(
     Ok(())
 }
 
-fn push_computed(wires: &mut Vec<Step>, part: Part, signal: usize) -> Result<(), AllocError>
-    ensures { OnOk result (wires.new.items ≡ wires.old.items ++ steps_to (part.spot.base + signal) (feeds.Computed part.module signal part.spot ∷ [])) }
-{
-    let target = further(part.spot.base, signal)?;
-    wires.push(Step {
-        target,
-        feed: Feed::Computed {
-            module: part.module,
-            signal,
-            spot: part.spot,
-        },
-    })?;
-    Ok(())
-}
-
 fn push_own(
     wires: &mut Vec<Step>,
     parts: &[Part],
@@ -83,7 +68,16 @@ fn push_own(
     ensures { OnOk result (wires.new.items ≡ wires.old.items ++ steps_to (part.spot.base + signal) (own_feed parts.now part signal source.now)) }
 {
     match source {
-        Source::Assigned(_) => push_computed(wires, part, signal),
+        Source::Assigned(_) => {
+            let feed = Feed::Computed {
+                module: part.module,
+                signal,
+                spot: part.spot,
+            };
+            let target = further(part.spot.base, signal)?;
+            wires.push(Step { target, feed })?;
+            Ok(())
+        }
         Source::Port { instance, port } => {
             let place = further(part.children, *instance)?;
             push_copy(wires, part.spot.base, signal, base_at(parts, place), *port)
@@ -115,22 +109,6 @@ fn connected(inputs: &[usize], signal: usize) -> usize
     }
 }
 
-fn push_join(
-    wires: &mut Vec<Step>,
-    base: usize,
-    inputs: &[usize],
-    child: usize,
-    signal: usize,
-    source: &Source,
-) -> Result<(), AllocError>
-    ensures { OnOk result (wires.new.items ≡ wires.old.items ++ steps_to (child + signal) (join_feed base inputs.now signal source.now)) }
-{
-    match source {
-        Source::Input => push_copy(wires, child, signal, base, connected(inputs, signal)),
-        Source::Register(_) | Source::Assigned(_) | Source::Port { .. } => Ok(()),
-    }
-}
-
 fn push_joins(
     wires: &mut Vec<Step>,
     base: usize,
@@ -141,29 +119,12 @@ fn push_joins(
     ensures { OnOk result (wires.new.items ≡ wires.old.items ++ join_steps base inputs.now child 0 signals.now) }
 {
     for signal in 0..signals.len() {
-        push_join(wires, base, inputs, child, signal, &signals[signal].source)?;
+        match &signals[signal].source {
+            Source::Input => push_copy(wires, child, signal, base, connected(inputs, signal))?,
+            Source::Register(_) | Source::Assigned(_) | Source::Port { .. } => {}
+        }
     }
     Ok(())
-}
-
-fn push_instance(
-    wires: &mut Vec<Step>,
-    modules: &[Module],
-    parts: &[Part],
-    part: Part,
-    number: usize,
-    instance: &Instance,
-) -> Result<(), AllocError>
-    ensures { OnOk result (wires.new.items ≡ wires.old.items ++ instance_steps modules.now parts.now part number instance.now) }
-{
-    let place = further(part.children, number)?;
-    push_joins(
-        wires,
-        part.spot.base,
-        instance.inputs.as_slice(),
-        base_at(parts, place),
-        module_signals(modules, instance.of),
-    )
 }
 
 fn push_instances(
@@ -176,27 +137,17 @@ fn push_instances(
     ensures { OnOk result (wires.new.items ≡ wires.old.items ++ all_instances modules.now parts.now part 0 instances.now) }
 {
     for number in 0..instances.len() {
-        push_instance(wires, modules, parts, part, number, &instances[number])?;
+        let instance = &instances[number];
+        let place = further(part.children, number)?;
+        push_joins(
+            wires,
+            part.spot.base,
+            instance.inputs.as_slice(),
+            base_at(parts, place),
+            module_signals(modules, instance.of),
+        )?;
     }
     Ok(())
-}
-
-fn push_part(
-    wires: &mut Vec<Step>,
-    modules: &[Module],
-    parts: &[Part],
-    part: Part,
-) -> Result<(), AllocError>
-    ensures { OnOk result (wires.new.items ≡ wires.old.items ++ part_steps modules.now parts.now part) }
-{
-    push_all_own(wires, parts, part, module_signals(modules, part.module))?;
-    push_instances(
-        wires,
-        modules,
-        parts,
-        part,
-        module_instances(modules, part.module),
-    )
 }
 
 /// Appends the steps of all instances, those for the inputs of the outermost aside.
@@ -208,7 +159,9 @@ pub fn push_parts(
     ensures { OnOk result (wires.new.items ≡ wires.old.items ++ all_steps modules.now parts.now parts.now) }
 {
     for part in parts {
-        push_part(wires, modules, parts, *part)?;
+        push_all_own(wires, parts, *part, module_signals(modules, part.module))?;
+        let instances = module_instances(modules, part.module);
+        push_instances(wires, modules, parts, *part, instances)?;
     }
     Ok(())
 }

@@ -1,6 +1,0 @@
-use Rattle.std.proofs.Common.{◌≡◌, ◌++◌, drop}
-use Rattle.sim_layout.specs.Placed.{numbers_in}
-use Rattle.sim_layout.proofs.place.push_numbers.Given as goal
-
-abbrev pub invariant-loop-signal : goal.invariant-loop-signal
-invariant-loop-signal l = l.initial.numbers.items ++ numbers_in l.signals ≡ l.numbers.items ++ numbers_in (drop l.signal-index l.signals)
