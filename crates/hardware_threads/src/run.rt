@@ -75,17 +75,17 @@ fn run_as<'a, J: Case + Send + Sync, R: Threads + Wait + Sync, G: Gate + Sync>(
     requires frame { Frame J.modules J.threads J.layout }
     requires net { IsSameNet J.layout first }
     requires begins { IsOpened J.modules first }
+    requires any { 0 < threads }
     requires few { threads ≤ 64 }
     requires threads { threads ≡ J.threads }
     requires entries { entries ≡ J.most }
     ensures { IfOk result (λ r. IsRan J.modules J.threads J.most r.journal r.output r.verdict) }
 {
-    let last = open_seat::<J>(&first)?;
     let mut seats: Vec<Seat<'a, J>> = open_seats(alloc, &first, threads)?;
     let board: Board<'a, J> = Board::open(alloc, first, entries)?;
     let shared = Mutex::new(board);
     work_beside(rt, &shared, gate, 0, seats.as_mut_slice());
-    alone(shared.into_inner(), last)
+    alone(shared.into_inner(), &mut seats[0])
 }
 
 /// A seat for each thread.
@@ -195,18 +195,15 @@ fn work_beside<'a, J: Case + Send + Sync, R: Threads + Wait + Sync, G: Gate + Sy
     }
 }
 
-/// Goes on alone until there is a verdict.
+/// Goes on alone, on a seat that no worker needs any more, until there is a verdict.
 #[tactic(auto, using(crate::proofs::Ending::ran_at))]
-fn alone<'a, J: Case>(board: Board<'a, J>, seat: Seat<'a, J>) -> Result<Ran, AllocError>
+fn alone<'a, J: Case>(board: Board<'a, J>, seat: &mut Seat<'a, J>) -> Result<Ran, AllocError>
     ensures { IfOk result (λ r. IsRan J.modules J.threads J.most r.journal r.output r.verdict) }
 {
     let mut board = board;
-    let Seat {
-        mut start,
-        mut local,
-    } = seat;
+    let Seat { start, local } = seat;
     'turns: loop {
-        if let Some(verdict) = board.turn(&mut start, &mut local)? {
+        if let Some(verdict) = board.turn(start, local)? {
             let (output, journal) = board.finish();
             return Ok(Ran {
                 verdict,
