@@ -2,7 +2,7 @@
 
 ghost use Rattle.std.specs.Prelude.{◌≡◌, ℕ, ◌+◌, ◌∷◌, [], slice_index, slice_set, slice_get};
 ghost use Rattle.verilog_value.specs.Readings.{is_on};
-ghost use Rattle.sim_values.specs.Flat.{Flat, flat_of, reading, set_number, stored_word, act_number, act_word, acted_numbers, acted_words};
+ghost use Rattle.sim_values.specs.Flat.{Flat, flat_of, reading, stored_word, act_number, act_word, acted_numbers, acted_words};
 ghost use Rattle.sim_values.specs.Flat.{all_numbers, all_words, part_words, actions_of};
 ghost use Rattle.sim_values.specs.Stands.{children_of, kind_of, spot_of, spot_at};
 
@@ -12,7 +12,7 @@ use netlist::netlist::{Action, Effect, Module};
 use sqlite_items::at;
 
 /// An instance: the number of its module, where it stands, and the number of its first instance.
-#[derive(Clone, Copy, Debug, PartialEq, Eq)]
+#[derive(Clone, Copy)]
 pub struct Part {
     pub module: usize,
     pub spot: Spot,
@@ -95,24 +95,19 @@ pub fn set_word_at(words: &mut [u64], start: u64, number: u64, word: u64)
     }
 }
 
-fn effect_numbers(spot: Spot, now: &Now, next: &mut [u64], effect: &Effect)
-    ensures { next.new ≡ set_number spot (flat_of now.now) next.old effect.now }
+fn act_numbers(spot: Spot, now: &Now, next: &mut [u64], action: &Action)
+    ensures { next.new ≡ act_number spot (flat_of now.now) next.old action.now }
 {
-    if let Effect::Set { register, source } = effect {
+    if !conditions_hold(spot, now, action.conditions.as_slice()) {
+        return;
+    }
+    if let Effect::Set { register, source } = &action.effect {
         set_number_at(
             next,
             spot.base,
             *register,
             number_at(now.numbers, spot.base, *source),
         );
-    }
-}
-
-fn act_numbers(spot: Spot, now: &Now, next: &mut [u64], action: &Action)
-    ensures { next.new ≡ act_number spot (flat_of now.now) next.old action.now }
-{
-    if conditions_hold(spot, now, action.conditions.as_slice()) {
-        effect_numbers(spot, now, next, &action.effect);
     }
 }
 

@@ -9,14 +9,21 @@ use netlist::netlist::{Module, Source};
 use sqlite_items::{Items, at};
 
 /// What a cycle is run under: the enabled threads, and the preferred thread of each arbiter.
-#[derive(Drop)]
 pub struct Choice {
     pub en: u64,
     pub prefs: Items<u64>,
 }
 
+// A drop that is written here is proved here; a derived one is proved again in each crate that drops the type.
+
+impl Drop for Choice {
+    fn drop(self) {
+        let Choice { en: _, prefs: _ } = self;
+    }
+}
+
 /// What gives a word its number.
-#[derive(Clone, Copy, Debug, PartialEq, Eq)]
+#[derive(Clone, Copy)]
 pub enum Feed {
     Zero,
     Enables,
@@ -32,7 +39,7 @@ pub enum Feed {
 }
 
 /// The word that is given its number, and what gives it.
-#[derive(Clone, Copy, Debug, PartialEq, Eq)]
+#[derive(Clone, Copy)]
 pub struct Step {
     pub target: usize,
     pub feed: Feed,

@@ -8,10 +8,20 @@ use sqlite_items::at;
 use std::alloc::{AllocError, Global};
 
 /// Of each instance the number of its module, and the place of the first instance in it.
-#[derive(Drop)]
 pub struct Tree {
     pub kinds: Vec<usize>,
     pub children: Vec<usize>,
+}
+
+// A drop that is written here is proved here; a derived one is proved again in each crate that drops the type.
+
+impl Drop for Tree {
+    fn drop(self) {
+        let Tree {
+            kinds: _,
+            children: _,
+        } = self;
+    }
 }
 
 /// The instances of the module of a number.

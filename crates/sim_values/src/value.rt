@@ -11,7 +11,7 @@ use sqlite_items::at;
 use verilog_value::operators::{beside, binary, divided, repeated, selected, signed_divided};
 
 /// Where an instance stands: its signals from word `base` on, its memories from memory `memories` on.
-#[derive(Clone, Copy, Debug, PartialEq, Eq)]
+#[derive(Clone, Copy)]
 pub struct Spot {
     pub base: usize,
     pub memories: usize,
