@@ -1,7 +1,8 @@
 // What a thread asks of cores in a state: wires that read registers alone.
 
-ghost use Rattle.std.specs.Prelude.{◌≡◌, ◌∷◌, [], ◌++◌, true, length, map, option_map, slice_get, IfOk};
+ghost use Rattle.std.specs.Prelude.{◌≡◌, List, ◌∷◌, [], ◌++◌, true, length, map, option_map, slice_get, IfOk};
 ghost use Rattle.hls_ints.specs.Types.{width_of};
+ghost use Rattle.netlist.specs.declared.netlist.Signal.{Signal};
 ghost use Rattle.thread_slots.specs.Bits.{MakesAny, AddsAny};
 ghost use Rattle.thread_slots.specs.Services.{if_ids};
 ghost use Rattle.thread_requests.specs.Early.{BeginsRequests, AsksBanks, OpensBanks, OpensActs, OpensObjects, IsLost, LaysEarlyWired, copies_of, spread_out, wants_of};
@@ -13,7 +14,7 @@ use block_ir::code::ThreadCode;
 use block_ir::plan::Planned;
 use hls_ints::CType;
 use operator_wires::wires::Wires;
-use sqlite_items::Items;
+use sqlite_items::{Boxed, Items};
 use std::alloc::{AllocError, Global};
 use thread_asks::asking::{Caller, ask_stages};
 use thread_asks::met::name_met;
@@ -85,44 +86,71 @@ pub fn lay_early(
     ensures { IfOk result (LaysEarlyWired globals.now code.now registers.now granted.now caller planned.now wires.old.signals wires.new.signals) }
 {
     let spreads = registers.spreads.as_slice();
-    let Asked { requests, done } = ask_banks(wires, registers, code, globals, caller, planned)?;
-    let held = need_stages(wires, registers, code, planned, done)?;
-    let wants = requests.banks.wants.as_slice();
+    let asked = ask_all(wires, registers, code, globals, caller, planned)?;
+    let all = asked.get();
+    let held = need_stages(wires, registers, code, planned, all.done)?;
+    let wants = all.requests.banks.wants.as_slice();
     let mut opens = open_banks(wires, spreads, granted, wants)?;
     let Acts {
         opens: others,
         barriers,
-    } = open_acts(wires, &requests, caller.served)?;
-    let lost = lay_lost(wires, &requests, others.as_slice())?;
-    let need = any_needed(wires, held, &requests)?;
+    } = open_acts(wires, &all.requests, caller.served)?;
+    let lost = lay_lost(wires, &all.requests, others.as_slice())?;
+    let need = any_needed(wires, held, &all.requests)?;
     opens.append(others)?;
+    let own = asked.into_inner();
     Ok(Early {
-        requests,
+        requests: own.requests,
         opens,
         barriers,
         lost,
         need,
-        done,
+        done: own.done,
     })
 }
 
-/// What all stages ask, bank by bank.
-fn ask_banks(
+/// What all stages ask, bank by bank, and the end.
+fn ask_all(
     wires: &mut Wires,
     registers: &Registers,
     code: &ThreadCode,
     globals: &[CType],
     caller: Caller,
     planned: &Planned,
-) -> Result<Asked, AllocError>
+) -> Result<Boxed<Asked>, AllocError>
     ensures { IfOk result (λ asked. AsksBanks globals.now code.now registers.now caller planned.now wires.old.signals wires.new.signals asked.requests asked.done) }
 {
-    let whole = one_bank_each(wires.alloc, globals.len())?;
     let mut requests = begin_requests(wires, registers, code, globals, caller.served)?;
-    let done = ask_stages(
+    let done = ask_banks(
         wires,
         registers,
         &mut requests,
+        code,
+        globals,
+        caller,
+        planned,
+    )?;
+    Boxed::new(wires.alloc, Asked { requests, done })
+}
+
+/// What all stages ask, where nobody is asked before. Answers whether the slot is at the end.
+fn ask_banks(
+    wires: &mut Wires,
+    registers: &Registers,
+    requests: &mut Requests,
+    code: &ThreadCode,
+    globals: &[CType],
+    caller: Caller,
+    planned: &Planned,
+) -> Result<usize, AllocError>
+    ensures { IfOk result (λ done. (start : List Signal) → BeginsRequests code.now registers.now caller.served (map width_of globals.now) start wires.old.signals requests.old
+        → AsksBanks globals.now code.now registers.now caller planned.now start wires.new.signals requests.new done) }
+{
+    let whole = one_bank_each(wires.alloc, globals.len())?;
+    let done = ask_stages(
+        wires,
+        registers,
+        requests,
         code,
         globals,
         whole.as_slice(),
@@ -131,7 +159,7 @@ fn ask_banks(
     )?;
     let banks = spread_requests(wires, registers.spreads.as_slice(), &requests.banks)?;
     requests.banks = banks;
-    Ok(Asked { requests, done })
+    Ok(done)
 }
 
 /// Nobody is asked, of globals as wide as their types. At the meeting of a wait the barrier is named at which the thread meets

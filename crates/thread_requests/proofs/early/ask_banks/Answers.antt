@@ -7,19 +7,18 @@ use Rattle.thread_requests.proofs.Asking.{banks_asked}
 use Rattle.thread_requests.proofs.early.ask_banks.Goals as goal
 
 pub returns : goal.returns
-returns c =
-    let a = c.args.wires.now.signals in
-    let b = c.begin_requests.new.wires.signals in
+returns c = λ a start.
+    let b = c.args.wires.now.signals in
     let d = c.ask_stages.new.wires.signals in
     let e = c.spread_requests.new.wires.signals in
     let globals = c.args.globals.now in
     let code = c.args.code.now in
     let registers = c.args.registers.now in
+    let before = c.args.requests.now in
     let asked = c.ask_stages.new.requests in
     let banks = c.in_ok-banks.banks in
-    let start = c.in_ok-requests.ensures in
-    banks_asked globals code registers c.args.caller c.args.planned.now a b d e c.in_ok-requests.requests (with_banks asked banks) asked.banks c.in_ok-whole.whole
+    banks_asked globals code registers c.args.caller c.args.planned.now a b d e before (with_banks asked banks) asked.banks c.in_ok-whole.whole
     c.in_ok-done.done c.in_ok-whole.ensures start.begins start.met.names start.wired
-    (subst (λ (z : List Spread). AsksAllWired globals z code registers c.args.caller c.args.planned.now b d c.in_ok-requests.requests asked c.in_ok-done.done)
+    (subst (λ (z : List Spread). AsksAllWired globals z code registers c.args.caller c.args.planned.now b d before asked c.in_ok-done.done)
     c.as_slice.ensures c.in_ok-done.ensures)
     (subst (λ (z : List Spread). SpreadsRequests z d e asked.banks banks) c.as_slice-2.ensures c.in_ok-banks.ensures)
