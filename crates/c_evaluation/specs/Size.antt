@@ -1,7 +1,18 @@
--- How much of a work list can be unfolded before an item takes a step: the measure by which settling ends.
-use Rattle.std.specs.Prelude.{ℕ, ◌+◌, List, [], ◌∷◌}
+-- Which statements take a step themselves, and how much of a work list can be unfolded before an item takes one: the
+-- measure by which settling ends.
+use Rattle.std.specs.Prelude.{ℕ, Bool, true, false, ◌+◌, List, [], ◌∷◌}
 use Rattle.c_program.specs.Tree.{Statement}
 use Rattle.thread_semantics.specs.Work.{Loop, Work, Do, Next}
+
+abbrev pub takes_step : Statement → Bool
+takes_step (Statement.Declare offset local operators) = true
+takes_step (Statement.Assign offset place right) = true
+takes_step (Statement.Update offset place operator ty right) = true
+takes_step (Statement.Return offset right) = true
+takes_step (Statement.Call offset function arguments) = true
+takes_step (Statement.Print offset format arguments) = true
+takes_step (Statement.Thread offset call) = true
+takes_step statement = false
 
 abbrev pub statement_size : Statement → ℕ
 statement_size (Statement.Block body) = statement_size body + 1

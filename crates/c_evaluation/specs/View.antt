@@ -1,9 +1,10 @@
 -- What the items of a work list stand for.
-use Rattle.std.specs.Prelude.{List, map, Option, Some, None}
+use Rattle.std.specs.Prelude.{List, map, Option, Some, None, Box, box_value}
 use Rattle.std.specs.Borrow.{Bor}
+use Rattle.std.specs.declared.alloc.Global.{Global}
 use Rattle.c_program.specs.declared.tree.Statement.{Statement as StatementTree}
 use Rattle.c_program.specs.Tree.{Statement}
-use Rattle.c_program.specs.Plain.{condition_of, place_of, pieces_of, statement_of}
+use Rattle.c_program.specs.Plain.{condition_of, place_of, pieces_of, statement_of, boxed_statement_of}
 use Rattle.thread_semantics.specs.Work.{Loop, Act, Print, Create, Join, MutexInit, MutexDestroy, MutexLock, MutexUnlock, BarrierInit, BarrierDestroy, BarrierWait}
 use Rattle.thread_semantics.specs.Work.{Work, Do, Ask, ThenBoth, ThenEither, ThenOpposite, Choose, Turn, Next, Store, Hand, Drop, Perform}
 use Rattle.c_evaluation.specs.declared.work.Loop.{Loop as LoopItem}
@@ -12,12 +13,12 @@ use Rattle.c_evaluation.specs.declared.work.Act.TheVariants as act
 use Rattle.c_evaluation.specs.declared.work.Item.{Item}
 use Rattle.c_evaluation.specs.declared.work.Item.TheVariants as item
 
-abbrev pub last_of : Option (Bor StatementTree) → Statement
+abbrev pub last_of : Option (Bor (Box StatementTree Global)) → Statement
 last_of None = Statement.Done
-last_of (Some last) = statement_of last.now
+last_of (Some last) = boxed_statement_of last.now
 
 abbrev pub loop_of : LoopItem → Loop
-loop_of looping = record { condition = condition_of looping.condition.now; last = last_of looping.last; body = statement_of looping.body.now }
+loop_of looping = record { condition = condition_of looping.condition.now; last = last_of looping.last; body = boxed_statement_of looping.body.now }
 
 abbrev pub act_of : ActItem → Act
 act_of (act.Print format) = Print (pieces_of format.now)
@@ -34,10 +35,10 @@ act_of act.BarrierWait = BarrierWait
 abbrev pub item_of : Item → Work
 item_of (item.Do statement) = Do (statement_of statement.now)
 item_of (item.Ask condition) = Ask (condition_of condition.now)
-item_of (item.ThenBoth second) = ThenBoth (condition_of second.now)
-item_of (item.ThenEither second) = ThenEither (condition_of second.now)
+item_of (item.ThenBoth second) = ThenBoth (condition_of (box_value second.now))
+item_of (item.ThenEither second) = ThenEither (condition_of (box_value second.now))
 item_of item.ThenOpposite = ThenOpposite
-item_of (item.Choose consequent alternative) = Choose (statement_of consequent.now) (statement_of alternative.now)
+item_of (item.Choose consequent alternative) = Choose (boxed_statement_of consequent.now) (boxed_statement_of alternative.now)
 item_of (item.Turn looping) = Turn (loop_of looping)
 item_of (item.Next looping) = Next (loop_of looping)
 item_of (item.Store offset place) = Store offset (place_of place.now)

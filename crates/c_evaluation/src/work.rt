@@ -1,9 +1,9 @@
 // What a call has still to do, and the order in which it is done (C99 6.8).
 ghost use Rattle.std.specs.Prelude.{◌≡◌, ◌+◌, ◌≤◌, ◌<◌, [], ◌∷◌, true, false, MatchOption, IfOk};
-ghost use Rattle.c_program.specs.Plain.{expression_of, condition_of, statement_of};
+ghost use Rattle.c_program.specs.Plain.{expression_of, condition_of, statement_of, boxed_statement_of};
 ghost use Rattle.thread_semantics.specs.Work.{Do, Onward, Leaving, Turning, settled, next_turn, asked, decided, first_offset, first_operand, waiting_parts};
 ghost use Rattle.c_evaluation.specs.View.{item_of, loop_of, work_of};
-ghost use Rattle.c_evaluation.specs.Size.{work_size, turn_size, statement_size};
+ghost use Rattle.c_evaluation.specs.Size.{work_size, turn_size, statement_size, takes_step};
 
 use c_program::tree::{Condition, Expression, Piece, Place, Statement};
 use std::alloc::AllocError;
@@ -13,8 +13,8 @@ use std::collections::VecDeque;
 #[derive(Clone, Copy)]
 pub struct Loop<'p> {
     pub condition: &'p Condition,
-    pub last: Option<&'p Statement>,
-    pub body: &'p Statement,
+    pub last: Option<&'p Box<Statement>>,
+    pub body: &'p Box<Statement>,
 }
 
 /// The act of printf or of a pthread call, without its operands.
@@ -40,13 +40,13 @@ pub enum Item<'p> {
     /// A condition; its first operand takes the step, and the truth goes to what follows.
     Ask(&'p Condition),
     /// The rest of a `&&`.
-    ThenBoth(&'p Condition),
+    ThenBoth(&'p Box<Condition>),
     /// The rest of a `||`.
-    ThenEither(&'p Condition),
+    ThenEither(&'p Box<Condition>),
     /// The truth turns into its opposite.
     ThenOpposite,
     /// The two ways of an `if` whose condition is asked.
-    Choose(&'p Statement, &'p Statement),
+    Choose(&'p Box<Statement>, &'p Box<Statement>),
     /// A loop whose condition is asked.
     Turn(Loop<'p>),
     /// The end of the body of a loop.
@@ -84,58 +84,74 @@ fn leave<'p>(work: &mut VecDeque<Item<'p>>) -> Option<Loop<'p>>
     None
 }
 
+/// Two items are done next, one after the other.
+fn put_both<'p>(
+    work: &mut VecDeque<Item<'p>>,
+    first: Item<'p>,
+    next: Item<'p>,
+) -> Result<(), AllocError>
+    ensures { IfOk result (λ _. work_of work.new.items ≡ item_of first.entry ∷ item_of next.entry ∷ work_of work.old.items) }
+{
+    put(work, next)?;
+    put(work, first)
+}
+
 /// The condition of a loop is asked next.
 fn ask<'p>(work: &mut VecDeque<Item<'p>>, looping: Loop<'p>) -> Result<(), AllocError>
     ensures { IfOk result (λ _. work_of work.new.items ≡ asked (loop_of looping.entry) (work_of work.old.items)) }
 {
-    put(work, Item::Turn(looping))?;
-    put(work, Item::Ask(looping.condition))?;
-    Ok(())
+    put_both(work, Item::Ask(looping.condition), Item::Turn(looping))
 }
 
-/// Two statements are done next, one after the other.
-fn put_both<'p>(
-    work: &mut VecDeque<Item<'p>>,
-    first: &'p Statement,
-    next: &'p Statement,
-) -> Result<(), AllocError>
-    ensures { IfOk result (λ _. work_of work.new.items ≡ Do (statement_of first.now) ∷ Do (statement_of next.now) ∷ work_of work.old.items) }
-{
-    put(work, Item::Do(next))?;
-    put(work, Item::Do(first))?;
-    Ok(())
-}
-
-/// A statement is done first; says whether what stands first then may still take no step.
-fn unfold<'p>(statement: &'p Statement, work: &mut VecDeque<Item<'p>>) -> Result<bool, AllocError>
-    ensures same { IfOk result (λ again. settled Onward (Do (statement_of statement.now) ∷ work_of work.old.items) ≡ settled Onward (work_of work.new.items)) }
-    ensures less { IfOk result (λ again. again ≡ true → work_size (work_of work.new.items) < statement_size (statement_of statement.now) + work_size (work_of work.old.items)) }
-    ensures done { IfOk result (λ again. again ≡ false → settled Onward (work_of work.new.items) ≡ work_of work.new.items) }
+/// Whether a statement takes a step itself.
+fn takes_step(statement: &Statement) -> bool
+    ensures { result ≡ takes_step (statement_of statement.now) }
 {
     match statement {
-        Statement::Done | Statement::Empty => Ok(true),
+        Statement::Declare(_, _, _)
+        | Statement::Assign(_, _, _)
+        | Statement::Update(_, _, _, _, _)
+        | Statement::Return(_, _)
+        | Statement::Call(_, _, _)
+        | Statement::Print(_, _, _)
+        | Statement::Thread(_, _) => true,
+        Statement::Done
+        | Statement::Sequence(_, _)
+        | Statement::Empty
+        | Statement::Block(_)
+        | Statement::If(_, _, _)
+        | Statement::While(_, _)
+        | Statement::DoWhile(_, _)
+        | Statement::For(_, _, _, _)
+        | Statement::Break
+        | Statement::Continue => false,
+    }
+}
+
+/// A statement is done first: its parts take its place, where it takes no step itself.
+fn unfold<'p>(statement: &'p Statement, work: &mut VecDeque<Item<'p>>) -> Result<(), AllocError>
+    ensures same { IfOk result (λ _. settled Onward (Do (statement_of statement.now) ∷ work_of work.old.items) ≡ settled Onward (work_of work.new.items)) }
+    ensures less { IfOk result (λ _. takes_step (statement_of statement.now) ≡ false
+        → work_size (work_of work.new.items) < statement_size (statement_of statement.now) + work_size (work_of work.old.items)) }
+{
+    match statement {
+        Statement::Done | Statement::Empty => Ok(()),
         Statement::Break => {
             leave(work);
-            Ok(true)
+            Ok(())
         }
-        Statement::Continue => {
-            if let Some(looping) = leave(work) {
-                put(work, Item::Next(looping))?;
-            }
-            Ok(true)
-        }
-        Statement::Block(body) => {
-            put(work, Item::Do(body))?;
-            Ok(true)
-        }
-        Statement::Sequence(first, next) => {
-            put_both(work, first, next)?;
-            Ok(true)
-        }
+        Statement::Continue => match leave(work) {
+            None => Ok(()),
+            Some(looping) => put(work, Item::Next(looping)),
+        },
+        Statement::Block(body) => put(work, Item::Do(body)),
+        Statement::Sequence(first, next) => put_both(work, Item::Do(first), Item::Do(next)),
         Statement::If(condition, consequent, alternative) => {
-            put(work, Item::Choose(consequent, alternative))?;
-            put(work, Item::Ask(condition))?;
-            Ok(false)
+            put_both(
+                work,
+                Item::Ask(condition),
+                Item::Choose(consequent, alternative),
+            )
         }
         Statement::While(condition, body) => {
             ask(
@@ -145,20 +161,18 @@ fn unfold<'p>(statement: &'p Statement, work: &mut VecDeque<Item<'p>>) -> Result
                     last: None,
                     body,
                 },
-            )?;
-            Ok(false)
+            )
         }
         Statement::DoWhile(body, condition) => {
-            put(
+            put_both(
                 work,
+                Item::Do(body),
                 Item::Next(Loop {
                     condition,
                     last: None,
                     body,
                 }),
-            )?;
-            put(work, Item::Do(body))?;
-            Ok(true)
+            )
         }
         Statement::For(first, condition, last, body) => {
             ask(
@@ -169,8 +183,7 @@ fn unfold<'p>(statement: &'p Statement, work: &mut VecDeque<Item<'p>>) -> Result
                     body,
                 },
             )?;
-            put(work, Item::Do(first))?;
-            Ok(true)
+            put(work, Item::Do(first))
         }
         Statement::Declare(_, _, _)
         | Statement::Assign(_, _, _)
@@ -178,27 +191,20 @@ fn unfold<'p>(statement: &'p Statement, work: &mut VecDeque<Item<'p>>) -> Result
         | Statement::Return(_, _)
         | Statement::Call(_, _, _)
         | Statement::Print(_, _, _)
-        | Statement::Thread(_, _) => {
-            put(work, Item::Do(statement))?;
-            Ok(false)
-        }
+        | Statement::Thread(_, _) => put(work, Item::Do(statement)),
     }
 }
 
-/// The end of the body of a loop comes first; says whether what stands first then may still take no step.
-fn turn<'p>(looping: Loop<'p>, work: &mut VecDeque<Item<'p>>) -> Result<bool, AllocError>
-    ensures same { IfOk result (λ again. next_turn (loop_of looping.entry) (work_of work.old.items) (λ g. settled g (work_of work.old.items))
+/// The end of the body of a loop comes first.
+fn turn<'p>(looping: Loop<'p>, work: &mut VecDeque<Item<'p>>) -> Result<(), AllocError>
+    ensures same { IfOk result (λ _. next_turn (loop_of looping.entry) (work_of work.old.items) (λ g. settled g (work_of work.old.items))
         ≡ settled Onward (work_of work.new.items)) }
-    ensures less { IfOk result (λ again. again ≡ true → work_size (work_of work.new.items) < turn_size (loop_of looping.entry) + work_size (work_of work.old.items)) }
-    ensures done { IfOk result (λ again. again ≡ false → settled Onward (work_of work.new.items) ≡ work_of work.new.items) }
+    ensures less { IfOk result (λ _. work_size (work_of work.new.items) < turn_size (loop_of looping.entry) + work_size (work_of work.old.items)) }
 {
     ask(work, looping)?;
     match looping.last {
-        None => Ok(false),
-        Some(last) => {
-            put(work, Item::Do(last))?;
-            Ok(true)
-        }
+        None => Ok(()),
+        Some(last) => put(work, Item::Do(last)),
     }
 }
 
@@ -207,16 +213,15 @@ pub fn settle<'p>(work: &mut VecDeque<Item<'p>>) -> Result<(), AllocError>
     ensures { IfOk result (λ _. work_of work.new.items ≡ settled Onward (work_of work.old.items)) }
 {
     while let Some(item) = work.pop_front() {
-        let again = match item {
-            Item::Do(statement) => unfold(statement, work)?,
-            Item::Next(looping) => turn(looping, work)?,
-            other => {
-                put(work, other)?;
-                false
+        match item {
+            Item::Do(statement) => {
+                if takes_step(statement) {
+                    return put(work, Item::Do(statement));
+                }
+                unfold(statement, work)?;
             }
-        };
-        if !again {
-            return Ok(());
+            Item::Next(looping) => turn(looping, work)?,
+            other => return put(work, other),
         }
     }
     Ok(())
@@ -231,14 +236,12 @@ pub fn decide<'p>(work: &mut VecDeque<Item<'p>>, truth: bool) -> Result<(), Allo
         match item {
             Item::ThenBoth(second) => {
                 if value {
-                    put(work, Item::Ask(second))?;
-                    return Ok(());
+                    return put(work, Item::Ask(second));
                 }
             }
             Item::ThenEither(second) => {
                 if !value {
-                    put(work, Item::Ask(second))?;
-                    return Ok(());
+                    return put(work, Item::Ask(second));
                 }
             }
             Item::ThenOpposite => value = !value,
@@ -249,8 +252,7 @@ pub fn decide<'p>(work: &mut VecDeque<Item<'p>>, truth: bool) -> Result<(), Allo
             }
             Item::Turn(looping) => {
                 if value {
-                    put(work, Item::Next(looping))?;
-                    put(work, Item::Do(looping.body))?;
+                    put_both(work, Item::Do(looping.body), Item::Next(looping))?;
                 }
                 return settle(work);
             }
