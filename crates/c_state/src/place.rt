@@ -131,7 +131,7 @@ pub fn update(
 }
 
 /// A kind of pthread objects.
-#[derive(Clone, Copy, PartialEq, Eq, Debug)]
+#[derive(Clone, Copy)]
 pub enum Kind {
     Thread,
     Mutex,

@@ -18,7 +18,6 @@ use thread_semantics::MutexState;
 
 /// A call under way: the number of its function, its locals (none where an element isn't written), what it has still to
 /// do, and the values that its last step kept for the next one.
-#[derive(Drop)]
 pub struct Frame<'p> {
     pub function: u32,
     pub locals: Vec<Vec<Option<i128>>>,
@@ -27,7 +26,6 @@ pub struct Frame<'p> {
 }
 
 /// A thread id; a running thread has its calls, the innermost first.
-#[derive(Drop)]
 pub enum Slot<'p> {
     Unused,
     Running(VecDeque<Frame<'p>>),
@@ -35,7 +33,6 @@ pub enum Slot<'p> {
 }
 
 /// A barrier: uninitialised, or its count and the threads that wait there.
-#[derive(Drop)]
 pub enum Barrier {
     Uninitialised,
     Awaits(i128, Vec<u32>),
@@ -51,6 +48,38 @@ pub struct State<'p> {
     pub barriers: Vec<Barrier>,
     pub output: Bytes,
     pub ended: bool,
+}
+
+// A drop that is written here is proved here; a derived one is proved again in each crate that drops the type.
+
+impl<'p> Drop for Frame<'p> {
+    fn drop(self) {
+        let Frame {
+            function: _,
+            locals: _,
+            work: _,
+            kept: _,
+        } = self;
+    }
+}
+
+impl<'p> Drop for Slot<'p> {
+    fn drop(self) {
+        match self {
+            Slot::Unused => {}
+            Slot::Running(_) => {}
+            Slot::Finished => {}
+        }
+    }
+}
+
+impl Drop for Barrier {
+    fn drop(self) {
+        match self {
+            Barrier::Uninitialised => {}
+            Barrier::Awaits(_, _) => {}
+        }
+    }
 }
 
 /// So many elements that aren't written.
