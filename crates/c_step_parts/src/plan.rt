@@ -339,6 +339,33 @@ fn end_of(program: &Program, function: u32) -> u32
     }
 }
 
+/// The thread's own part of its next step, where its innermost call has to do this item first.
+fn item_plan<'p>(
+    alloc: Global,
+    program: &'p Program,
+    frame: &Frame<'p>,
+    globals: &[Vec<i128>],
+    item: Item<'p>,
+) -> Result<Plan<'p>, AllocError>
+    ensures { IfOk result (λ m. (fs : Callers) → plan_of (program_of program.now) m (frame_of frame.now) fs
+        ≡ erased (work_move (program_of program.now) (memory_in frame.now globals.now) (frame_of frame.now) fs (item_of item.entry ∷ later_work frame.now))) }
+{
+    match item {
+        Item::Do(statement) => statement_plan(alloc, program, frame, globals, statement),
+        Item::Ask(condition) => ask_plan(alloc, frame, globals, condition),
+        Item::Store(offset, place) => store_plan(alloc, frame, globals, offset, place),
+        Item::Hand(offset) => Ok(hand_plan(frame, offset)),
+        Item::Perform(offset, act) => act_plan(frame, offset, act),
+        Item::ThenBoth(_)
+        | Item::ThenEither(_)
+        | Item::ThenOpposite
+        | Item::Choose(_, _)
+        | Item::Turn(_)
+        | Item::Next(_)
+        | Item::Discard => Ok(Plan::Impossible),
+    }
+}
+
 /// The thread's own part of its next step, where this is its innermost call.
 fn call_plan<'p>(
     alloc: Global,
@@ -351,20 +378,7 @@ fn call_plan<'p>(
 {
     match frame.work.front() {
         None => Ok(Plan::Return(end_of(program, frame.function), None)),
-        Some(item) => match *item {
-            Item::Do(statement) => statement_plan(alloc, program, frame, globals, statement),
-            Item::Ask(condition) => ask_plan(alloc, frame, globals, condition),
-            Item::Store(offset, place) => store_plan(alloc, frame, globals, offset, place),
-            Item::Hand(offset) => Ok(hand_plan(frame, offset)),
-            Item::Perform(offset, act) => act_plan(frame, offset, act),
-            Item::ThenBoth(_)
-            | Item::ThenEither(_)
-            | Item::ThenOpposite
-            | Item::Choose(_, _)
-            | Item::Turn(_)
-            | Item::Next(_)
-            | Item::Discard => Ok(Plan::Impossible),
-        },
+        Some(item) => item_plan(alloc, program, frame, globals, *item),
     }
 }
 
