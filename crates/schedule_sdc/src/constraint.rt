@@ -1,7 +1,7 @@
 // Constraints on start times, and what solving them gives.
 
 /// The start of `to` is at least the start of `from` and the gap, which may be negative.
-#[derive(Clone, Copy, PartialEq, Eq, Debug)]
+#[derive(Clone, Copy)]
 pub struct Constraint {
     /// A place: an operation, or the end of a block, by its number.
     pub from: usize,

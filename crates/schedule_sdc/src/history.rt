@@ -21,7 +21,7 @@ pub struct Step {
 }
 
 /// What a constraint did to the start of its place.
-#[derive(Clone, Copy, PartialEq, Eq)]
+#[derive(Clone, Copy)]
 pub enum Change {
     /// It was met.
     Kept,

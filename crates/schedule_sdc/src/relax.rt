@@ -8,7 +8,7 @@ use crate::constraint::Constraint;
 use std::alloc::{AllocError, Global};
 
 /// What a constraint, or a round over all of them, did to the starts.
-#[derive(Clone, Copy, PartialEq, Eq)]
+#[derive(Clone, Copy)]
 pub enum Lift {
     /// It was met.
     Kept,
