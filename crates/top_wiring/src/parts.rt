@@ -2,9 +2,9 @@
 
 ghost use Rattle.std.specs.Prelude.{◌≡◌, ◌++◌, replicate, IfOk, OnOk, map};
 ghost use Rattle.circuit.specs.Rows.{spread};
-ghost use Rattle.top_wiring.specs.Parts.{group_widths, ask_widths, thread_outputs, core_outputs, thread_part, core_part, arbiter_part, parts};
+ghost use Rattle.top_wiring.specs.Parts.{ask_widths, core_outputs, thread_part, core_part, arbiter_part, parts};
 
-use crate::layout::{Core, Group, Layout};
+use crate::layout::{Core, Layout};
 use sqlite_items::Items;
 use std::alloc::{AllocError, Global};
 
@@ -27,35 +27,16 @@ pub fn push_copies(
     widths.append(Items::from_vec(vec![in alloc; width; count]?))
 }
 
-fn push_group_widths(
-    alloc: Global,
-    widths: &mut Items<u64>,
-    groups: &[Group],
-) -> Result<(), AllocError>
-    ensures { OnOk result (widths.new ≡ widths.old ++ group_widths groups.now) }
-{
-    for group in groups {
-        push_copies(alloc, widths, group.width, group.count)?;
-    }
-    Ok(())
-}
-
 /// The widths of all numbers that a thread hands to cores.
 fn ask_widths(alloc: Global, cores: &[Core]) -> Result<Items<u64>, AllocError>
     ensures { IfOk result (λ widths. widths ≡ ask_widths cores.now) }
 {
     let mut widths = Items::new(alloc);
     for core in cores {
-        push_group_widths(alloc, &mut widths, core.groups.as_slice())?;
+        for group in core.groups.as_slice() {
+            push_copies(alloc, &mut widths, group.width, group.count)?;
+        }
     }
-    Ok(widths)
-}
-
-fn thread_outputs(alloc: Global, asks: &[u64]) -> Result<Items<u64>, AllocError>
-    ensures { IfOk result (λ widths. widths ≡ thread_outputs asks.now) }
-{
-    let mut widths = Items::from_slice(alloc, asks)?;
-    push_copies(alloc, &mut widths, 1, 2)?;
     Ok(widths)
 }
 
@@ -79,7 +60,8 @@ fn push_threads(
     ensures { OnOk result (parts.new ≡ parts.old ++ map (thread_part asks.now) threads.now) }
 {
     for number in threads {
-        let outputs = thread_outputs(alloc, asks)?;
+        let mut outputs = Items::from_slice(alloc, asks)?;
+        push_copies(alloc, &mut outputs, 1, 2)?;
         parts.push(Part {
             of: *number,
             outputs,

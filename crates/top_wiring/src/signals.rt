@@ -5,7 +5,7 @@ ghost use Rattle.verilog_tree.specs.Spelling.{is_name};
 ghost use Rattle.verilog_meaning.specs.Names.{numbered};
 ghost use Rattle.circuit.specs.Rows.{spread};
 ghost use Rattle.top_wiring.specs.Parts.{each_from};
-ghost use Rattle.top_wiring.specs.Wires.{width_of, source_of, wire_signal};
+ghost use Rattle.top_wiring.specs.Wires.{wire_signal};
 ghost use Rattle.top_wiring.specs.Top.{input, preference, output, top_signals};
 
 use crate::wires::Wire;
@@ -13,14 +13,6 @@ use netlist::netlist::{Signal, Source, Value};
 use sqlite_items::Items;
 use std::alloc::{AllocError, Global};
 use verilog_tree::name::Identifier;
-
-/// A name as it stands.
-pub fn named(alloc: Global, name: &str) -> Result<Identifier, AllocError>
-    requires { is_name name.now ≡ true }
-    ensures { IfOk result (λ it. it ≡ name.now) }
-{
-    Identifier::from_text(alloc, name)
-}
 
 /// A name with a number.
 pub fn numbered(alloc: Global, stem: &str, number: usize) -> Result<Identifier, AllocError>
@@ -48,44 +40,42 @@ pub fn output(alloc: Global, place: usize) -> Result<Signal, AllocError>
     ensures { IfOk result (λ signal. signal ≡ output place) }
 {
     Ok(Signal {
-        name: named(alloc, "done")?,
+        name: Identifier::from_text(alloc, "done")?,
         width: 1,
         is_output: true,
         source: Source::Assigned(Value::Copy(place)),
     })
 }
 
-fn width_of(wire: Wire) -> u64
-    ensures { result ≡ width_of wire }
-{
-    match wire {
-        Wire::Whole | Wire::Bit { .. } => 1,
-        Wire::Port { width, .. } => width,
-    }
-}
-
-fn source_of(wire: Wire) -> Source
-    ensures { result ≡ source_of wire }
-{
-    match wire {
-        Wire::Whole => Source::Assigned(Value::Copy(1)),
-        Wire::Bit { thread } => Source::Assigned(Value::Select {
-            of: 1,
-            high: thread as u64,
-            low: thread as u64,
-        }),
-        Wire::Port { instance, port, .. } => Source::Port { instance, port },
-    }
-}
-
+/// The signal of a wire, of this place.
 fn wire_signal(alloc: Global, place: usize, wire: Wire) -> Result<Signal, AllocError>
     ensures { IfOk result (λ signal. signal ≡ wire_signal place wire) }
 {
+    let name = numbered(alloc, "w", place)?;
+    let (width, source) = match wire {
+        Wire::Whole => (1, Source::Assigned(Value::Copy(1))),
+        Wire::Bit { thread } => {
+            let bit = thread as u64;
+            (
+                1,
+                Source::Assigned(Value::Select {
+                    of: 1,
+                    high: bit,
+                    low: bit,
+                }),
+            )
+        }
+        Wire::Port {
+            width,
+            instance,
+            port,
+        } => (width, Source::Port { instance, port }),
+    };
     Ok(Signal {
-        name: numbered(alloc, "w", place)?,
-        width: width_of(wire),
+        name,
+        width,
         is_output: false,
-        source: source_of(wire),
+        source,
     })
 }
 
@@ -118,9 +108,9 @@ fn heads(alloc: Global, threads: usize) -> Result<Items<Signal>, AllocError>
     ensures { IfOk result (λ signals. signals ≡ input (codes "clk") 1 ∷ input (codes "en") threads ∷ []) }
 {
     let mut signals = Items::new(alloc);
-    let clock = input(named(alloc, "clk")?, 1);
+    let clock = input(Identifier::from_text(alloc, "clk")?, 1);
     signals.push(clock)?;
-    let mask = input(named(alloc, "en")?, threads as u64);
+    let mask = input(Identifier::from_text(alloc, "en")?, threads as u64);
     signals.push(mask)?;
     Ok(signals)
 }

@@ -2,8 +2,6 @@
 
 ghost use Rattle.std.specs.Prelude.{◌≡◌, ◌+◌, ◌^◌, ◌<◌, ◌++◌, length, IfOk, OnOk};
 ghost use Rattle.top_wiring.specs.Parts.{each_from};
-ghost use Rattle.circuit.specs.Rows.{spread};
-ghost use Rattle.top_wiring.specs.declared.wires.Wire.TheVariants as W;
 ghost use Rattle.top_wiring.specs.Wires.{first_port, port_wire, enables, blocks, starts_from};
 
 use crate::parts::Part;
@@ -12,7 +10,7 @@ use sqlite_items::Items;
 use std::alloc::{AllocError, Global};
 
 /// What drives a wire: the whole mask, a bit of it, or a port of an instance.
-#[derive(Clone, Copy, PartialEq, Eq)]
+#[derive(Clone, Copy)]
 pub enum Wire {
     Whole,
     Bit {
@@ -32,18 +30,13 @@ pub struct Wires {
     pub starts: Items<usize>,
 }
 
+/// Whether each thread is enabled.
 fn enables(alloc: Global, threads: usize) -> Result<Items<Wire>, AllocError>
     ensures { IfOk result (λ wires. wires ≡ enables threads) }
 {
     if threads == 1 {
         return Items::from_slice(alloc, &[Wire::Whole]);
     }
-    bits(alloc, threads)
-}
-
-fn bits(alloc: Global, threads: usize) -> Result<Items<Wire>, AllocError>
-    ensures { IfOk result (λ wires. wires ≡ spread (λ i. W.Bit i) 0 threads) }
-{
     let mut wires = Items::new(alloc);
     for thread in 0..threads {
         wires.push(Wire::Bit { thread })?;

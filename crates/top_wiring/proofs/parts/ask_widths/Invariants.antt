@@ -1,6 +1,9 @@
-use Rattle.std.proofs.Common.{◌≡◌, take}
-use Rattle.top_wiring.specs.Parts.{ask_widths}
+use Rattle.std.proofs.Common.{◌≡◌, ◌++◌, take}
+use Rattle.top_wiring.specs.Parts.{group_widths, ask_widths}
 use Rattle.top_wiring.proofs.parts.ask_widths.Given as goal
 
 abbrev pub invariant-loop-core : goal.invariant-loop-core
 invariant-loop-core l = l.widths ≡ ask_widths (take l.core-index l.cores)
+
+abbrev pub invariant-loop-group : goal.invariant-loop-group
+invariant-loop-group l = l.widths ≡ l.initial.widths ++ group_widths (take l.group-index l.group-items)
