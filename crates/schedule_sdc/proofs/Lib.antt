@@ -3,6 +3,7 @@ pub mod Gaps
 pub mod Seen
 pub mod Back
 pub mod Rounds
+pub mod Begun
 pub mod RelaxedRounds
 pub mod Ordered
 pub mod GapSums

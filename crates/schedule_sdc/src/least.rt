@@ -1,7 +1,9 @@
 // The least starts, by raising them until every constraint is met.
-ghost use Rattle.std.specs.Prelude.{◌≡◌, ◌^◌, ◌<◌, IfOk};
+ghost use Rattle.std.specs.Prelude.{◌≡◌, ◌^◌, ◌<◌, IfOk, MatchOption};
 ghost use Rattle.std.specs.List.{All};
-ghost use Rattle.schedule_sdc.specs.Solution.{IsWithin, IsAnswer, FitsIfSolvable};
+ghost use Rattle.schedule_sdc.specs.Solution.{IsWithin, IsAnswer, IsLeast, IsPositiveCycle, FitsIfSolvable};
+ghost use Rattle.schedule_sdc.specs.History.{IsSound, IsShallow};
+ghost use Rattle.schedule_sdc.specs.Relaxed.{AreEarly};
 
 use crate::constraint::{Constraint, Solved};
 use crate::cycle::positive_cycle;
@@ -44,9 +46,8 @@ fn solve_with_history(
     requires fits { FitsIfSolvable places list.now }
     ensures { IfOk result (IsAnswer places list.now) }
 {
-    let mut starts: Vec<u128> = vec![in alloc; 0; places]?;
-    let mut last = Vec::with_capacity(alloc, places)?;
-    let mut steps = Vec::with_capacity(alloc, places)?;
+    let mut last = Vec::new(alloc);
+    let mut steps = Vec::new(alloc);
     for place in 0..places {
         last.push(place)?;
         steps.push(Step {
@@ -56,25 +57,47 @@ fn solve_with_history(
             start: 0,
         })?;
     }
+    let mut starts: Vec<u128> = vec![in alloc; 0; places]?;
+    match cycle_met(alloc, places, list, &mut starts, &mut last, &mut steps)? {
+        Some(walk) => Ok(Solved::Cyclic(walk)),
+        None => Ok(Solved::Starts(narrowed(alloc, &starts)?)),
+    }
+}
+
+// Raises the starts in rounds until every constraint is met, or a closed walk is.
+fn cycle_met(
+    alloc: Global,
+    places: usize,
+    list: &[Constraint],
+    starts: &mut Vec<u128>,
+    last: &mut Vec<usize>,
+    steps: &mut Vec<Step>,
+) -> Result<Option<Vec<usize>>, AllocError>
+    requires places { All (IsWithin places) list.now }
+    requires sound { IsSound list.now places starts.old.items last.old.items steps.old.items }
+    requires shallow { IsShallow places steps.old.items }
+    requires early { AreEarly list.now places starts.old.items }
+    ensures { IfOk result (λ met. MatchOption met (IsLeast places list.now starts.new.items) (λ walk. IsPositiveCycle list.now walk.items)) }
+{
     'rounds: loop {
         let mut raised = false;
         for c in list {
-            match raise(&mut starts, &mut last, &mut steps, list, c)? {
+            match raise(starts, last, steps, list, c)? {
                 Change::Kept => {}
                 Change::Raised => raised = true,
                 Change::Deep => {
-                    let Some(walk) = positive_cycle(alloc, places, &steps)? else {
+                    let Some(walk) = positive_cycle(alloc, places, steps.as_slice())? else {
                         unreachable!();
                     };
-                    return Ok(Solved::Cyclic(walk));
+                    return Ok(Some(walk));
                 }
             }
         }
         if !raised {
-            return Ok(Solved::Starts(narrowed(alloc, &starts)?));
+            return Ok(None);
         }
-        if let Some(walk) = positive_cycle(alloc, places, &steps)? {
-            return Ok(Solved::Cyclic(walk));
+        if let Some(walk) = positive_cycle(alloc, places, steps.as_slice())? {
+            return Ok(Some(walk));
         }
     }
 }

@@ -3,6 +3,13 @@ use Rattle.schedule_sdc.specs.History.{at}
 use Rattle.schedule_sdc.proofs.Back.{given_at, behind_before, further, closed, begun}
 use Rattle.schedule_sdc.proofs.cycle.places_between.Goals as goal
 
+pub bounds-steps-here-in-loop-here-2 : goal.bounds-steps-here-in-loop-here-2
+bounds-steps-here-in-loop-here-2 c =
+    let b = c.loop-here.invariant.behind in
+    let h = c.requires.history in
+    let gv = given_at h.0 h.1 c.args.steps.now h.2 _ c.loop-here.invariant.within c.args.ends.earlier c.loop-here-test.true b.0 b.1 in
+    omega (arith, gv.earlier, c.loop-here.invariant.within)
+
 pub loop-here-preserved : goal.loop-here-preserved
 loop-here-preserved c =
     let b = c.loop-here.invariant.behind in
