@@ -28,13 +28,6 @@ pub fn constant(out: &mut Text, constant: Constant) -> Result<(), AllocError>
     sized(out, constant, Mark::Decimal)
 }
 
-fn signed_constant(out: &mut Text, constant: Constant) -> Result<(), AllocError>
-    ensures text { OnOk result (out.new ≡ put_all out.old (g.signed_constant constant)) }
-    ensures tokens { OnOk result (AllTokens (g.signed_constant constant)) }
-{
-    sized(out, constant, Mark::SignedDecimal)
-}
-
 /// `$signed(name)`
 pub fn signed(out: &mut Text, name: &Identifier) -> Result<(), AllocError>
     ensures text { OnOk result (out.new ≡ put_all out.old (g.signed name.now)) }
@@ -153,7 +146,7 @@ fn signed_division(
     ensures text { OnOk result (out.new ≡ put_all out.old (g.signed_constant guarded ++ g.mark m.Colon ++ g.signed left.now ++ g.mark (g.division_mark operator) ++ g.signed right.now)) }
     ensures tokens { OnOk result (AllTokens (g.signed_constant guarded ++ g.mark m.Colon ++ g.signed left.now ++ g.mark (g.division_mark operator) ++ g.signed right.now)) }
 {
-    signed_constant(out, guarded)?;
+    sized(out, guarded, Mark::SignedDecimal)?;
     out.mark(Mark::Colon)?;
     signed_binary(out, left, division_mark(operator), right)
 }
@@ -198,29 +191,20 @@ fn part_select(out: &mut Text, of: &Identifier, high: u64, low: u64) -> Result<(
     out.mark(Mark::CloseSquare)
 }
 
-fn more_names(out: &mut Text, names: &[Identifier]) -> Result<(), AllocError>
-    ensures text { OnOk result (out.new ≡ put_all out.old (g.more g.name names.now)) }
-    ensures tokens { OnOk result (AllTokens (g.more g.name names.now)) }
-{
-    for name in names {
-        out.mark(Mark::Comma)?;
-        out.name(name)?;
-    }
-    Ok(())
-}
-
 #[tactic(auto, using(crate::proofs::Laying::put_all_append, crate::proofs::Laying::all_tokens_append))]
 fn names(out: &mut Text, names: &[Identifier]) -> Result<(), AllocError>
     ensures text { OnOk result (out.new ≡ put_all out.old (g.commas g.name names.now)) }
     ensures tokens { OnOk result (AllTokens (g.commas g.name names.now)) }
 {
-    match names {
-        [] => Ok(()),
-        [first, rest @ ..] => {
-            out.name(first)?;
-            more_names(out, rest)
-        }
+    let [first, rest @ ..] = names else {
+        return Ok(());
+    };
+    out.name(first)?;
+    for name in rest {
+        out.mark(Mark::Comma)?;
+        out.name(name)?;
     }
+    Ok(())
 }
 
 #[tactic(auto, using(crate::proofs::Laying::put_all_append, crate::proofs::Laying::all_tokens_append))]

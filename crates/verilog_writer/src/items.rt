@@ -3,7 +3,6 @@
 ghost use Rattle.std.specs.Prelude.{◌≡◌, ◌++◌, OnOk};
 ghost use Rattle.verilog_tree.specs.Grammar as g;
 ghost use Rattle.verilog_tree.specs.declared.token.Mark.TheVariants as m;
-ghost use Rattle.verilog_tree.specs.declared.token.Word.TheVariants as w;
 ghost use Rattle.verilog_tree.specs.declared.tree.Item.TheVariants as i;
 ghost use Rattle.verilog_writer.specs.Layout.{put_all, AllTokens};
 
@@ -14,7 +13,7 @@ use verilog_tree::name::{Identifier, Quoted};
 use verilog_tree::token::{Mark, Word};
 use verilog_tree::tree::{
     Always, Assign, Connection, Direction, Initial, InitialConstant, Instance, Item, Memory,
-    Module, Net, Port, Register, Statement, Wire, WriteArgument,
+    Module, Net, Port, Statement, WriteArgument,
 };
 
 fn range(out: &mut Text, high: Option<u64>) -> Result<(), AllocError>
@@ -75,38 +74,18 @@ fn argument(out: &mut Text, argument: &WriteArgument) -> Result<(), AllocError>
     }
 }
 
-fn more_ports(out: &mut Text, ports: &[Port]) -> Result<(), AllocError>
-    ensures text { OnOk result (out.new ≡ put_all out.old (g.more g.port ports.now)) }
-    ensures tokens { OnOk result (AllTokens (g.more g.port ports.now)) }
-{
-    for one in ports {
-        out.mark(Mark::Comma)?;
-        port(out, one)?;
-    }
-    Ok(())
-}
-
 #[tactic(auto, using(crate::proofs::Laying::put_all_append, crate::proofs::Laying::all_tokens_append))]
 fn ports(out: &mut Text, ports: &[Port]) -> Result<(), AllocError>
     ensures text { OnOk result (out.new ≡ put_all out.old (g.commas g.port ports.now)) }
     ensures tokens { OnOk result (AllTokens (g.commas g.port ports.now)) }
 {
-    match ports {
-        [] => Ok(()),
-        [first, rest @ ..] => {
-            port(out, first)?;
-            more_ports(out, rest)
-        }
-    }
-}
-
-fn more_connections(out: &mut Text, connections: &[Connection]) -> Result<(), AllocError>
-    ensures text { OnOk result (out.new ≡ put_all out.old (g.more g.connection connections.now)) }
-    ensures tokens { OnOk result (AllTokens (g.more g.connection connections.now)) }
-{
-    for one in connections {
+    let [first, rest @ ..] = ports else {
+        return Ok(());
+    };
+    port(out, first)?;
+    for one in rest {
         out.mark(Mark::Comma)?;
-        connection(out, one)?;
+        port(out, one)?;
     }
     Ok(())
 }
@@ -116,13 +95,15 @@ fn connections(out: &mut Text, connections: &[Connection]) -> Result<(), AllocEr
     ensures text { OnOk result (out.new ≡ put_all out.old (g.commas g.connection connections.now)) }
     ensures tokens { OnOk result (AllTokens (g.commas g.connection connections.now)) }
 {
-    match connections {
-        [] => Ok(()),
-        [first, rest @ ..] => {
-            connection(out, first)?;
-            more_connections(out, rest)
-        }
+    let [first, rest @ ..] = connections else {
+        return Ok(());
+    };
+    connection(out, first)?;
+    for one in rest {
+        out.mark(Mark::Comma)?;
+        connection(out, one)?;
     }
+    Ok(())
 }
 
 fn more_arguments(out: &mut Text, arguments: &[WriteArgument]) -> Result<(), AllocError>
@@ -263,25 +244,20 @@ fn statements(out: &mut Text, statements: &[Statement]) -> Result<(), AllocError
     Ok(())
 }
 
+/// A wire or a register.
 #[tactic(auto, using(crate::proofs::Laying::put_all_append, crate::proofs::Laying::all_tokens_append))]
-fn wire(out: &mut Text, wire: &Wire) -> Result<(), AllocError>
-    ensures text { OnOk result (out.new ≡ put_all out.old (g.item (i.Wire wire.now))) }
-    ensures tokens { OnOk result (AllTokens (g.item (i.Wire wire.now))) }
+fn declaration(
+    out: &mut Text,
+    kind: Word,
+    high: Option<u64>,
+    name: &Identifier,
+) -> Result<(), AllocError>
+    ensures text { OnOk result (out.new ≡ put_all out.old (g.word kind ++ g.range high ++ g.name name.now ++ g.mark m.Semicolon)) }
+    ensures tokens { OnOk result (AllTokens (g.word kind ++ g.range high ++ g.name name.now ++ g.mark m.Semicolon)) }
 {
-    out.word(Word::Wire)?;
-    range(out, wire.high)?;
-    out.name(&wire.name)?;
-    out.mark(Mark::Semicolon)
-}
-
-#[tactic(auto, using(crate::proofs::Laying::put_all_append, crate::proofs::Laying::all_tokens_append))]
-fn register(out: &mut Text, register: &Register) -> Result<(), AllocError>
-    ensures text { OnOk result (out.new ≡ put_all out.old (g.item (i.Register register.now))) }
-    ensures tokens { OnOk result (AllTokens (g.item (i.Register register.now))) }
-{
-    out.word(Word::Reg)?;
-    range(out, register.high)?;
-    out.name(&register.name)?;
+    out.word(kind)?;
+    range(out, high)?;
+    out.name(name)?;
     out.mark(Mark::Semicolon)
 }
 
@@ -324,24 +300,18 @@ fn initial(out: &mut Text, initial: &Initial) -> Result<(), AllocError>
     out.word(Word::End)
 }
 
-/// `always @(posedge clk)`
-fn clock_edge(out: &mut Text) -> Result<(), AllocError>
-    ensures text { OnOk result (out.new ≡ put_all out.old (g.word w.Always ++ g.mark m.At ++ g.mark m.OpenRound ++ g.word w.PosEdge ++ g.name g.clk ++ g.mark m.CloseRound)) }
+/// `always @(posedge clk) begin .. end`
+#[tactic(auto, using(crate::proofs::Laying::put_all_append, crate::proofs::Laying::all_tokens_append))]
+fn always(out: &mut Text, always: &Always) -> Result<(), AllocError>
+    ensures text { OnOk result (out.new ≡ put_all out.old (g.item (i.Always always.now))) }
+    ensures tokens { OnOk result (AllTokens (g.item (i.Always always.now))) }
 {
     out.word(Word::Always)?;
     out.mark(Mark::At)?;
     out.mark(Mark::OpenRound)?;
     out.word(Word::PosEdge)?;
     out.clock()?;
-    out.mark(Mark::CloseRound)
-}
-
-#[tactic(auto, using(crate::proofs::Laying::put_all_append, crate::proofs::Laying::all_tokens_append))]
-fn always(out: &mut Text, always: &Always) -> Result<(), AllocError>
-    ensures text { OnOk result (out.new ≡ put_all out.old (g.item (i.Always always.now))) }
-    ensures tokens { OnOk result (AllTokens (g.item (i.Always always.now))) }
-{
-    clock_edge(out)?;
+    out.mark(Mark::CloseRound)?;
     out.word(Word::Begin)?;
     statements(out, always.body.as_slice())?;
     out.word(Word::End)
@@ -365,8 +335,8 @@ fn item(out: &mut Text, item: &Item) -> Result<(), AllocError>
     ensures tokens { OnOk result (AllTokens (g.item item.now)) }
 {
     match item {
-        Item::Wire(item) => wire(out, item),
-        Item::Register(item) => register(out, item),
+        Item::Wire(item) => declaration(out, Word::Wire, item.high, &item.name),
+        Item::Register(item) => declaration(out, Word::Reg, item.high, &item.name),
         Item::Memory(item) => memory(out, item),
         Item::Assign(item) => assign(out, item),
         Item::Initial(item) => initial(out, item),
@@ -400,19 +370,12 @@ fn one_module(out: &mut Text, one: &Module) -> Result<(), AllocError>
     out.word(Word::EndModule)
 }
 
-fn modules(out: &mut Text, modules: &[Module]) -> Result<(), AllocError>
-    ensures text { OnOk result (out.new ≡ put_all out.old (g.all g.module_tokens modules.now)) }
-    ensures tokens { OnOk result (AllTokens (g.all g.module_tokens modules.now)) }
-{
-    for one in modules {
-        one_module(out, one)?;
-    }
-    Ok(())
-}
-
 pub fn net(out: &mut Text, net: &Net) -> Result<(), AllocError>
     ensures text { OnOk result (out.new ≡ put_all out.old (g.net net.now)) }
     ensures tokens { OnOk result (AllTokens (g.net net.now)) }
 {
-    modules(out, net.modules.as_slice())
+    for one in net.modules.as_slice() {
+        one_module(out, one)?;
+    }
+    Ok(())
 }

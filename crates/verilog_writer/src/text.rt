@@ -13,7 +13,7 @@ use verilog_tree::name::{Identifier, Quoted};
 use verilog_tree::token::{Mark, Word};
 
 /// What a text ends with, for the blank before the next token.
-#[derive(Clone, Copy, PartialEq, Eq)]
+#[derive(Clone, Copy)]
 pub enum Ending {
     /// Nothing is written yet.
     Start,
@@ -28,7 +28,7 @@ pub enum Ending {
 }
 
 /// How a token is laid out: whether no blank stands before it, how it changes the depth, and how it ends.
-#[derive(Clone, Copy, PartialEq, Eq)]
+#[derive(Clone, Copy)]
 pub struct Layout {
     pub hugs: bool,
     pub outdents: bool,

@@ -1,7 +1,0 @@
-use Rattle.verilog_tree.specs.Grammar as g
-use Rattle.verilog_writer.proofs.Laying.{more_step}
-use Rattle.verilog_writer.proofs.expressions.more_names.Goals as goal
-
-pub loop-name-preserved : goal.loop-name-preserved
-loop-name-preserved c = more_step g.name c.args.out.now _ _ _ c.args.names.now c.loop-name.name-index c.name-item.result c.loop-name.invariant c.in_ok-mark.ensures
-    c.in_ok-name.ensures.text (c.in_ok-name.ensures.name, tt) c.name-item.is c.loop-name-test.true

@@ -1,7 +1,0 @@
-use Rattle.std.proofs.Common.{◌≡◌, take}
-use Rattle.verilog_tree.specs.Grammar as g
-use Rattle.verilog_writer.specs.Layout.{put_all, AllTokens}
-use Rattle.verilog_writer.proofs.expressions.more_names.Given as goal
-
-abbrev pub invariant-loop-name : goal.invariant-loop-name
-invariant-loop-name l = (l.out ≡ put_all l.fn.out (g.more g.name (take l.name-index l.names))) × AllTokens (g.more g.name (take l.name-index l.names))

@@ -1,7 +1,0 @@
-use Rattle.std.proofs.Common.{◌≡◌, take}
-use Rattle.verilog_tree.specs.Grammar as g
-use Rattle.verilog_writer.specs.Layout.{put_all, AllTokens}
-use Rattle.verilog_writer.proofs.items.modules.Given as goal
-
-abbrev pub invariant-loop-one : goal.invariant-loop-one
-invariant-loop-one l = (l.out ≡ put_all l.fn.out (g.all g.module_tokens (take l.one-index l.modules))) × AllTokens (g.all g.module_tokens (take l.one-index l.modules))

@@ -1,7 +1,0 @@
-use Rattle.verilog_tree.specs.Grammar as g
-use Rattle.verilog_writer.proofs.Laying.{more_step}
-use Rattle.verilog_writer.proofs.items.more_ports.Goals as goal
-
-pub loop-one-preserved : goal.loop-one-preserved
-loop-one-preserved c = more_step g.port c.args.out.now _ _ _ c.args.ports.now c.loop-one.one-index c.one-item.result c.loop-one.invariant c.in_ok-mark.ensures
-    c.in_ok-port.ensures.text c.in_ok-port.ensures.tokens c.one-item.is c.loop-one-test.true
