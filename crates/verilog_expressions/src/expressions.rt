@@ -12,28 +12,20 @@ use verilog_tree::name::Identifier;
 use verilog_tree::token::Mark;
 use verilog_tree::tree::{Constant, Expression};
 
-#[tactic(auto, unfolding(verilog_rules::specs::Reading::read_range))]
-fn range(cursor: &mut Cursor<'_>) -> Result<u64, Fault>
-    ensures { Steps (spec.read_range cursor.old) result cursor.new }
+/// Reads `[high:0]` where a bracket is next, and gives `high`.
+#[tactic(auto, unfolding(verilog_rules::specs::Reading::read_optional_range, verilog_rules::specs::Reading::read_range))]
+pub fn optional_range(cursor: &mut Cursor<'_>) -> Result<Option<u64>, Fault>
+    ensures { Steps (spec.read_optional_range cursor.old) result cursor.new }
 {
+    if !cursor.sees_mark(Mark::OpenSquare) {
+        return Ok(None);
+    }
     cursor.mark(Mark::OpenSquare)?;
     let high = cursor.number()?;
     cursor.mark(Mark::Colon)?;
     cursor.expect(Sign::Zero)?;
     cursor.mark(Mark::CloseSquare)?;
-    Ok(high)
-}
-
-/// Reads `[high:0]` where a bracket is next, and gives `high`.
-#[tactic(auto, unfolding(verilog_rules::specs::Reading::read_optional_range))]
-pub fn optional_range(cursor: &mut Cursor<'_>) -> Result<Option<u64>, Fault>
-    ensures { Steps (spec.read_optional_range cursor.old) result cursor.new }
-{
-    if cursor.sees_mark(Mark::OpenSquare) {
-        Ok(Some(range(cursor)?))
-    } else {
-        Ok(None)
-    }
+    Ok(Some(high))
 }
 
 /// Reads a sized decimal constant, as `8'd255`.
@@ -57,23 +49,6 @@ pub fn signed(cursor: &mut Cursor<'_>) -> Result<Identifier, Fault>
     let name = cursor.name()?;
     cursor.mark(Mark::CloseRound)?;
     Ok(name)
-}
-
-#[tactic(auto, unfolding(verilog_rules::specs::Reading::read_constant_expression))]
-fn constant_expression(cursor: &mut Cursor<'_>) -> Result<Expression, Fault>
-    ensures { Steps (spec.read_constant_expression cursor.old) result cursor.new }
-{
-    let constant = constant(cursor)?;
-    Ok(Expression::Constant(constant))
-}
-
-#[tactic(auto, unfolding(verilog_rules::specs::Reading::read_bitwise_not))]
-fn bitwise_not(cursor: &mut Cursor<'_>) -> Result<Expression, Fault>
-    ensures { Steps (spec.read_bitwise_not cursor.old) result cursor.new }
-{
-    cursor.mark(Mark::Tilde)?;
-    let of = cursor.name()?;
-    Ok(Expression::BitwiseNot(of))
 }
 
 #[tactic(auto, unfolding(verilog_rules::specs::Reading::read_binary))]
@@ -104,41 +79,27 @@ fn conditional(cursor: &mut Cursor<'_>, condition: Identifier) -> Result<Express
     })
 }
 
-#[tactic(auto, unfolding(verilog_rules::specs::Reading::read_bit_end))]
-fn bit_end(cursor: &mut Cursor<'_>, of: Identifier, bit: u64) -> Result<Expression, Fault>
-    ensures { Steps (spec.read_bit_end of bit cursor.old) result cursor.new }
-{
-    cursor.mark(Mark::CloseSquare)?;
-    Ok(Expression::BitSelect { of, bit })
-}
-
-#[tactic(auto, unfolding(verilog_rules::specs::Reading::read_part_end))]
-fn part_end(cursor: &mut Cursor<'_>, of: Identifier, high: u64) -> Result<Expression, Fault>
-    ensures { Steps (spec.read_part_end of high cursor.old) result cursor.new }
-{
-    cursor.mark(Mark::Colon)?;
-    let low = cursor.number()?;
-    cursor.mark(Mark::CloseSquare)?;
-    Ok(Expression::PartSelect { of, high, low })
-}
-
-#[tactic(auto, unfolding(verilog_rules::specs::Reading::read_select))]
+#[tactic(auto, unfolding(verilog_rules::specs::Reading::read_select, verilog_rules::specs::Reading::read_bit_end, verilog_rules::specs::Reading::read_part_end))]
 fn select(cursor: &mut Cursor<'_>, of: Identifier) -> Result<Expression, Fault>
     ensures { Steps (spec.read_select of cursor.old) result cursor.new }
 {
     cursor.mark(Mark::OpenSquare)?;
     let high = cursor.number()?;
     if cursor.sees_mark(Mark::CloseSquare) {
-        bit_end(cursor, of, high)
-    } else {
-        part_end(cursor, of, high)
+        cursor.mark(Mark::CloseSquare)?;
+        return Ok(Expression::BitSelect { of, bit: high });
     }
+    cursor.mark(Mark::Colon)?;
+    let low = cursor.number()?;
+    cursor.mark(Mark::CloseSquare)?;
+    Ok(Expression::PartSelect { of, high, low })
 }
 
-#[tactic(auto, unfolding(verilog_rules::specs::Reading::read_behind_name))]
-fn behind_name(cursor: &mut Cursor<'_>, name: Identifier) -> Result<Expression, Fault>
-    ensures { Steps (spec.read_behind_name name cursor.old) result cursor.new }
+#[tactic(auto, unfolding(verilog_rules::specs::Reading::read_named, verilog_rules::specs::Reading::read_behind_name))]
+fn named(cursor: &mut Cursor<'_>) -> Result<Expression, Fault>
+    ensures { Steps (spec.read_named cursor.old) result cursor.new }
 {
+    let name = cursor.name()?;
     if cursor.sees_operator() {
         binary(cursor, name)
     } else if cursor.sees_mark(Mark::Question) {
@@ -150,42 +111,19 @@ fn behind_name(cursor: &mut Cursor<'_>, name: Identifier) -> Result<Expression, 
     }
 }
 
-#[tactic(auto, unfolding(verilog_rules::specs::Reading::read_named))]
-fn named(cursor: &mut Cursor<'_>) -> Result<Expression, Fault>
-    ensures { Steps (spec.read_named cursor.old) result cursor.new }
-{
-    let name = cursor.name()?;
-    behind_name(cursor, name)
-}
-
-#[tactic(auto, unfolding(verilog_rules::specs::Reading::read_signed_less))]
-fn signed_less(cursor: &mut Cursor<'_>, left: Identifier) -> Result<Expression, Fault>
-    ensures { Steps (spec.read_signed_less left cursor.old) result cursor.new }
-{
-    cursor.mark(Mark::Less)?;
-    let right = signed(cursor)?;
-    Ok(Expression::SignedLess { left, right })
-}
-
-#[tactic(auto, unfolding(verilog_rules::specs::Reading::read_arithmetic_shift))]
-fn arithmetic_shift(cursor: &mut Cursor<'_>, left: Identifier) -> Result<Expression, Fault>
-    ensures { Steps (spec.read_arithmetic_shift left cursor.old) result cursor.new }
-{
-    cursor.mark(Mark::ArithmeticShiftRight)?;
-    let right = cursor.name()?;
-    Ok(Expression::ArithmeticShiftRight { left, right })
-}
-
-#[tactic(auto, unfolding(verilog_rules::specs::Reading::read_of_signed))]
+#[tactic(auto, unfolding(verilog_rules::specs::Reading::read_of_signed, verilog_rules::specs::Reading::read_signed_less, verilog_rules::specs::Reading::read_arithmetic_shift))]
 fn of_signed(cursor: &mut Cursor<'_>) -> Result<Expression, Fault>
     ensures { Steps (spec.read_of_signed cursor.old) result cursor.new }
 {
     let left = signed(cursor)?;
     if cursor.sees_mark(Mark::Less) {
-        signed_less(cursor, left)
-    } else {
-        arithmetic_shift(cursor, left)
+        cursor.mark(Mark::Less)?;
+        let right = signed(cursor)?;
+        return Ok(Expression::SignedLess { left, right });
     }
+    cursor.mark(Mark::ArithmeticShiftRight)?;
+    let right = cursor.name()?;
+    Ok(Expression::ArithmeticShiftRight { left, right })
 }
 
 /// A guarded division from the base of its guarded constant on.
@@ -326,19 +264,12 @@ fn more_names(
     Ok(found)
 }
 
-#[tactic(auto, unfolding(verilog_rules::specs::Reading::read_listed))]
-fn names(alloc: Global, cursor: &mut Cursor<'_>) -> Result<Items<Identifier>, Fault>
-    ensures { Steps (spec.read_listed spec.read_name cursor.old) result cursor.new }
-{
-    let first = cursor.name()?;
-    more_names(alloc, cursor, first)
-}
-
-#[tactic(auto, unfolding(verilog_rules::specs::Reading::read_concatenation))]
+#[tactic(auto, unfolding(verilog_rules::specs::Reading::read_concatenation, verilog_rules::specs::Reading::read_listed))]
 fn concatenation(alloc: Global, cursor: &mut Cursor<'_>) -> Result<Expression, Fault>
     ensures { Steps (spec.read_concatenation cursor.old) result cursor.new }
 {
-    let parts = names(alloc, cursor)?;
+    let first = cursor.name()?;
+    let parts = more_names(alloc, cursor, first)?;
     cursor.mark(Mark::CloseCurly)?;
     Ok(Expression::Concatenation(parts))
 }
@@ -368,16 +299,19 @@ fn braced(alloc: Global, cursor: &mut Cursor<'_>) -> Result<Expression, Fault>
 }
 
 /// The right side of an assign.
-#[tactic(auto, unfolding(verilog_rules::specs::Reading::read_expression))]
+#[tactic(auto, unfolding(verilog_rules::specs::Reading::read_expression, verilog_rules::specs::Reading::read_constant_expression, verilog_rules::specs::Reading::read_bitwise_not))]
 pub fn expression(alloc: Global, cursor: &mut Cursor<'_>) -> Result<Expression, Fault>
     ensures { Steps (spec.read_expression cursor.old) result cursor.new }
 {
     if cursor.sees_name() {
         named(cursor)
     } else if cursor.sees_number() {
-        constant_expression(cursor)
+        let constant = constant(cursor)?;
+        Ok(Expression::Constant(constant))
     } else if cursor.sees_mark(Mark::Tilde) {
-        bitwise_not(cursor)
+        cursor.mark(Mark::Tilde)?;
+        let of = cursor.name()?;
+        Ok(Expression::BitwiseNot(of))
     } else if cursor.sees_mark(Mark::Signed) {
         of_signed(cursor)
     } else if cursor.sees_mark(Mark::OpenRound) {
