@@ -49,18 +49,29 @@ impl<'t> Level<'t> {
     }
 }
 
-/// The functions that a text defines, by their names, each with the number of its first definition.
+/// The number of a definition that a name is noted with.
+fn number_in(meaning: Meaning) -> u32
+    ensures { result ≡ spec.number_in meaning }
+{
+    match meaning {
+        Meaning::Function(number) => u32::try_from(number).unwrap_or(0),
+        _ => 0,
+    }
+}
+
+/// The functions that a text defines, by their names, each with the number of its first definition: a scope of their own, so that there is one kind of
+/// table.
 pub struct Definitions<'t> {
-    numbers: IndexMap<&'t [u8], u32>,
+    level: Level<'t>,
 }
 
 impl<'t> Model for Definitions<'t> {
     ghost use Rattle.std.specs.Prelude.{ℕ, List, map};
-    ghost use Rattle.c_rules.specs.Levels.{plain};
+    ghost use Rattle.c_rules.specs.Levels.{numbered};
 
     ghost Value = { List (List ℕ × ℕ) };
 
-    ghost view = { λ d. map plain d.numbers.entries };
+    ghost view = { λ d. map numbered d.level };
 }
 
 impl<'t> Definitions<'t> {
@@ -69,23 +80,27 @@ impl<'t> Definitions<'t> {
         ensures { result ≡ [] }
     {
         Definitions {
-            numbers: IndexMap::new(alloc),
+            level: Level::new(alloc),
         }
     }
 
     /// The number of the first definition of a function, if it has one.
+    #[tactic(auto, using(crate::proofs::LevelLemmas::lookup_numbered))]
     pub fn get(&self, name: &[u8]) -> Option<u32>
         ensures { result ≡ spec.named_in self.now name.now }
     {
-        self.numbers.get(&name).copied()
+        match self.level.get(name) {
+            Some(meaning) => Some(number_in(meaning)),
+            None => None,
+        }
     }
 
     /// Notes the number of a definition.
+    #[tactic(auto, using(crate::proofs::LevelLemmas::insert_numbered))]
     fn insert(&mut self, name: &'t [u8], number: u32) -> Result<(), AllocError>
         ensures { OnOk result (self.new ≡ spec.inserted self.old name.now number) }
     {
-        self.numbers.insert(name, number)?;
-        Ok(())
+        self.level.insert(name, Meaning::Function(number as usize))
     }
 
     /// Notes the number of a definition, unless it is a second one of the function.
@@ -156,7 +171,7 @@ impl Drop for Level<'_> {
 
 impl Drop for Definitions<'_> {
     fn drop(self) {
-        let Definitions { numbers: _ } = self;
+        let Definitions { level: _ } = self;
     }
 }
 
