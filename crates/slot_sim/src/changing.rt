@@ -4,7 +4,7 @@ ghost use Rattle.std.specs.Prelude.{◌≡◌, ◌+◌, ◌^◌, ◌<◌, length
 ghost use Rattle.verilog_meaning.specs.Readings.{is_on, set_by, stored_by, register_after, word_after};
 ghost use Rattle.sim_values.specs.Flat.{reading};
 ghost use Rattle.sim_layout.specs.Running.{flat};
-ghost use Rattle.slot_sim.specs.Changing.{leaves_other, alters, changes, part_changes_at, parts_change};
+ghost use Rattle.slot_sim.specs.Changing.{leaves_other, changes, part_changes_at, parts_change};
 
 use cycle_sim::sim::Sim;
 use netlist::netlist::{Action, Effect, Module};
@@ -133,15 +133,6 @@ fn leaves_another(
     }
 }
 
-/// Whether an action has the edge leave another number or word than is held, where these come behind it.
-fn is_altering(sim: &Sim, spot: Spot, module: &Module, action: &Action, behind: &[Action]) -> bool
-    requires { length sim.now.numbers < 2 ^ 64 }
-    ensures { result ≡ alters module.now (reading spot (flat sim.now)) action.now behind.now }
-{
-    all_hold(sim, spot, action.conditions.as_slice())
-        && leaves_another(sim, spot, module, &action.effect, behind)
-}
-
 /// Whether the edge changes an instance of a module.
 fn changes_in(sim: &Sim, spot: Spot, module: &Module) -> bool
     requires { length sim.now.numbers < 2 ^ 64 }
@@ -149,7 +140,10 @@ fn changes_in(sim: &Sim, spot: Spot, module: &Module) -> bool
 {
     let actions = module.actions.as_slice();
     for number in 0..actions.len() {
-        if is_altering(sim, spot, module, &actions[number], &actions[number + 1..]) {
+        let action = &actions[number];
+        if all_hold(sim, spot, action.conditions.as_slice())
+            && leaves_another(sim, spot, module, &action.effect, &actions[number + 1..])
+        {
             return true;
         }
     }

@@ -19,11 +19,22 @@ use std::alloc::{AllocError, Global};
 use std::marker::Model;
 
 /// A simulator of a net of threads, with where each of them stands. Contracts see the simulator.
-#[derive(Drop)]
 pub struct SlotSim<'a> {
     sim: Sim<'a>,
     slots: Vec<Slot>,
     alloc: Global,
+}
+
+// A drop that is written here is proved here; a derived one is proved again in each crate that drops the type.
+
+impl Drop for SlotSim<'_> {
+    fn drop(self) {
+        let SlotSim {
+            sim: _,
+            slots: _,
+            alloc: _,
+        } = self;
+    }
 }
 
 impl<'a> Model for SlotSim<'a> {
@@ -116,13 +127,8 @@ impl<'a> SlotSim<'a> {
         ensures need { TellsNeed (threads_of self.old.modules) thread self.old result }
         ensures state { IsSameState self.old self.new }
     {
-        let SlotSim {
-            sim,
-            slots,
-            alloc: _,
-        } = self;
-        let slot = slot_of(sim, slots.as_slice(), thread);
-        tells_need(sim, &slot.alone, slot.need)
+        let slot = slot_of(&self.sim, self.slots.as_slice(), thread);
+        tells_need(&mut self.sim, &slot.alone, slot.need)
     }
 
     /// Whether a thread's slot is the same in another simulator of the net.
@@ -141,13 +147,8 @@ impl<'a> SlotSim<'a> {
         requires net { IsSameNet self.old other.now }
         ensures { IsTaken (threads_of self.old.modules) thread self.old other.now self.new }
     {
-        let SlotSim {
-            sim,
-            slots,
-            alloc: _,
-        } = self;
-        let slot = slot_of(sim, slots.as_slice(), thread);
-        take_parts(sim, &other.sim, slot.members.as_slice());
+        let slot = slot_of(&self.sim, self.slots.as_slice(), thread);
+        take_parts(&mut self.sim, &other.sim, slot.members.as_slice());
     }
 
     /// Whether the next cycle of a thread alone changes its slot. The state stays.
@@ -158,16 +159,11 @@ impl<'a> SlotSim<'a> {
         ensures moves { MatchBool result (Moving (threads_of self.old.modules) thread self.old) (Moving (threads_of self.old.modules) thread self.old → ⊥) }
         ensures state { IsSameState self.old self.new }
     {
-        let SlotSim {
-            sim,
-            slots,
-            alloc: _,
-        } = self;
-        let slot = slot_of(sim, slots.as_slice(), thread);
-        if !tells_need(sim, &slot.alone, slot.need) {
+        let slot = slot_of(&self.sim, self.slots.as_slice(), thread);
+        if !tells_need(&mut self.sim, &slot.alone, slot.need) {
             return true;
         }
-        changes_parts(sim, slot.members.as_slice())
+        changes_parts(&self.sim, slot.members.as_slice())
     }
 
     /// Whether the next cycle of a thread alone is open and changes its slot. The state stays.
@@ -178,16 +174,11 @@ impl<'a> SlotSim<'a> {
         ensures opens { MatchBool result (Opening (threads_of self.old.modules) thread self.old) (Opening (threads_of self.old.modules) thread self.old → ⊥) }
         ensures state { IsSameState self.old self.new }
     {
-        let SlotSim {
-            sim,
-            slots,
-            alloc: _,
-        } = self;
-        let slot = slot_of(sim, slots.as_slice(), thread);
-        if !tells_need(sim, &slot.alone, slot.need) {
+        let slot = slot_of(&self.sim, self.slots.as_slice(), thread);
+        if !tells_need(&mut self.sim, &slot.alone, slot.need) {
             return false;
         }
-        changes_parts(sim, slot.members.as_slice())
+        changes_parts(&self.sim, slot.members.as_slice())
     }
 
     /// One cycle of a thread alone. What it writes is appended to `out`. Memory is wanting only where it writes something; at `Err`
@@ -200,13 +191,8 @@ impl<'a> SlotSim<'a> {
         ensures bytes { OnErr result (out.new ≡ out.old) }
         ensures state { OnErr result (IsSameState self.old self.new) }
     {
-        let SlotSim {
-            sim,
-            slots,
-            alloc: _,
-        } = self;
-        let slot = slot_of(sim, slots.as_slice(), thread);
-        sim.cycle(&slot.alone, out)
+        let slot = slot_of(&self.sim, self.slots.as_slice(), thread);
+        self.sim.cycle(&slot.alone, out)
     }
 
     /// One cycle of a thread alone, of which what it writes is dropped.
@@ -215,13 +201,8 @@ impl<'a> SlotSim<'a> {
         ensures net { IsSameNet self.old self.new }
         ensures cycle { (out : List ℕ) × IsCycleOf (alone thread) self.old self.new [] out }
     {
-        let SlotSim {
-            sim,
-            slots,
-            alloc: _,
-        } = self;
-        let slot = slot_of(sim, slots.as_slice(), thread);
-        sim.pass(&slot.alone);
+        let slot = slot_of(&self.sim, self.slots.as_slice(), thread);
+        self.sim.pass(&slot.alone);
     }
 
     /// Whether done is shown. The state stays.

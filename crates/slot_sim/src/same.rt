@@ -1,12 +1,11 @@
 // Whether two simulators hold the same in one instance.
 
-ghost use Rattle.std.specs.Prelude.{◌≡◌, ℕ, ◌+◌, ◌^◌, ◌<◌, length, Some, slice_get, slice_index, nat_eq, true, false};
-ghost use Rattle.slot_sim.specs.Same.{registers_same, is_register, words_same, memories_same, part_same, part_same_at, parts_same};
+ghost use Rattle.std.specs.Prelude.{◌≡◌, ℕ, ◌+◌, ◌^◌, ◌<◌, length, slice_get, slice_index, nat_eq, true, false};
+ghost use Rattle.slot_sim.specs.Same.{registers_same, is_register, words_same, memories_same, part_same_at, parts_same};
 ghost use Rattle.sim_layout.specs.Running.{flat};
 
 use cycle_sim::sim::Sim;
-use netlist::netlist::{Memory, Module, Signal, Source};
-use sim_values::edge::Part;
+use netlist::netlist::{Memory, Signal, Source};
 use sqlite_items::at;
 
 fn holds(source: &Source) -> bool
@@ -72,22 +71,14 @@ pub fn same_memories(left: &Sim, right: &Sim, first: usize, memories: &[Memory])
     true
 }
 
-/// Whether two simulators hold the same in a part of a module.
-fn same_in(left: &Sim, right: &Sim, part: &Part, module: &Module) -> bool
-    requires { (x : ℕ) → x < length module.now.signals → part.now.spot.base + x < 2 ^ 64 }
-    ensures { result ≡ part_same (flat left.now) (flat right.now) part.now (Some module.now) }
-{
-    same_registers(left, right, part.spot.base, module.signals.as_slice())
-        && same_memories(left, right, part.spot.memories, module.memories.as_slice())
-}
-
 /// Whether two simulators hold the same in the part at a place.
 fn same_part(left: &Sim, right: &Sim, place: usize) -> bool
     ensures { result ≡ part_same_at left.now.modules (flat left.now) (flat right.now) (slice_get left.now.parts place) }
 {
     if let Some(part) = at(left.parts(), place) {
         if let Some(module) = at(left.modules(), part.module) {
-            return same_in(left, right, part, module);
+            return same_registers(left, right, part.spot.base, module.signals.as_slice())
+                && same_memories(left, right, part.spot.memories, module.memories.as_slice());
         }
     }
     true

@@ -1,6 +1,6 @@
 // Where a thread stands in a simulator.
 
-ghost use Rattle.std.specs.Prelude.{◌≡◌, ◌<◌, MatchOption, IsTrue, false, IfOk, codes, slice_get};
+ghost use Rattle.std.specs.Prelude.{◌≡◌, ◌<◌, IsTrue, false, IfOk, codes, slice_get};
 ghost use Rattle.std.specs.Str.{bytes_eq};
 ghost use Rattle.verilog_meaning.specs.Names.{numbered};
 ghost use Rattle.verilog_meaning.specs.Threads.{alone};
@@ -20,11 +20,22 @@ use std::alloc::{AllocError, Global};
 use verilog_tree::name::Identifier;
 
 /// Of a thread the places of the parts in its slot, that of its output `need`, and the choice of it alone.
-#[derive(Drop)]
 pub struct Slot {
     pub members: Vec<usize>,
     pub need: usize,
     pub alone: Choice,
+}
+
+// A drop that is written here is proved here; a derived one is proved again in each crate that drops the type.
+
+impl Drop for Slot {
+    fn drop(self) {
+        let Slot {
+            members: _,
+            need: _,
+            alone: _,
+        } = self;
+    }
 }
 
 /// The name of a thread's instance.
@@ -59,26 +70,17 @@ fn is_need(signal: &Signal) -> bool
     signal.name.as_str() == "need"
 }
 
-fn first_need(signals: &[Signal]) -> Option<usize>
-    ensures { MatchOption result (LacksNeed signals.now) (IsNeedNumber signals.now) }
-{
-    for number in 0..signals.len() {
-        if is_need(&signals[number]) {
-            return Some(number);
-        }
-    }
-    None
-}
-
 /// The number of the output `need`, where there is one.
 fn need_number(signals: &[Signal]) -> usize
     requires { LacksNeed signals.now → ⊥ }
     ensures { IsNeedNumber signals.now result }
 {
-    match first_need(signals) {
-        Some(number) => number,
-        None => unreachable!(),
+    for number in 0..signals.len() {
+        if is_need(&signals[number]) {
+            return number;
+        }
     }
+    unreachable!()
 }
 
 fn kind_at(parts: &[Part], place: usize) -> usize
