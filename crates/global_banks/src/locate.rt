@@ -9,7 +9,7 @@ use netlist::netlist::{Instance, Memory, Module};
 use sqlite_items::at;
 
 /// A word of a memory of an instance of the outermost module.
-#[derive(Clone, Copy, Debug, PartialEq, Eq)]
+#[derive(Clone, Copy)]
 pub struct Location {
     pub instance: usize,
     pub memory: usize,
