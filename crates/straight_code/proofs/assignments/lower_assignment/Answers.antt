@@ -1,4 +1,4 @@
-use Rattle.std.proofs.Common.{◌≤◌, arith}
+use Rattle.std.proofs.Common.{arith}
 use Rattle.std.proofs.lemmas.Result.{err_from_is_err_and}
 use Rattle.c_program.specs.Plain.{expression_of, place_of}
 use Rattle.straight_code.proofs.Room.{right_needs, place_needs, found_needs, step_needs}

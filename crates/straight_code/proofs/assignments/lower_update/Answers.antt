@@ -1,6 +1,6 @@
 use Rattle.std.proofs.lemmas.Result.{err_from_is_err_and}
 use Rattle.c_program.specs.Plain.{expression_of, place_of}
-use Rattle.std.proofs.Common.{◌≤◌, arith}
+use Rattle.std.proofs.Common.{arith}
 use Rattle.straight_code.proofs.Room.{right_needs, place_needs, found_needs, read_needs, update_needs, step_needs}
 use Rattle.straight_code.proofs.Steps.{update_at, update_steps}
 use Rattle.straight_code.proofs.Working.{update_works}

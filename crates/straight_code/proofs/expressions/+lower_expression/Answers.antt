@@ -1,5 +1,5 @@
-use Rattle.std.proofs.Common.{◌≡◌, ◌+◌, ◌*◌, ◌≤◌, length, ap, sym, ◌∙◌, arith}
-use Rattle.std.proofs.lemmas.Result.{IfErr-weaker}
+use Rattle.std.proofs.Common.{◌≡◌, ◌+◌, ◌*◌, length, ap, sym, ◌∙◌, arith}
+use Rattle.std.proofs.lemmas.Result.{IfErr-weaker, err_from_is_err_and}
 use Rattle.c_program.specs.Plain.{expression_of}
 use Rattle.c_program.specs.Tree.{Expression}
 use Rattle.c_program.specs.Weight.{expression_weight}
@@ -89,3 +89,63 @@ returns-in_ok-right-in-Binary t c =
           (length c.args.block.now.operations + (2 * expression_weight (expression_of c.args.expression.now) + 1)) (omega (arith, weighs, left, right)))
           c.put-in-Binary.ensures.full;
     }
+
+pub returns-in_err-index-in-Element-clause-full : goal.returns-in_err-index-in-Element-clause-full
+returns-in_err-index-in-Element-clause-full t c =
+    let p = err_from_is_err_and c.from_residual.result c.from_residual.ensures.1 in
+    let is =
+    ap expression_of c.in-Element.is
+    ∙ ap (λ z. Expression.Element c.in-Element.storage c.in-Element.variable c.in-Element.length c.in-Element.ty (expression_of z)) (sym c.deref.ensures) in
+    let weighs : expression_weight (expression_of c.args.expression.now) ≡ expression_weight (expression_of c.deref.result.now) + 1 = ap expression_weight is in
+    rw (p.1, p.2)
+    (full_more _ (length c.args.block.now.operations + (2 * expression_weight (expression_of c.deref.result.now) + 1))
+    (length c.args.block.now.operations + (2 * expression_weight (expression_of c.args.expression.now) + 1)) (omega (arith, weighs))
+    c.in_err-index-in-Element.ensures.full)
+
+pub returns-in_err-operand-in-Unary-clause-full : goal.returns-in_err-operand-in-Unary-clause-full
+returns-in_err-operand-in-Unary-clause-full t c =
+    let p = err_from_is_err_and c.from_residual-in_err-operand-in-Unary.result c.from_residual-in_err-operand-in-Unary.ensures.1 in
+    let is =
+    ap expression_of c.in-Unary.is ∙ ap (λ z. Expression.Unary c.in-Unary.operator c.in-Unary.ty (expression_of z)) (sym c.deref-in-Unary.ensures) in
+    let weighs : expression_weight (expression_of c.args.expression.now) ≡ expression_weight (expression_of c.deref-in-Unary.result.now) + 1 = ap expression_weight is in
+    rw (p.1, p.2)
+    (full_more _ (length c.args.block.now.operations + (2 * expression_weight (expression_of c.deref-in-Unary.result.now) + 1))
+    (length c.args.block.now.operations + (2 * expression_weight (expression_of c.args.expression.now) + 1)) (omega (arith, weighs))
+    c.in_err-operand-in-Unary.ensures.full)
+
+pub returns-in_err-left-in-Binary-clause-full : goal.returns-in_err-left-in-Binary-clause-full
+returns-in_err-left-in-Binary-clause-full t c =
+    let p = err_from_is_err_and c.from_residual-in_err-left-in-Binary.result c.from_residual-in_err-left-in-Binary.ensures.1 in
+    let is =
+    ap expression_of c.in-Binary.is
+    ∙ ap (λ z. Expression.Binary c.in-Binary.operator c.in-Binary.ty (expression_of z) (expression_of c.in-Binary.right.value)) (sym c.deref-in-Binary.ensures) in
+    let weighs : expression_weight (expression_of c.args.expression.now) ≡ expression_weight (expression_of c.deref-in-Binary.result.now) + expression_weight (expression_of c.in-Binary.right.value) + 1 = ap expression_weight is in
+    rw (p.1, p.2)
+    (full_more _ (length c.args.block.now.operations + (2 * expression_weight (expression_of c.deref-in-Binary.result.now) + 1))
+    (length c.args.block.now.operations + (2 * expression_weight (expression_of c.args.expression.now) + 1)) (omega (arith, weighs))
+    c.in_err-left-in-Binary.ensures.full)
+
+pub returns-in_err-right-in-Binary-clause-full : goal.returns-in_err-right-in-Binary-clause-full
+returns-in_err-right-in-Binary-clause-full t c =
+    let p = err_from_is_err_and c.from_residual-in_err-right-in-Binary.result c.from_residual-in_err-right-in-Binary.ensures.1 in
+    let is =
+    ap expression_of c.in-Binary.is
+    ∙ ap (λ z. Expression.Binary c.in-Binary.operator c.in-Binary.ty (expression_of z) (expression_of c.in-Binary.right.value)) (sym c.deref-in-Binary.ensures)
+    ∙ ap (λ z. Expression.Binary c.in-Binary.operator c.in-Binary.ty (expression_of c.deref-in-Binary.result.now) (expression_of z)) (sym c.deref-in-Binary-2.ensures) in
+    let weighs : expression_weight (expression_of c.args.expression.now) ≡ expression_weight (expression_of c.deref-in-Binary.result.now) + expression_weight (expression_of c.deref-in-Binary-2.result.now) + 1 = ap expression_weight is in
+    let count = c.in_ok-left-in-Binary.ensures.value.computes.count in
+    rw (p.1, p.2)
+    (full_more _ (length c.lower_expression-in-Binary.new.block.operations + (2 * expression_weight (expression_of c.deref-in-Binary-2.result.now) + 1))
+    (length c.args.block.now.operations + (2 * expression_weight (expression_of c.args.expression.now) + 1)) (omega (arith, weighs, count))
+    c.in_err-right-in-Binary.ensures.full)
+
+pub returns-in_err-operand-in-Cast-clause-full : goal.returns-in_err-operand-in-Cast-clause-full
+returns-in_err-operand-in-Cast-clause-full t c =
+    let p = err_from_is_err_and c.from_residual-in_err-operand-in-Cast.result c.from_residual-in_err-operand-in-Cast.ensures.1 in
+    let is =
+    ap expression_of c.in-Cast.is ∙ ap (λ z. Expression.Cast c.in-Cast.ty (expression_of z)) (sym c.deref-in-Cast.ensures) in
+    let weighs : expression_weight (expression_of c.args.expression.now) ≡ expression_weight (expression_of c.deref-in-Cast.result.now) + 1 = ap expression_weight is in
+    rw (p.1, p.2)
+    (full_more _ (length c.args.block.now.operations + (2 * expression_weight (expression_of c.deref-in-Cast.result.now) + 1))
+    (length c.args.block.now.operations + (2 * expression_weight (expression_of c.args.expression.now) + 1)) (omega (arith, weighs))
+    c.in_err-operand-in-Cast.ensures.full)
