@@ -9,7 +9,7 @@ use sqlite_items::Items;
 use std::alloc::{AllocError, Global};
 
 /// What a place of the code came to.
-#[derive(Clone, Copy, PartialEq, Eq, Debug)]
+#[derive(Clone, Copy)]
 pub enum Place {
     Stage(usize),
     /// Where that label leads.
