@@ -2,7 +2,9 @@
 use Rattle.std.proofs.Common.{◌≡◌, ◌≢◌, ℕ, suc, ◌+◌, ◌≤◌, ◌⊎◌, true, false, length, Option, Some, slice_get, slice_index, refl, sym, ap, subst, ◌∙◌, arith, inl, inr, ⊎_elim}
 use Rattle.hls_ints.specs.Types.{IntegerType}
 use Rattle.c_program.specs.declared.tree.BinaryOperator.{BinaryOperator}
+use Rattle.block_ir.specs.declared.operand.Operand.{Operand}
 use Rattle.block_ir.specs.declared.block.Operation.{Operation}
+use Rattle.block_ir.specs.declared.block.Operation.TheVariants.{Unary, Binary, ReadGlobal, WriteGlobal, ReadArray, WriteArray}
 use Rattle.block_ir.specs.declared.block.Block.{Block}
 use Rattle.block_ir.specs.declared.code.Stage.{Stage}
 use Rattle.block_ir.specs.declared.code.Stage.TheVariants as stage
@@ -53,6 +55,15 @@ module _ (operator : BinaryOperator) (unit : IntegerType) where
 
   pub operation_none : (p : BlockPlan) (k : ℕ) (o : Operation) → is_made operator unit o ≡ false → IsCountOf (OperationHas operator unit p k o) 0
   operation_none p k o none = count_none (OperationHas operator unit p k o) (λ n h. absurd (let e = h.0 in cc))
+
+  -- what is no operator on two operands
+  pub none_made : (o : Operation) → ((own : BinaryOperator) (ty : IntegerType) (a b : Operand) → o ≡ Binary own ty a b → ⊥) → is_made operator unit o ≡ false
+  none_made (Unary own ty a) other = refl
+  none_made (Binary own ty a b) other = absurd (other own ty a b refl)
+  none_made (ReadGlobal x n i) other = refl
+  none_made (WriteGlobal x n i a) other = refl
+  none_made (ReadArray x n i) other = refl
+  none_made (WriteArray x n i a) other = refl
 
   -- ---- a block
 

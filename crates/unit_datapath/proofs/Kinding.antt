@@ -30,6 +30,15 @@ same_sign s t e = (booleans_Decides s.signed t.signed).0 (and_parts (nat_eq (wid
 pub type_same : (ty : IntegerType) → same_type ty ty ≡ true
 type_same ty = and_from (nat_eq (width_of ty) (width_of ty)) (beq ty.signed ty.signed) (eq-eqb (width_of ty) (width_of ty) refl) ((booleans_Decides ty.signed ty.signed).1 refl)
 
+-- what is no operator on two operands shares no unit
+pub no_work : (kind : UnitKind) (o : Operation) → ((own : BinaryOperator) (ty : IntegerType) (a b : Operand) → o ≡ Binary own ty a b → ⊥) → is_work kind o ≡ false
+no_work kind (Unary own ty a) other = refl
+no_work kind (Binary own ty a b) other = absurd (other own ty a b refl)
+no_work kind (ReadGlobal x n i) other = refl
+no_work kind (WriteGlobal x n i a) other = refl
+no_work kind (ReadArray x n i) other = refl
+no_work kind (WriteArray x n i a) other = refl
+
 -- the kind of the operations of a kind of units
 abbrev node_kind : UnitKind → Kind
 node_kind kind = if kind.divides then Divide (width_of kind.ty) kind.ty.signed else Multiply (width_of kind.ty)

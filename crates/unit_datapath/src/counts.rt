@@ -102,11 +102,7 @@ fn operation_count(
                 0
             }
         }
-        Operation::Unary { .. } => 0,
-        Operation::ReadGlobal { .. } => 0,
-        Operation::WriteGlobal { .. } => 0,
-        Operation::ReadArray { .. } => 0,
-        Operation::WriteArray { .. } => 0,
+        _ => 0,
     }
 }
 

@@ -61,11 +61,7 @@ pub fn is_work(kind: &UnitKind, operation: &Operation) -> bool
             left,
             right,
         } => is_shared(kind, *operator, *ty, left, right),
-        Operation::Unary { .. } => false,
-        Operation::ReadGlobal { .. } => false,
-        Operation::WriteGlobal { .. } => false,
-        Operation::ReadArray { .. } => false,
-        Operation::WriteArray { .. } => false,
+        _ => false,
     }
 }
 

@@ -191,11 +191,7 @@ fn link_operation(
                 Ok(())
             }
         }
-        Operation::Unary { .. } => Ok(()),
-        Operation::ReadGlobal { .. } => Ok(()),
-        Operation::WriteGlobal { .. } => Ok(()),
-        Operation::ReadArray { .. } => Ok(()),
-        Operation::WriteArray { .. } => Ok(()),
+        _ => Ok(()),
     }
 }
 

@@ -1,6 +1,7 @@
 use Rattle.std.proofs.Common.{◌∙◌, refl, sym, ap}
 use Rattle.std.proofs.lemmas.Result.{on_ok_weaker}
 use Rattle.unit_datapath.specs.Kinds.{is_work}
+use Rattle.unit_datapath.proofs.Kinding.{no_work}
 use Rattle.unit_datapath.proofs.Linking.{operation_linked, nothing_linked}
 use Rattle.unit_datapath.proofs.links.link_operation.Goals as goal
 
@@ -20,32 +21,8 @@ returns-else-is_shared c =
     c.args.inputs.now refl
     (ap (is_work c.args.kind.now) c.in-Binary.is ∙ sym c.is_shared.ensures ∙ c.if-is_shared.false)
 
-pub returns-in-Unary : goal.returns-in-Unary
-returns-in-Unary c =
+pub returns-in_default : goal.returns-in_default
+returns-in_default c =
     nothing_linked c.args.code.now c.args.registers.now c.args.kind.now c.args.plan.now c.args.end c.args.number c.args.operation.now c.args.wires.now.signals c.args.inputs.now
     c.args.inputs.now refl
-    (ap (is_work c.args.kind.now) c.in-Unary.is)
-
-pub returns-in-ReadGlobal : goal.returns-in-ReadGlobal
-returns-in-ReadGlobal c =
-    nothing_linked c.args.code.now c.args.registers.now c.args.kind.now c.args.plan.now c.args.end c.args.number c.args.operation.now c.args.wires.now.signals c.args.inputs.now
-    c.args.inputs.now refl
-    (ap (is_work c.args.kind.now) c.in-ReadGlobal.is)
-
-pub returns-in-WriteGlobal : goal.returns-in-WriteGlobal
-returns-in-WriteGlobal c =
-    nothing_linked c.args.code.now c.args.registers.now c.args.kind.now c.args.plan.now c.args.end c.args.number c.args.operation.now c.args.wires.now.signals c.args.inputs.now
-    c.args.inputs.now refl
-    (ap (is_work c.args.kind.now) c.in-WriteGlobal.is)
-
-pub returns-in-ReadArray : goal.returns-in-ReadArray
-returns-in-ReadArray c =
-    nothing_linked c.args.code.now c.args.registers.now c.args.kind.now c.args.plan.now c.args.end c.args.number c.args.operation.now c.args.wires.now.signals c.args.inputs.now
-    c.args.inputs.now refl
-    (ap (is_work c.args.kind.now) c.in-ReadArray.is)
-
-pub returns-in-WriteArray : goal.returns-in-WriteArray
-returns-in-WriteArray c =
-    nothing_linked c.args.code.now c.args.registers.now c.args.kind.now c.args.plan.now c.args.end c.args.number c.args.operation.now c.args.wires.now.signals c.args.inputs.now
-    c.args.inputs.now refl
-    (ap (is_work c.args.kind.now) c.in-WriteArray.is)
+    (no_work c.args.kind.now c.args.operation.now c.in_default.not-Binary)
