@@ -323,7 +323,7 @@ module _ (registers : Registers) (types : List IntegerType) (values : List Given
         record { wires = wires_then base a b d p.wires (wires_then base b c d q.wires last.wires); chains = last.chains }
 
     -- what is no access of a global
-    pub silent_asked : (a : List Signal) (o known : Operation) → o ≡ known → ((variables given : ℕ → ℤ) (j : ℕ) → reaches_bank variables given globals spreads known j ≡ false) →
+    silent_asked : (a : List Signal) (o known : Operation) → o ≡ known → ((variables given : ℕ → ℤ) (j : ℕ) → reaches_bank variables given globals spreads known j ≡ false) →
         after ≡ before
         → AsksOperation a a registers types values before after globals spreads moment o
     silent_asked a o known e never same =
@@ -337,6 +337,16 @@ module _ (registers : Registers) (types : List IntegerType) (values : List Given
               (sym (never variables given j));
           rests = λ m r j many grown ob one off as_many less. refl;
         }))
+
+    -- what is neither a read nor a write of a global
+    pub others_asked : (a : List Signal) (o : Operation) → after ≡ before → ((x n : ℕ) (i : Operand) → o ≡ ReadGlobal x n i → ⊥)
+        → ((x n : ℕ) (i v : Operand) → o ≡ WriteGlobal x n i v → ⊥) → AsksOperation a a registers types values before after globals spreads moment o
+    others_asked a (Unary operator ty x) same read write = silent_asked a _ (Unary operator ty x) refl (λ variables given j. refl) same
+    others_asked a (Binary operator ty x y) same read write = silent_asked a _ (Binary operator ty x y) refl (λ variables given j. refl) same
+    others_asked a (ReadGlobal x n i) same read write = absurd (read x n i refl)
+    others_asked a (WriteGlobal x n i v) same read write = absurd (write x n i v refl)
+    others_asked a (ReadArray x n i) same read write = silent_asked a _ (ReadArray x n i) refl (λ variables given j. refl) same
+    others_asked a (WriteArray x n i v) same read write = silent_asked a _ (WriteArray x n i v) refl (λ variables given j. refl) same
 
     pub silent_linked : (a : List Signal) → after ≡ before → AreAccessLinks a a registers types values before after globals spreads moment
     silent_linked a same base bits high own sources chains are on room =

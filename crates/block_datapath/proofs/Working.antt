@@ -1,6 +1,7 @@
 -- Operations give what they give: lemmas of each function that puts the word of an operation together.
 use Rattle.std.proofs.Common.{◌≡◌, ℕ, zero, suc, ◌+◌, ◌-◌, ◌%◌, ◌^◌, ◌<◌, ◌≤◌, Bool, true, false, IsTrue, nat_lt, if◌then◌else◌, List, [], ◌∷◌, slice_get}
 use Rattle.std.proofs.Common.{slice_index, Option, Some, None, ℤ, pos, negsuc, refl, sym, ap, subst, ◌∙◌, arith}
+use Rattle.std.specs.Option.{option_flatten}
 use Rattle.std.specs.Prelude.{Result, IfOk}
 use Rattle.std.proofs.Math.Nat.{mod-eq_of_lt}
 use Rattle.std.proofs.Math.Pow.{pow_mono}
@@ -18,7 +19,7 @@ use Rattle.block_ir.specs.Arithmetic.{unary_total, binary_total}
 use Rattle.block_ir.specs.Run.{place_read}
 use Rattle.block_ir.specs.declared.operand.Operand.{Operand}
 use Rattle.block_ir.specs.declared.block.Operation.{Operation}
-use Rattle.block_ir.specs.declared.block.Operation.TheVariants.{Unary, Binary, ReadGlobal, ReadArray}
+use Rattle.block_ir.specs.declared.block.Operation.TheVariants.{Unary, Binary, ReadGlobal, WriteGlobal, ReadArray, WriteArray}
 use Rattle.block_ir.specs.declared.code.Array.{Array}
 use Rattle.block_ir.specs.declared.code.ThreadCode.{ThreadCode}
 use Rattle.operator_wires.specs.Shown.{unary_result, binary_result}
@@ -370,12 +371,17 @@ operation_kept a b globals code registers values plan k unit start operation wor
           (retyped a b globals code registers values unit start given.last operation word given.word t place wide signed));
     }
 
-pub register_got : (registers : List (Option ℕ)) (k : ℕ) (x : Option ℕ) → slice_get registers k ≡ Some x → x ≡ register_at registers k
-register_got [] k x e = absurd cc
-register_got (y ∷ registers) zero x e = cc
-register_got (y ∷ registers) (suc k) x e = register_got registers k x e
+pub register_flat : (registers : List (Option ℕ)) (k : ℕ) → option_flatten (slice_get registers k) ≡ register_at registers k
+register_flat [] k = refl
+register_flat (y ∷ registers) zero = refl
+register_flat (y ∷ registers) (suc k) = register_flat registers k
 
-pub register_none : (registers : List (Option ℕ)) (k : ℕ) → slice_get registers k ≡ None → None ≡ register_at registers k
-register_none [] k e = refl
-register_none (y ∷ registers) zero e = absurd cc
-register_none (y ∷ registers) (suc k) e = register_none registers k e
+-- what is no operator on two operands and no read of a global is done in its first state
+pub others_at_once : (o : Operation) → ((operator : BinaryOperator) (ty : IntegerType) (x y : Operand) → o ≡ Binary operator ty x y → ⊥)
+    → ((x n : ℕ) (i : Operand) → o ≡ ReadGlobal x n i → ⊥) → 0 ≡ further_states (operation_view o).kind
+others_at_once (Unary operator ty x) binary read = refl
+others_at_once (Binary operator ty x y) binary read = absurd (binary operator ty x y refl)
+others_at_once (ReadGlobal x n i) binary read = absurd (read x n i refl)
+others_at_once (WriteGlobal x n i v) binary read = refl
+others_at_once (ReadArray x n i) binary read = refl
+others_at_once (WriteArray x n i v) binary read = refl

@@ -159,10 +159,7 @@ fn ask_operation(
             index,
             value,
         ),
-        Operation::Unary { .. } => Ok(()),
-        Operation::Binary { .. } => Ok(()),
-        Operation::ReadArray { .. } => Ok(()),
-        Operation::WriteArray { .. } => Ok(()),
+        _ => Ok(()),
     }
 }
 

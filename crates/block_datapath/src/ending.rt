@@ -18,7 +18,7 @@ use sqlite_items::Items;
 use std::alloc::AllocError;
 
 /// A variable, and the word of what it holds after the block.
-#[derive(Clone, Copy, Debug, PartialEq, Eq)]
+#[derive(Clone, Copy)]
 pub struct Finish {
     pub variable: usize,
     pub word: Word,

@@ -16,7 +16,7 @@ use sqlite_items::Items;
 use std::alloc::AllocError;
 
 /// The value of an operation: its wire in the operation's last state, and the register that keeps it later.
-#[derive(Clone, Copy, Debug, PartialEq, Eq)]
+#[derive(Clone, Copy)]
 pub struct Given {
     pub word: Word,
     pub last: u64,

@@ -16,7 +16,7 @@ use crate::timing::further_states;
 use crate::told::told_value;
 use crate::units::shared_place;
 use block_ir::block::{Block, Operation};
-use block_ir::code::{Array, ThreadCode};
+use block_ir::code::ThreadCode;
 use block_ir::operand::Operand;
 use block_ir::plan::BlockPlan;
 use c_program::tree::{BinaryOperator, UnaryOperator};
@@ -55,16 +55,10 @@ pub fn global_type(globals: &[CType], global: usize) -> CType
 fn element_type(code: &ThreadCode, array: usize) -> CType
     ensures { result ≡ element_type (slice_get code.now.arrays array) }
 {
-    match array_at(code.arrays.as_slice(), array) {
+    match code.arrays.get(array) {
         Some(own) => own.ty,
         None => CType::INT,
     }
-}
-
-fn array_at(arrays: &[Array], number: usize) -> Option<Array>
-    ensures { result ≡ slice_get arrays.now number }
-{
-    arrays.get(number).copied()
 }
 
 /// The values of the operations of a block, each after those before it.
@@ -150,17 +144,7 @@ fn unit_at(units: &[u32], number: usize) -> u32
 pub fn register_of(plan: &BlockPlan, number: usize) -> Option<u32>
     ensures { result ≡ register_at plan.now.registers number }
 {
-    let registers = plan.registers.as_slice();
-    match choice_at(registers, number) {
-        Some(register) => register,
-        None => None,
-    }
-}
-
-fn choice_at(registers: &[Option<u32>], number: usize) -> Option<Option<u32>>
-    ensures { result ≡ slice_get registers.now number }
-{
-    registers.get(number).copied()
+    plan.registers.get(number).copied().flatten()
 }
 
 /// The word of an operation, right in its last state.
@@ -316,7 +300,7 @@ fn read_array(
     ensures shows { IfOk result (ReadsArray wires.old.signals wires.new.signals code.now array index) }
     ensures wired { IfOk result (IsElementWord wires.old.signals wires.new.signals code.now array index) }
 {
-    let Some(own) = array_at(code.arrays.as_slice(), array) else {
+    let Some(own) = code.arrays.get(array).copied() else {
         return wires.constant_word(CType::INT, 0);
     };
     let address = address(wires, index, own.length)?;

@@ -1,6 +1,6 @@
 // The registers of a slot, and what they hold next if the state is left.
 
-ghost use Rattle.std.specs.Prelude.{◌≡◌, ◌<◌, slice_get, length, Some, OnOk};
+ghost use Rattle.std.specs.Prelude.{OnOk};
 ghost use Rattle.block_datapath.specs.Wired.{IsLinked};
 ghost use Rattle.block_datapath.specs.Chains.{SetsNext};
 
@@ -12,7 +12,7 @@ use sqlite_items::Items;
 use std::alloc::AllocError;
 
 /// A register and its width.
-#[derive(Clone, Copy, Debug, PartialEq, Eq)]
+#[derive(Clone, Copy)]
 pub struct Held {
     pub register: usize,
     pub width: u64,
@@ -60,32 +60,9 @@ pub fn set_next(
     ensures shows { OnOk result (SetsNext wires.old.signals wires.new.signals nexts.old nexts.new number condition source) }
     ensures wired { OnOk result (IsLinked wires.old.signals wires.new.signals number width condition source nexts.old nexts.new) }
 {
-    match place_at(nexts.as_slice(), number) {
-        Some(old) => set_present(wires, nexts, number, width, condition, source, old),
-        None => Ok(()),
-    }
-}
-
-fn place_at(places: &[usize], number: usize) -> Option<usize>
-    ensures { result ≡ slice_get places.now number }
-{
-    places.get(number).copied()
-}
-
-fn set_present(
-    wires: &mut Wires,
-    nexts: &mut Items<usize>,
-    number: usize,
-    width: u64,
-    condition: usize,
-    source: usize,
-    old: usize,
-) -> Result<(), AllocError>
-    requires present { slice_get nexts.old number ≡ Some old }
-    requires within { number < length nexts.old }
-    ensures shows { OnOk result (SetsNext wires.old.signals wires.new.signals nexts.old nexts.new number condition source) }
-    ensures wired { OnOk result (IsLinked wires.old.signals wires.new.signals number width condition source nexts.old nexts.new) }
-{
+    let Some(old) = nexts.get(number).copied() else {
+        return Ok(());
+    };
     let next = wires.choice(width, condition, source, old)?;
     nexts.set(number, next);
     Ok(())

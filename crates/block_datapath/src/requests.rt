@@ -1,6 +1,6 @@
 // What banks are asked, in wires that read registers alone.
 
-ghost use Rattle.std.specs.Prelude.{◌≡◌, ℕ, ◌+◌, ◌<◌, ◌≤◌, ◌^◌, length, replicate, IfOk, OnOk, IsTrue};
+ghost use Rattle.std.specs.Prelude.{◌≡◌, ◌<◌, ◌≤◌, ◌^◌, length, replicate, IfOk, OnOk};
 ghost use Rattle.operator_wires.specs.Built.{Base, IsEarlier, Adds};
 ghost use Rattle.thread_promise.specs.Globals.{IsSmallPower};
 ghost use Rattle.block_datapath.specs.Requests.{
@@ -82,7 +82,7 @@ pub fn zeros(wires: &mut Wires, widths: &[u64]) -> Result<Items<usize>, AllocErr
 
 /// An access of a global: the bit of the state that makes it, whether it writes, the address in the bank, and what is
 /// written.
-#[derive(Clone, Copy, Debug, PartialEq, Eq)]
+#[derive(Clone, Copy)]
 pub struct BankAccess {
     pub state: usize,
     pub writes: usize,
@@ -118,24 +118,9 @@ pub fn bank_bit(
     if bits == 0 {
         wires.constant(1, 1)
     } else {
-        last_bits_are(wires, index, bits, number)
+        let last = wires.resized(index, 64, bits, false)?;
+        wires.is_number(bits, last, number)
     }
-}
-
-fn last_bits_are(
-    wires: &mut Wires,
-    index: usize,
-    bits: u64,
-    number: u64,
-) -> Result<usize, AllocError>
-    requires low { 1 ≤ bits }
-    requires high { bits ≤ 3 }
-    ensures shows { IfOk result (TellsBank wires.old.signals wires.new.signals index bits number) }
-    ensures wired { IfOk result (λ place. (base : Base) → IsEarlier wires.old.signals base index 64 → number < 2 ^ bits
-        → Adds base wires.old.signals wires.new.signals 1 place) }
-{
-    let last = wires.resized(index, 64, bits, false)?;
-    wires.is_number(bits, last, number)
 }
 
 /// The other bits of an index of 64 bits: the address in its bank.
@@ -147,23 +132,14 @@ pub fn bank_address(wires: &mut Wires, index: usize, bits: u64) -> Result<usize,
     if bits == 0 {
         Ok(index)
     } else {
-        first_bits(wires, index, bits)
+        let select = Value::Select {
+            of: index,
+            high: 63,
+            low: bits,
+        };
+        let first = wires.wire(64 - bits, select)?;
+        wires.resized(first, 64 - bits, 64, false)
     }
-}
-
-fn first_bits(wires: &mut Wires, index: usize, bits: u64) -> Result<usize, AllocError>
-    requires low { 1 ≤ bits }
-    requires high { bits ≤ 3 }
-    ensures shows { IfOk result (AddressesBank wires.old.signals wires.new.signals index bits) }
-    ensures wired { IfOk result (λ place. (base : Base) → IsEarlier wires.old.signals base index 64 → Adds base wires.old.signals wires.new.signals 64 place) }
-{
-    let select = Value::Select {
-        of: index,
-        high: 63,
-        low: bits,
-    };
-    let first = wires.wire(64 - bits, select)?;
-    wires.resized(first, 64 - bits, 64, false)
 }
 
 /// Where the bit of the state and another one are set a bank is asked.
@@ -205,33 +181,10 @@ pub fn ask_bank(
     ensures shows { OnOk result (AsksBank wires.old.signals wires.new.signals chains.old chains.new spread index access) }
     ensures wired { OnOk result (AreAsksAdded wires.old.signals wires.new.signals spread width index access chains.old chains.new) }
 {
-    if has_room(spread) {
-        ask_banks(wires, chains, spread, width, index, access)
-    } else {
-        Ok(())
+    // The numbers of all banks have to be numbers of 64 bits.
+    if spread.count > u64::MAX - spread.first as u64 {
+        return Ok(());
     }
-}
-
-/// Whether the numbers of all banks of a global are numbers of 64 bits.
-fn has_room(spread: Spread) -> bool
-    ensures room { IsTrue result → spread.first + spread.count < 2 ^ 64 }
-    ensures whole { spread.first + spread.count < 2 ^ 64 → IsTrue result }
-{
-    spread.count <= u64::MAX - spread.first as u64
-}
-
-fn ask_banks(
-    wires: &mut Wires,
-    chains: &mut BankRequests,
-    spread: Spread,
-    width: u64,
-    index: usize,
-    access: BankAccess,
-) -> Result<(), AllocError>
-    requires room { spread.first + spread.count < 2 ^ 64 }
-    ensures shows { OnOk result (AsksBank wires.old.signals wires.new.signals chains.old chains.new spread index access) }
-    ensures wired { OnOk result (AreAsksAdded wires.old.signals wires.new.signals spread width index access chains.old chains.new) }
-{
     let bits = bank_bits(spread.count);
     for number in 0..spread.count {
         let chosen = bank_bit(wires, index, bits, number)?;

@@ -3,14 +3,14 @@
 ghost use Rattle.block_datapath.specs.Chains.{TellsStage, TellsState};
 ghost use Rattle.std.specs.Prelude.{IfOk};
 ghost use Rattle.operator_wires.specs.Added.{NumberAdds};
-ghost use Rattle.block_datapath.specs.Wired.{IsStateBit, IsBitOfState};
+ghost use Rattle.block_datapath.specs.Wired.{IsStateBit};
 
 use crate::registers::Registers;
 use operator_wires::wires::Wires;
 use std::alloc::AllocError;
 
 /// A state of a stage: the stage's wire `at`, the state's number, and the number of states of the stage.
-#[derive(Clone, Copy, Debug, PartialEq, Eq)]
+#[derive(Clone, Copy)]
 pub struct Moment {
     pub at: usize,
     pub state: u64,
@@ -38,17 +38,10 @@ pub fn in_state(
     if moment.states <= 1 {
         Ok(moment.at)
     } else if moment.state < moment.states {
-        state_bit(wires, registers, moment)
+        let held = registers.state;
+        let state = wires.is_number(held.width, held.register, moment.state)?;
+        wires.both(moment.at, state)
     } else {
         wires.constant(1, 0)
     }
-}
-
-fn state_bit(wires: &mut Wires, registers: &Registers, moment: Moment) -> Result<usize, AllocError>
-    ensures shows { IfOk result (TellsState wires.old.signals wires.new.signals registers.now moment) }
-    ensures wired { IfOk result (IsBitOfState wires.old.signals wires.new.signals registers.now moment) }
-{
-    let held = registers.state;
-    let state = wires.is_number(held.width, held.register, moment.state)?;
-    wires.both(moment.at, state)
 }

@@ -14,12 +14,9 @@ pub fn further_states(operation: &Operation) -> u64
     ensures most { result ≤ 7 }
 {
     match operation {
-        Operation::Unary { .. } => 0,
         Operation::Binary { operator, .. } => further_states_of_operator(*operator),
         Operation::ReadGlobal { .. } => 1,
-        Operation::WriteGlobal { .. } => 0,
-        Operation::ReadArray { .. } => 0,
-        Operation::WriteArray { .. } => 0,
+        _ => 0,
     }
 }
 

@@ -1,6 +1,6 @@
 // The functional units that operations share.
 
-ghost use Rattle.std.specs.Prelude.{◌≡◌, false, slice_get};
+ghost use Rattle.std.specs.Prelude.{◌≡◌, false};
 ghost use Rattle.block_datapath.specs.Units.{same_operator, same_type, unit_type, is_for, unit_place, is_constant, has_constant, shared_place};
 
 use crate::registers::UnitResults;
@@ -71,7 +71,7 @@ fn unit_place(
 {
     for results in units {
         if serves(results, operator, ty) {
-            return place_of(results.places.as_slice(), number);
+            return results.places.get(number).copied();
         }
     }
     None
@@ -98,10 +98,4 @@ fn is_same(left: BinaryOperator, right: BinaryOperator) -> bool
         (BinaryOperator::Remainder, BinaryOperator::Remainder) => true,
         _ => false,
     }
-}
-
-fn place_of(places: &[usize], number: usize) -> Option<usize>
-    ensures { result ≡ slice_get places.now number }
-{
-    places.get(number).copied()
 }

@@ -2,7 +2,7 @@ use Rattle.std.proofs.Common.{refl, sym, subst}
 use Rattle.std.proofs.lemmas.Result.{on_ok_weaker}
 use Rattle.block_ir.specs.declared.block.Operation.{Operation}
 use Rattle.block_datapath.specs.Accesses.{AsksOperation}
-use Rattle.block_datapath.proofs.Accessing.{silent_asked, silent_linked}
+use Rattle.block_datapath.proofs.Accessing.{others_asked, silent_linked}
 use Rattle.block_datapath.proofs.accesses.ask_operation.Goals as goal
 
 pub returns-in-ReadGlobal-clause-shows : goal.returns-in-ReadGlobal-clause-shows
@@ -24,46 +24,13 @@ returns-in-WriteGlobal-clause-shows c =
     (sym c.in-WriteGlobal.is) (t c.in-WriteGlobal.length))
     c.ask_write.ensures.shows
 
-pub returns-in-Unary-clause-shows : goal.returns-in-Unary-clause-shows
-returns-in-Unary-clause-shows c =
-    silent_asked c.args.registers.now c.args.code.now.variables c.args.values.now c.args.chains.now c.args.chains.now c.args.moment c.args.globals.now c.args.spreads.now
+pub returns-in_default-clause-shows : goal.returns-in_default-clause-shows
+returns-in_default-clause-shows c =
+    others_asked c.args.registers.now c.args.code.now.variables c.args.values.now c.args.chains.now c.args.chains.now c.args.moment c.args.globals.now c.args.spreads.now
     c.args.wires.now.signals
-    c.args.operation.now _ c.in-Unary.is (λ variables given j. refl) refl
+    c.args.operation.now refl c.in_default.not-ReadGlobal c.in_default.not-WriteGlobal
 
-pub returns-in-Unary-clause-wired : goal.returns-in-Unary-clause-wired
-returns-in-Unary-clause-wired c =
-    silent_linked c.args.registers.now c.args.code.now.variables c.args.values.now c.args.chains.now c.args.chains.now c.args.moment c.args.globals.now c.args.spreads.now
-    c.args.wires.now.signals refl
-
-pub returns-in-Binary-clause-shows : goal.returns-in-Binary-clause-shows
-returns-in-Binary-clause-shows c =
-    silent_asked c.args.registers.now c.args.code.now.variables c.args.values.now c.args.chains.now c.args.chains.now c.args.moment c.args.globals.now c.args.spreads.now
-    c.args.wires.now.signals
-    c.args.operation.now _ c.in-Binary.is (λ variables given j. refl) refl
-
-pub returns-in-Binary-clause-wired : goal.returns-in-Binary-clause-wired
-returns-in-Binary-clause-wired c =
-    silent_linked c.args.registers.now c.args.code.now.variables c.args.values.now c.args.chains.now c.args.chains.now c.args.moment c.args.globals.now c.args.spreads.now
-    c.args.wires.now.signals refl
-
-pub returns-in-ReadArray-clause-shows : goal.returns-in-ReadArray-clause-shows
-returns-in-ReadArray-clause-shows c =
-    silent_asked c.args.registers.now c.args.code.now.variables c.args.values.now c.args.chains.now c.args.chains.now c.args.moment c.args.globals.now c.args.spreads.now
-    c.args.wires.now.signals
-    c.args.operation.now _ c.in-ReadArray.is (λ variables given j. refl) refl
-
-pub returns-in-ReadArray-clause-wired : goal.returns-in-ReadArray-clause-wired
-returns-in-ReadArray-clause-wired c =
-    silent_linked c.args.registers.now c.args.code.now.variables c.args.values.now c.args.chains.now c.args.chains.now c.args.moment c.args.globals.now c.args.spreads.now
-    c.args.wires.now.signals refl
-
-pub returns-in-WriteArray-clause-shows : goal.returns-in-WriteArray-clause-shows
-returns-in-WriteArray-clause-shows c =
-    silent_asked c.args.registers.now c.args.code.now.variables c.args.values.now c.args.chains.now c.args.chains.now c.args.moment c.args.globals.now c.args.spreads.now
-    c.args.wires.now.signals
-    c.args.operation.now _ c.in-WriteArray.is (λ variables given j. refl) refl
-
-pub returns-in-WriteArray-clause-wired : goal.returns-in-WriteArray-clause-wired
-returns-in-WriteArray-clause-wired c =
+pub returns-in_default-clause-wired : goal.returns-in_default-clause-wired
+returns-in_default-clause-wired c =
     silent_linked c.args.registers.now c.args.code.now.variables c.args.values.now c.args.chains.now c.args.chains.now c.args.moment c.args.globals.now c.args.spreads.now
     c.args.wires.now.signals refl

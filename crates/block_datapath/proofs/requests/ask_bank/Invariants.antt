@@ -1,5 +1,5 @@
 use Rattle.block_datapath.specs.Requests.{AsksSome, AreAsksAdded}
-use Rattle.block_datapath.proofs.requests.ask_banks.Given as goal
+use Rattle.block_datapath.proofs.requests.ask_bank.Given as goal
 
 abbrev pub invariant-loop-number : goal.invariant-loop-number
 invariant-loop-number l =
