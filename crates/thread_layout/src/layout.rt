@@ -20,7 +20,7 @@ use block_ir::plan::Planned;
 use hls_ints::CType;
 use netlist::netlist::{Action, Memory, Module};
 use operator_wires::wires::{Role, Wires};
-use sqlite_items::Items;
+use sqlite_items::{Boxed, Items};
 use std::alloc::{AllocError, Global};
 use thread_asks::asking::Caller;
 use thread_requests::early::{Early, lay_early, word_widths};
@@ -50,7 +50,7 @@ pub fn assembled(
 {
     let mut wires = Wires::new(alloc);
     let inside = lay_inside(&mut wires, shape, code, planned)?;
-    closed(alloc, wires, shape, code, &inside)
+    closed(alloc, wires, shape, code, inside.get())
 }
 
 /// The module whose inside is laid: with outputs, and what an edge does.
@@ -64,8 +64,10 @@ fn closed(
     ensures { IfOk result (λ m. (planned : PlannedCode) → LaysInside shape.now code.now planned [] wires.signals inside.now → IsModule shape.now code.now planned m) }
 {
     let mut wires = wires;
-    let edge = close(&mut wires, shape, inside)?;
-    let actions = edge_actions(alloc, inside, &edge)?;
+    let actions = {
+        let edge = close(&mut wires, shape, inside)?;
+        edge_actions(alloc, inside, &edge)?
+    };
     let memories = memories(alloc, code.arrays.as_slice())?;
     let name = shape.name.clone()?;
     Ok(Module {
@@ -134,21 +136,22 @@ fn lay_inside(
     shape: &Shape,
     code: &ThreadCode,
     planned: &Planned,
-) -> Result<Inside, AllocError>
+) -> Result<Boxed<Inside>, AllocError>
     ensures { IfOk result (LaysInside shape.now code.now planned.now wires.old.signals wires.new.signals) }
 {
     let mut ground = lay_ground(wires, shape, code, planned)?;
     let early = lay_asked(wires, shape, code, planned, &ground)?;
+    let asks = early.get();
     let told = ground.news.as_slice();
-    let news = lay_heard(wires, &mut ground.slot, told, code, planned, early.need)?;
-    let named = early.barriers.as_slice();
+    let news = lay_heard(wires, &mut ground.slot, told, code, planned, asks.need)?;
+    let named = asks.barriers.as_slice();
     let own = news.as_slice();
     let acts = lay_told(wires, shape.served, named, own)?;
-    let walked = walk(wires, shape, &ground.slot, code, planned, acts, early.lost)?;
-    Ok(put_together(ground, early, news, walked))
+    let walked = walk(wires, shape, &ground.slot, code, planned, acts, asks.lost)?;
+    Boxed::new(wires.alloc, put_together(ground, early, news, walked))
 }
 
-fn put_together(ground: Ground, early: Early, news: Items<Held>, walked: Walked) -> Inside
+fn put_together(ground: Ground, early: Boxed<Early>, news: Items<Held>, walked: Walked) -> Inside
     ensures { result ≡ inside_of ground early news walked }
 {
     Inside {
@@ -156,7 +159,7 @@ fn put_together(ground: Ground, early: Early, news: Items<Held>, walked: Walked)
         news,
         slot: ground.slot,
         granted: ground.granted,
-        early,
+        early: early.into_inner(),
         chains: walked.chains,
         stores: walked.stores,
     }
@@ -191,8 +194,8 @@ fn lay_ports(wires: &mut Wires, shape: &Shape) -> Result<Ports, AllocError>
     ensures { IfOk result (LaysPorts shape.now wires.old.signals wires.new.signals) }
 {
     let globals = shape.globals.as_slice();
-    let widths = word_widths(wires.alloc, shape.spreads.as_slice(), globals)?;
     let others = act_count(wires.alloc, shape.served)?;
+    let widths = word_widths(wires.alloc, shape.spreads.as_slice(), globals)?;
     let inputs = lay_inputs(wires, widths.len(), others)?;
     let words = lay_words(wires, widths.as_slice())?;
     let news = lay_news(wires, shape.served)?;
@@ -277,24 +280,26 @@ fn lay_asked(
     code: &ThreadCode,
     planned: &Planned,
     ground: &Ground,
-) -> Result<Early, AllocError>
+) -> Result<Boxed<Early>, AllocError>
     ensures { IfOk result (LaysEarlyWired shape.now.globals code.now ground.now.slot (map (λ (h : HeldOf). h.register) ground.now.granted)
         (caller_of shape.now) planned.now wires.old.signals wires.new.signals) }
 {
     let marks = places(wires.alloc, ground.granted.as_slice())?;
     let globals = shape.globals.as_slice();
-    lay_early(
+    let caller = Caller {
+        is_main: shape.is_main,
+        served: shape.served,
+    };
+    let early = lay_early(
         wires,
         &ground.slot,
         marks.as_slice(),
         code,
         globals,
-        Caller {
-            is_main: shape.is_main,
-            served: shape.served,
-        },
+        caller,
         planned,
-    )
+    )?;
+    Boxed::new(wires.alloc, early)
 }
 
 /// The wires of all stages and of the rest, where nothing is stored before. Where a core is asked that is not there the thread

@@ -23,6 +23,7 @@ pub fn lay_told(
 ) -> Result<Told, AllocError>
     ensures { IfOk result (LaysTold served named.now news.now wires.old.signals wires.new.signals) }
 {
+    let last = one_more(served.barriers)?;
     let never = wires.constant(1, 0)?;
     let nothing = wires.constant(64, 0)?;
     let heard = places(wires.alloc, news)?;
@@ -32,7 +33,6 @@ pub fn lay_told(
     let both = both_each(wires, named, holds)?;
     let both = both.as_slice();
     let barred = any_of(wires, never, both)?;
-    let last = one_more(served.barriers)?;
     Ok(Told {
         barred,
         runs: pick(served.ids, heard_at(heard, served.barriers), never),
