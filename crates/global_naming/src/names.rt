@@ -1,9 +1,9 @@
 // The globals that the parts of a function name.
 ghost use Rattle.std.specs.Prelude.{◌≡◌, ◌++◌, IfOk};
 ghost use Rattle.c_program.specs.Plain.{expression_of, expressions_of, place_of, condition_of, right_side_of, object_place_of};
-ghost use Rattle.c_program.specs.Plain.{thread_call_of, statement_of, returned_of};
+ghost use Rattle.c_program.specs.Plain.{thread_call_of, statement_of};
 ghost use Rattle.global_naming.specs.Naming.{variable_globals, expression_globals, expressions_globals, condition_globals, place_globals};
-ghost use Rattle.global_naming.specs.Naming.{object_globals, right_side_globals, returned_globals, thread_call_globals, statement_globals};
+ghost use Rattle.global_naming.specs.Naming.{object_globals, right_side_globals, thread_call_globals, statement_globals};
 
 use c_program::tree::{
     Condition, Expression, ObjectPlace, Place, RightSide, Statement, Storage, ThreadCall,
@@ -91,15 +91,6 @@ fn push_right_side(right: &RightSide, names: &mut Vec<u32>) -> Result<(), AllocE
     }
 }
 
-fn push_returned(right: &Option<RightSide>, names: &mut Vec<u32>) -> Result<(), AllocError>
-    ensures { IfOk result (λ _. names.new.items ≡ names.old.items ++ returned_globals (returned_of right.now)) }
-{
-    match right {
-        None => Ok(()),
-        Some(right) => push_right_side(right, names),
-    }
-}
-
 fn push_thread_call(call: &ThreadCall, names: &mut Vec<u32>) -> Result<(), AllocError>
     ensures { IfOk result (λ _. names.new.items ≡ names.old.items ++ thread_call_globals (thread_call_of call.now)) }
 {
@@ -155,7 +146,7 @@ pub fn push_globals(statement: &Statement, names: &mut Vec<u32>) -> Result<(), A
             push_globals(last, names)?;
             push_globals(body, names)
         }
-        Statement::Return(_, right) => push_returned(right, names),
+        Statement::Return(_, Some(right)) => push_right_side(right, names),
         Statement::Call(_, _, arguments) | Statement::Print(_, _, arguments) => {
             push_expressions(arguments, names)
         }
@@ -163,6 +154,7 @@ pub fn push_globals(statement: &Statement, names: &mut Vec<u32>) -> Result<(), A
         Statement::Done
         | Statement::Empty
         | Statement::Declare(_, _, _)
+        | Statement::Return(_, None)
         | Statement::Break
         | Statement::Continue => Ok(()),
     }

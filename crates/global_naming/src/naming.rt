@@ -4,7 +4,6 @@ ghost use Rattle.c_program.specs.Plain.{function_of, program_of};
 ghost use Rattle.c_program.specs.Calls.{calls_of, IsAcyclic};
 ghost use Rattle.c_program.specs.Counting.{capped};
 ghost use Rattle.c_program.specs.Weight.{thread_count};
-ghost use Rattle.call_graph.specs.Graphs.{has};
 ghost use Rattle.call_graph.specs.Reaching.{IsReach};
 ghost use Rattle.global_naming.specs.declared.naming.Runner.{Runner};
 ghost use Rattle.global_naming.specs.Naming.{statement_globals, AreCounts};
@@ -117,26 +116,15 @@ fn runners(alloc: Global, program: &Program, reach: &Reach) -> Result<Vec<Runner
     Ok(runners)
 }
 
-/// The sum, which stops at 1,000,000.
-fn plus(a: u64, b: u64) -> u64
-    ensures { result ≡ capped (a + b) }
-{
-    a.saturating_add(b).min(u64::from(MOST))
-}
-
 impl Runner {
-    /// Whether it names the global.
-    fn names(&self, global: usize) -> bool
-        ensures { result ≡ has (runner_of self.now).named global }
-    {
-        self.named.get(global).copied().unwrap_or(false)
-    }
-
     /// How many of its threads name the global.
     fn share(&self, global: usize) -> u64
         ensures { result ≡ share global (runner_of self.now) }
     {
-        if self.names(global) { self.threads } else { 0 }
+        match self.named.get(global) {
+            Some(true) => self.threads,
+            _ => 0,
+        }
     }
 }
 
@@ -144,9 +132,11 @@ impl Runner {
 fn count(runners: &[Runner], global: usize) -> u64
     ensures { result ≡ capped (sum_by (share global) (map runner_of runners.now)) }
 {
-    let mut total = 0;
+    let mut total: u64 = 0;
     for runner in runners {
-        total = plus(total, runner.share(global));
+        total = total
+            .saturating_add(runner.share(global))
+            .min(u64::from(MOST));
     }
     total
 }
