@@ -112,15 +112,6 @@ fn signed_division(
 }
 
 /// The bound is the number of words, as a constant of the address's width.
-fn bound(parent: &Module, memory: usize, address: usize) -> Constant
-    ensures { result ≡ laid.sized (laid.signal_width parent.now address) (laid.words parent.now memory) }
-{
-    Constant {
-        width: signal_width(parent, address),
-        value: word_count(parent, memory),
-    }
-}
-
 fn memory_read(
     parent: &Module,
     width: u64,
@@ -130,7 +121,10 @@ fn memory_read(
     ensures { IfOk result (λ e. e ≡ laid.expression parent.now width (v.MemoryRead memory address)) }
 {
     let tested = signal_name(parent, address)?;
-    let bound = bound(parent, memory, address);
+    let bound = Constant {
+        width: signal_width(parent, address),
+        value: word_count(parent, memory),
+    };
     let memory = memory_name(parent, memory)?;
     let address = signal_name(parent, address)?;
     Ok(Expression::MemoryRead {

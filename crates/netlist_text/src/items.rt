@@ -4,28 +4,17 @@ ghost use Rattle.std.specs.Prelude.{◌≡◌, [], ◌∷◌, ◌++◌, if◌the
 ghost use Rattle.std.specs.List.{flat_map};
 ghost use Rattle.netlist_text.specs.LaidOut as laid;
 ghost use Rattle.netlist.specs.NetlistOf.{OutputPort, PlainWire, Reg};
-ghost use Rattle.netlist.specs.declared.netlist.Source.TheVariants as source;
 
 use crate::expressions::expression;
 use crate::names::high_of;
 use crate::statements::statements;
-use netlist::netlist::{Memory, Module, Signal, Source, Value};
+use netlist::netlist::{Memory, Module, Signal, Source};
 use sqlite_items::Items;
 use std::alloc::{AllocError, Global};
 use verilog_tree::tree;
 use verilog_tree::tree::{
     Always, Assign, Constant, Direction, Initial, InitialConstant, Item, Port, Register, Wire,
 };
-
-fn port(direction: Direction, signal: &Signal) -> Result<Port, AllocError>
-    ensures { IfOk result (λ p. p ≡ laid.port direction signal.now) }
-{
-    Ok(Port {
-        direction,
-        high: high_of(signal.width),
-        name: signal.name.clone()?,
-    })
-}
 
 fn put_port(
     ports: &mut Items<Port>,
@@ -34,7 +23,11 @@ fn put_port(
 ) -> Result<(), AllocError>
     ensures { OnOk result (ports.new ≡ ports.old ++ laid.port direction signal.now ∷ []) }
 {
-    ports.push(port(direction, signal)?)
+    ports.push(Port {
+        direction,
+        high: high_of(signal.width),
+        name: signal.name.clone()?,
+    })
 }
 
 /// The port of an output, where it is one.
@@ -113,21 +106,15 @@ pub fn declarations(out: &mut Items<Item>, signals: &[Signal]) -> Result<(), All
     Ok(())
 }
 
-fn memory(out: &mut Items<Item>, memory: &Memory) -> Result<(), AllocError>
-    ensures { OnOk result (out.new ≡ out.old ++ laid.memory_item memory.now ∷ []) }
-{
-    out.push(Item::Memory(tree::Memory {
-        high: memory.width.saturating_sub(1),
-        name: memory.name.clone()?,
-        last: (memory.initial.len() as u64).saturating_sub(1),
-    }))
-}
-
 pub fn memories(out: &mut Items<Item>, memories: &[Memory]) -> Result<(), AllocError>
     ensures { OnOk result (out.new ≡ out.old ++ map laid.memory_item memories.now) }
 {
     for one in memories {
-        memory(out, one)?;
+        out.push(Item::Memory(tree::Memory {
+            high: one.width.saturating_sub(1),
+            name: one.name.clone()?,
+            last: (one.initial.len() as u64).saturating_sub(1),
+        }))?;
     }
     Ok(())
 }
@@ -143,23 +130,13 @@ fn assign(
     match &signal.source {
         Source::Input => Ok(()),
         Source::Register(_) => Ok(()),
-        Source::Assigned(value) => put_assign(alloc, out, parent, signal, value),
+        Source::Assigned(value) => {
+            let target = signal.name.clone()?;
+            let value = expression(alloc, parent, signal.width, value)?;
+            out.push(Item::Assign(Assign { target, value }))
+        }
         Source::Port { .. } => Ok(()),
     }
-}
-
-fn put_assign(
-    alloc: Global,
-    out: &mut Items<Item>,
-    parent: &Module,
-    signal: &Signal,
-    value: &Value,
-) -> Result<(), AllocError>
-    ensures { OnOk result (out.new ≡ out.old ++ laid.assign_by parent.now signal.now (source.Assigned value.now)) }
-{
-    let target = signal.name.clone()?;
-    let value = expression(alloc, parent, signal.width, value)?;
-    out.push(Item::Assign(Assign { target, value }))
 }
 
 /// The assigns, in order of their targets.
@@ -172,29 +149,19 @@ pub fn assigns(alloc: Global, out: &mut Items<Item>, parent: &Module) -> Result<
     Ok(())
 }
 
-fn put_register_constant(
-    out: &mut Items<InitialConstant>,
-    signal: &Signal,
-    value: u64,
-) -> Result<(), AllocError>
-    ensures { OnOk result (out.new ≡ out.old ++ laid.register_by signal.now (source.Register value)) }
-{
-    out.push(InitialConstant {
-        name: signal.name.clone()?,
-        word: None,
-        value: Constant {
-            width: signal.width,
-            value,
-        },
-    })
-}
-
 fn register_constant(out: &mut Items<InitialConstant>, signal: &Signal) -> Result<(), AllocError>
     ensures { OnOk result (out.new ≡ out.old ++ laid.register_constant signal.now) }
 {
     match &signal.source {
         Source::Input => Ok(()),
-        Source::Register(value) => put_register_constant(out, signal, *value),
+        Source::Register(value) => out.push(InitialConstant {
+            name: signal.name.clone()?,
+            word: None,
+            value: Constant {
+                width: signal.width,
+                value: *value,
+            },
+        }),
         Source::Assigned(_) => Ok(()),
         Source::Port { .. } => Ok(()),
     }

@@ -67,24 +67,6 @@ fn connections(
     Ok(all)
 }
 
-fn instance_by(
-    alloc: Global,
-    parent: &Module,
-    instance: &Instance,
-    of: &Module,
-) -> Result<tree::Instance, AllocError>
-    ensures { IfOk result (λ x. x ≡ laid.instance_by parent.now instance.now of.now) }
-{
-    let module_name = of.name.clone()?;
-    let name = instance.name.clone()?;
-    let connections = connections(alloc, parent, of, instance)?;
-    Ok(tree::Instance {
-        module_name,
-        name,
-        connections,
-    })
-}
-
 fn instance(
     alloc: Global,
     modules: &[Module],
@@ -94,7 +76,14 @@ fn instance(
     ensures { IfOk result (λ x. x ≡ laid.instance_item modules.now parent.now instance.now) }
 {
     let of = module_at(modules, parent, instance.of);
-    Ok(Item::Instance(instance_by(alloc, parent, instance, of)?))
+    let module_name = of.name.clone()?;
+    let name = instance.name.clone()?;
+    let connections = connections(alloc, parent, of, instance)?;
+    Ok(Item::Instance(tree::Instance {
+        module_name,
+        name,
+        connections,
+    }))
 }
 
 fn instances(

@@ -8,36 +8,24 @@ use sqlite_items::Items;
 use std::alloc::{AllocError, Global};
 use verilog_tree::name::Identifier;
 
-fn signal_text(parent: &Module, place: usize) -> &Identifier
-    ensures { result.now ≡ laid.signal_name parent.now place }
-{
-    match parent.signals.get(place) {
-        Some(signal) => &signal.name,
-        None => &parent.name,
-    }
-}
-
-fn memory_text(parent: &Module, place: usize) -> &Identifier
-    ensures { result.now ≡ laid.memory_name parent.now place }
-{
-    match parent.memories.get(place) {
-        Some(memory) => &memory.name,
-        None => &parent.name,
-    }
-}
-
 /// The name of a signal, or the module's where none has that place.
 pub fn signal_name(parent: &Module, place: usize) -> Result<Identifier, AllocError>
     ensures { IfOk result (λ name. name ≡ laid.signal_name parent.now place) }
 {
-    signal_text(parent, place).clone()
+    match parent.signals.get(place) {
+        Some(signal) => signal.name.clone(),
+        None => parent.name.clone(),
+    }
 }
 
 /// The name of a memory, or the module's where none has that place.
 pub fn memory_name(parent: &Module, place: usize) -> Result<Identifier, AllocError>
     ensures { IfOk result (λ name. name ≡ laid.memory_name parent.now place) }
 {
-    memory_text(parent, place).clone()
+    match parent.memories.get(place) {
+        Some(memory) => memory.name.clone(),
+        None => parent.name.clone(),
+    }
 }
 
 /// The names of signals, in order.

@@ -6,7 +6,7 @@ ghost use Rattle.netlist.specs.declared.netlist.Effect.TheVariants as effect;
 ghost use Rattle.verilog_tree.specs.declared.tree.Statement.TheVariants as s;
 
 use crate::names::{memory_name, signal_name};
-use netlist::netlist::{Action, Argument, Effect, Module};
+use netlist::netlist::{Argument, Effect, Module};
 use sqlite_items::Items;
 use std::alloc::{AllocError, Global};
 use verilog_tree::name::Quoted;
@@ -124,19 +124,14 @@ fn guarded(
     }
 }
 
-fn statement(alloc: Global, parent: &Module, action: &Action) -> Result<Statement, AllocError>
-    ensures { IfOk result (λ x. x ≡ laid.statement parent.now action.now) }
-{
-    guarded(alloc, parent, action.conditions.as_slice(), &action.effect)
-}
-
 /// A statement for each action, in order.
 pub fn statements(alloc: Global, parent: &Module) -> Result<Items<Statement>, AllocError>
     ensures { IfOk result (λ body. body ≡ map (laid.statement parent.now) parent.now.actions) }
 {
     let mut body = Items::new(alloc);
     for action in parent.actions.as_slice() {
-        body.push(statement(alloc, parent, action)?)?;
+        let conditions = action.conditions.as_slice();
+        body.push(guarded(alloc, parent, conditions, &action.effect)?)?;
     }
     Ok(body)
 }
