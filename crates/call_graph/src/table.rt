@@ -7,7 +7,7 @@ use sqlite_items::Items;
 use std::alloc::{AllocError, Global};
 
 /// That one function calls another, by their numbers.
-#[derive(Clone, Copy, PartialEq, Eq, Debug)]
+#[derive(Clone, Copy)]
 pub struct Call {
     pub caller: u32,
     pub callee: u32,
