@@ -26,7 +26,7 @@ use std::collections::VecDeque;
 use thread_semantics::{BlockedCause, MutexState, UndefinedCause};
 
 /// What a step comes to: it is taken, it is blocked, or it is undefined.
-#[derive(Clone, Copy, PartialEq, Eq, Debug)]
+#[derive(Clone, Copy)]
 pub enum Stepped {
     Stepped,
     Blocked(BlockedCause),
@@ -81,17 +81,6 @@ fn slot_goes_on<'p>(
     if let Slot::Running(frames) = slot {
         if let Some(frame) = frames.front_mut() {
             frame_goes_on(frame, globals, work, kept, change);
-        }
-    }
-}
-
-/// The innermost call of a running thread waits with this work.
-fn slot_waits<'p>(slot: &mut Slot<'p>, work: VecDeque<Item<'p>>)
-    ensures { (f : Frames) (fs : Callers) → slot_of slot.old ≡ Running (f ∷ fs) → slot_of slot.new ≡ Running (waiting (work_of work.entry.items) f ∷ fs) }
-{
-    if let Slot::Running(frames) = slot {
-        if let Some(frame) = frames.front_mut() {
-            frame_waits(frame, work);
         }
     }
 }
@@ -165,14 +154,11 @@ fn goes_on<'p>(s: &mut State<'p>, i: u32, work: VecDeque<Item<'p>>, kept: Vec<i1
 }
 
 /// The innermost call of thread i waits with this work.
-fn waits_with<'p>(s: &mut State<'p>, i: u32, work: VecDeque<Item<'p>>)
+fn waits_with<'p>(alloc: Global, s: &mut State<'p>, i: u32, work: VecDeque<Item<'p>>)
     ensures { (f : Frames) (fs : Callers) → slice_get (state_of s.old).slots i ≡ Some (Running (f ∷ fs)) → state_of s.new
         ≡ with_slot (state_of s.old) i (Running (waiting (work_of work.entry.items) f ∷ fs)) }
 {
-    let k = i as usize;
-    if k < s.slots.len() {
-        slot_waits(&mut s.slots[k], work);
-    }
+    goes_on(s, i, work, Vec::new(alloc), Change::Nothing);
 }
 
 /// A call begins in thread i.
@@ -377,6 +363,7 @@ fn kept_by<'a>(slots: &'a [Slot], i: u32) -> &'a [i128]
 
 /// An effect, after which thread i goes on with this work.
 fn take_effect<'p>(
+    alloc: Global,
     s: &mut State<'p>,
     i: u32,
     offset: u32,
@@ -392,18 +379,18 @@ fn take_effect<'p>(
         Effect::Undefines(cause) => return Ok(Stepped::Undefined { offset, cause }),
         Effect::Prints(text) => {
             s.output.put(text.as_slice())?;
-            waits_with(s, i, work);
+            waits_with(alloc, s, i, work);
         }
         Effect::PutSlot(n, slot) => {
-            waits_with(s, i, work);
+            waits_with(alloc, s, i, work);
             put_slot(&mut s.slots, n, slot);
         }
         Effect::PutMutex(n, mutex) => {
-            waits_with(s, i, work);
+            waits_with(alloc, s, i, work);
             put_mutex(&mut s.mutexes, n, mutex);
         }
         Effect::PutBarrier(n, barrier) => {
-            waits_with(s, i, work);
+            waits_with(alloc, s, i, work);
             put_barrier(&mut s.barriers, n, barrier);
         }
     }
@@ -426,7 +413,7 @@ fn acts<'p>(
     ensures unchanged { IsKept result (state_of s.old) (state_of s.new) }
 {
     let effect = effect_of_act(alloc, program, s, i, act, kept_by(&s.slots, i))?;
-    take_effect(s, i, offset, effect, work)
+    take_effect(alloc, s, i, offset, effect, work)
 }
 
 /// Carries out a plan for thread i.

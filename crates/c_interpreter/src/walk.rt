@@ -15,7 +15,7 @@ use thread_semantics::{BlockedCause, UndefinedCause};
 use turns::Turn;
 
 /// How a walk ends. Steps are counted from 0.
-#[derive(Clone, Copy, PartialEq, Eq, Debug)]
+#[derive(Clone, Copy)]
 pub enum WalkEnd {
     /// Main has returned after so many steps.
     Ended {
