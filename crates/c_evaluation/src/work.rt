@@ -1,6 +1,6 @@
 // What a call has still to do, and the order in which it is done (C99 6.8).
 ghost use Rattle.std.specs.Prelude.{◌≡◌, ◌+◌, ◌≤◌, ◌<◌, [], ◌∷◌, true, false, MatchOption, IfOk};
-ghost use Rattle.c_program.specs.Plain.{expression_of, condition_of, statement_of, boxed_statement_of};
+ghost use Rattle.c_program.specs.Plain.{expression_of, condition_of, statement_of};
 ghost use Rattle.thread_semantics.specs.Work.{Do, Onward, Leaving, Turning, settled, next_turn, asked, decided, first_offset, first_operand, waiting_parts};
 ghost use Rattle.c_evaluation.specs.View.{item_of, loop_of, work_of};
 ghost use Rattle.c_evaluation.specs.Size.{work_size, turn_size, statement_size, takes_step};
