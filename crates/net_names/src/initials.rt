@@ -1,66 +1,20 @@
 // The initial constants of a module, found by register or by word of a memory.
 
-ghost use Rattle.std.specs.Prelude.{◌≡◌, ◌++◌, [], IfOk, OnOk};
+ghost use Rattle.std.specs.Prelude.{◌≡◌, ◌++◌, IfOk, OnOk};
 ghost use Rattle.std.specs.List.{flat_map};
 ghost use Rattle.netlist.specs.NetlistOf as spec;
 ghost use Rattle.net_names.specs.Found.{behind};
-ghost use Rattle.net_names.specs.Tables.{AreConstants, inserted, named, noted, same_place, place_of};
+ghost use Rattle.net_names.specs.Tables.{AreConstants};
 
-use indexmap::IndexMap;
 use sqlite_items::Items;
 use std::alloc::{AllocError, Global};
+use std::collections::HashMap;
 use std::marker::Model;
 use verilog_tree::name::Identifier;
 use verilog_tree::tree::{InitialConstant, Item};
 
 /// Registers and words of memories, each with its number.
-#[derive(Drop)]
-struct Words<'n> {
-    numbers: IndexMap<(&'n [u8], Option<u64>), u64>,
-}
-
-impl<'n> Model for Words<'n> {
-    ghost use Rattle.std.specs.Prelude.{ℕ, List, map};
-    ghost use Rattle.net_names.specs.Tables.{Place, plain_place};
-
-    ghost Value = { List (Place × ℕ) };
-
-    ghost view = { λ w. map plain_place w.numbers.entries };
-}
-
-impl<'n> Words<'n> {
-    fn new(alloc: Global) -> Words<'n>
-        ensures { result ≡ [] }
-    {
-        Words {
-            numbers: IndexMap::new(alloc),
-        }
-    }
-
-    fn get(&self, name: &[u8], word: Option<u64>) -> Option<u64>
-        ensures { result ≡ named same_place self.now (name.now, word) }
-    {
-        self.numbers.get(&(name, word)).copied()
-    }
-
-    fn insert(&mut self, name: &'n [u8], word: Option<u64>, number: u64) -> Result<(), AllocError>
-        ensures { OnOk result (self.new ≡ inserted same_place self.old (name.now, word) number) }
-    {
-        self.numbers.insert((name, word), number)?;
-        Ok(())
-    }
-
-    /// Notes a constant, unless its place has one.
-    fn note(&mut self, constant: &'n InitialConstant) -> Result<(), AllocError>
-        ensures { OnOk result (self.new ≡ noted same_place self.old (place_of constant.now) constant.now.value.value) }
-    {
-        let name = constant.name.as_str().as_bytes();
-        if self.get(name, constant.word).is_some() {
-            return Ok(());
-        }
-        self.insert(name, constant.word, constant.value.value)
-    }
-}
+type Words<'n> = HashMap<(&'n [u8], Option<u64>), u64>;
 
 /// The initial constants of a module. Contracts see them in the text's order.
 #[derive(Drop)]
@@ -79,7 +33,7 @@ impl<'n> Model for Initials<'n> {
 
     ghost view = { λ c. behind c.list };
 
-    ghost invariant = { λ c. AreConstants c.words (behind c.list) };
+    ghost invariant = { λ c. AreConstants c.words.entries (behind c.list) };
 }
 
 fn constants_of(item: &Item) -> &[InitialConstant]
@@ -116,12 +70,15 @@ fn all_constants<'n>(
     Ok(list)
 }
 
+/// The number of each place, put in from the last constant to the first, so that the first of a place stays.
 fn numbered<'n>(alloc: Global, list: &[&'n InitialConstant]) -> Result<Words<'n>, AllocError>
-    ensures { IfOk result (λ words. AreConstants words (behind list.now)) }
+    ensures { IfOk result (λ words. AreConstants words.entries (behind list.now)) }
 {
-    let mut words = Words::new(alloc);
-    for constant in list {
-        words.note(constant)?;
+    let mut words = HashMap::new(alloc);
+    for number in (0..list.len()).rev() {
+        let constant = list[number];
+        let name = constant.name.as_str().as_bytes();
+        words.insert((name, constant.word), constant.value.value)?;
     }
     Ok(words)
 }
@@ -141,6 +98,6 @@ impl<'n> Initials<'n> {
         ensures { result ≡ spec.initial_of self.now name.now word }
     {
         let bytes = name.as_str().as_bytes();
-        self.words.get(bytes, word).unwrap_or(0)
+        self.words.get(&(bytes, word)).copied().unwrap_or(0)
     }
 }

@@ -1,15 +1,12 @@
-use Rattle.std.proofs.Common.{◌∙◌, ap, arith}
-use denote.Bor.{Bor}
-use Rattle.verilog_tree.specs.declared.tree.InitialConstant.{InitialConstant}
-use Rattle.net_names.specs.Tables.{named, noted, same_place, place_of}
-use Rattle.net_names.proofs.Numbering.{one_constant}
+use Rattle.std.proofs.Common.{◌∙◌, refl, arith}
+use Rattle.net_names.proofs.Numbering.{no_constant, next_constant}
 use Rattle.net_names.proofs.initials.numbered.Goals as goal
 
-pub loop-constant-preserved : goal.loop-constant-preserved
-loop-constant-preserved c = λ p.
-    let t = c.loop-constant.words in
-    let n = c.loop-constant.constant-index in
-    let d = c.constant-item.result in
-    ap (λ u. named same_place u p) c.in_ok-note.ensures
-    ∙ ap (λ (x : Bor InitialConstant). named same_place (noted same_place t (place_of x.now) x.now.value.value) p) c.constant-item.is
-    ∙ one_constant t c.args.list.now n d (omega arith) c.loop-constant.invariant p
+pub loop-number-init : goal.loop-number-init
+loop-number-init c = no_constant _ c.args.list.now _ c.new-words.ensures.empty refl
+
+pub loop-number-preserved : goal.loop-number-preserved
+loop-number-preserved c =
+    let some = c.loop-number-test.true in
+    next_constant _ _ c.args.list.now c.loop-number.number _ _ c.index-list-number.result c.as_bytes-name.result (omega (arith, some)) c.loop-number.auto.number
+    c.index-list-number.is (c.as_bytes-name.ensures.value ∙ c.as_str.ensures.bytes) c.in_ok-insert.ensures.updates.0 c.loop-number.invariant

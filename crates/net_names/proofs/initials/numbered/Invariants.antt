@@ -1,7 +1,7 @@
-use Rattle.std.proofs.Common.{take}
+use Rattle.std.proofs.Common.{drop}
 use Rattle.net_names.specs.Found.{behind}
 use Rattle.net_names.specs.Tables.{AreConstants}
 use Rattle.net_names.proofs.initials.numbered.Given as goal
 
-abbrev pub invariant-loop-constant : goal.invariant-loop-constant
-invariant-loop-constant l = AreConstants l.words (take l.constant-index (behind l.list))
+abbrev pub invariant-loop-number : goal.invariant-loop-number
+invariant-loop-number l = AreConstants l.words.entries (behind (drop l.number l.list))

@@ -1,14 +1,13 @@
-use Rattle.std.proofs.Common.{◌∙◌, ap, get_or, arith}
-use denote.Bor.{Bor}
-use Rattle.std.specs.Str.{bytes_eq}
-use Rattle.net_names.specs.Tables.{Name, named, noted}
-use Rattle.net_names.proofs.Numbering.{one_noted}
+use Rattle.std.proofs.Common.{◌≤◌, length, subst, arith}
+use Rattle.net_names.proofs.Numbering.{no_place, next_place}
 use Rattle.net_names.proofs.places.Places.of.Goals as goal
 
-pub loop-number-preserved : goal.loop-number-preserved
-loop-number-preserved c = λ x.
-    let t = c.loop-number.numbers in
-    let n = c.loop-number.number in
-    let noted_one = c.in_ok-note.ensures in
-    ap (λ u. named bytes_eq u x) noted_one ∙ ap (λ l. named bytes_eq (noted bytes_eq t (get_or {A = Bor Name} l n _).now n) x) c.as_slice.ensures
-    ∙ one_noted t c.args.names n _ (omega arith) c.loop-number.invariant x
+pub loop-place-init : goal.loop-place-init
+loop-place-init c = no_place _ c.args.names _ c.new-places.ensures.empty c.len-place.ensures
+
+pub loop-place-preserved : goal.loop-place-preserved
+loop-place-preserved c =
+    let some = c.loop-place-test.true in
+    let within : c.loop-place.place ≤ length c.args.names = subst (λ n. c.loop-place.place ≤ n) c.len-place.ensures c.loop-place.auto.place in
+    next_place _ _ c.args.names c.as_slice.result.now c.loop-place.place _ _ (omega (arith, some)) within c.as_slice.ensures
+    c.in_ok-insert.ensures.updates.0 c.loop-place.invariant
