@@ -17,5 +17,6 @@ returns-in-DoWhile-clause-same c =
 
 pub returns-in_ok-ask-in-For-clause-same : goal.returns-in_ok-ask-in-For-clause-same
 returns-in_ok-ask-in-For-clause-same c =
-    let opened = settled_for (statement_of c.in-For.first.value) (condition_of c.in-For.condition) (statement_of c.in-For.last.value) (statement_of c.in-For.body.value) (work_of c.args.work.now.items) in
+    let opened =
+    settled_for (statement_of c.in-For.first.value) (condition_of c.in-For.condition) (statement_of c.in-For.last.value) (statement_of c.in-For.body.value) (work_of c.args.work.now.items) in
     IfOk-weaker c.put-in-For.result _ _ (λ _ e. grind (arith, e, opened)) c.put-in-For.ensures

@@ -29,14 +29,16 @@ pub returns-in_err-target-clause-full : goal.returns-in_err-target-clause-full
 returns-in_err-target-clause-full c =
     let p = err_from_is_err_and c.from_residual-in_err-target.result c.from_residual-in_err-target.ensures.1 in
     rw (p.1, p.2)
-    (place_needs c.args.homes.now (place_of c.args.place.now) (expression_of c.args.right.now) 1 c.args.block.now c.lower_expression.new.block c.in_ok-value.value _ (omega arith) c.in_ok-value.ensures.value
+    (place_needs c.args.homes.now (place_of c.args.place.now) (expression_of c.args.right.now) 1 c.args.block.now c.lower_expression.new.block
+    c.in_ok-value.value _ (omega arith) c.in_ok-value.ensures.value
     c.in_err-target.ensures.full)
 
 pub returns-in_err-store-clause-full : goal.returns-in_err-store-clause-full
 returns-in_err-store-clause-full c =
     let p = err_from_is_err_and c.from_residual-in_err-store.result c.from_residual-in_err-store.ensures.1 in
     rw (p.1, p.2)
-    (found_needs c.args.homes.now (place_of c.args.place.now) (expression_of c.args.right.now) 1 c.args.block.now c.lower_expression.new.block c.lower_place.new.block c.in_ok-target.target c.in_ok-value.value _ (omega arith)
+    (found_needs c.args.homes.now (place_of c.args.place.now) (expression_of c.args.right.now) 1 c.args.block.now c.lower_expression.new.block
+    c.lower_place.new.block c.in_ok-target.target c.in_ok-value.value _ (omega arith)
     c.in_ok-value.ensures.value c.in_ok-target.ensures.places c.in_err-store.ensures.full)
 
 pub returns-in_err-step-clause-full : goal.returns-in_err-step-clause-full
@@ -44,6 +46,7 @@ returns-in_err-step-clause-full c =
     let p = err_from_is_err_and c.from_residual-in_err-step.result c.from_residual-in_err-step.ensures.1 in
     rw (p.1, p.2)
     (step_needs (place_of c.args.place.now) (expression_of c.args.right.now) 1 c.args.block.now c.store.new.block _ (omega arith)
-    (assignment_steps c.args.homes.now (place_of c.args.place.now) (expression_of c.args.right.now) c.args.block.now c.lower_expression.new.block c.lower_place.new.block c.store.new.block c.in_ok-target.target c.in_ok-value.value
+    (assignment_steps c.args.homes.now (place_of c.args.place.now) (expression_of c.args.right.now) c.args.block.now c.lower_expression.new.block
+    c.lower_place.new.block c.store.new.block c.in_ok-target.target c.in_ok-value.value
     c.in_ok-value.ensures.value c.in_ok-target.ensures.places c.in_ok-store.ensures.stores)
     c.in_err-step.ensures.full)

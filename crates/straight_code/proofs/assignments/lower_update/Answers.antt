@@ -41,21 +41,24 @@ pub returns-in_err-target-clause-full : goal.returns-in_err-target-clause-full
 returns-in_err-target-clause-full c =
     let p = err_from_is_err_and c.from_residual-in_err-target.result c.from_residual-in_err-target.ensures.1 in
     rw (p.1, p.2)
-    (place_needs c.args.homes.now (place_of c.args.place.now) (expression_of c.args.right.now) 2 c.args.block.now c.lower_expression.new.block c.in_ok-right.right _ (omega arith) c.in_ok-right.ensures.value
+    (place_needs c.args.homes.now (place_of c.args.place.now) (expression_of c.args.right.now) 2 c.args.block.now c.lower_expression.new.block
+    c.in_ok-right.right _ (omega arith) c.in_ok-right.ensures.value
     c.in_err-target.ensures.full)
 
 pub returns-in_err-left-clause-full : goal.returns-in_err-left-clause-full
 returns-in_err-left-clause-full c =
     let p = err_from_is_err_and c.from_residual-in_err-left.result c.from_residual-in_err-left.ensures.1 in
     rw (p.1, p.2)
-    (found_needs c.args.homes.now (place_of c.args.place.now) (expression_of c.args.right.now) 2 c.args.block.now c.lower_expression.new.block c.lower_place.new.block c.in_ok-target.target c.in_ok-right.right _ (omega arith)
+    (found_needs c.args.homes.now (place_of c.args.place.now) (expression_of c.args.right.now) 2 c.args.block.now c.lower_expression.new.block
+    c.lower_place.new.block c.in_ok-target.target c.in_ok-right.right _ (omega arith)
     c.in_ok-right.ensures.value c.in_ok-target.ensures.places c.in_err-left.ensures.full)
 
 pub returns-in_err-value-clause-full : goal.returns-in_err-value-clause-full
 returns-in_err-value-clause-full c =
     let p = err_from_is_err_and c.from_residual-in_err-value.result c.from_residual-in_err-value.ensures.1 in
     rw (p.1, p.2)
-    (read_needs c.args.homes.now (place_of c.args.place.now) (expression_of c.args.right.now) c.args.block.now c.lower_expression.new.block c.lower_place.new.block c.load.new.block c.in_ok-target.target c.in_ok-right.right _
+    (read_needs c.args.homes.now (place_of c.args.place.now) (expression_of c.args.right.now) c.args.block.now c.lower_expression.new.block
+    c.lower_place.new.block c.load.new.block c.in_ok-target.target c.in_ok-right.right _
     c.in_ok-right.ensures.value c.in_ok-target.ensures.places c.in_ok-left.ensures.block c.in_err-value.ensures.full)
 
 pub returns-in_err-step-clause-full : goal.returns-in_err-step-clause-full
@@ -64,6 +67,7 @@ returns-in_err-step-clause-full c =
     rw (p.1, p.2)
     (step_needs (place_of c.args.place.now) (expression_of c.args.right.now) 2 c.args.block.now c.store.new.block _ (omega arith)
     (update_steps c.args.homes.now (place_of c.args.place.now) c.args.operator c.args.ty (expression_of c.args.right.now)
-    c.args.block.now c.lower_expression.new.block c.lower_place.new.block c.load.new.block c.put.new.self c.store.new.block c.in_ok-target.target c.in_ok-left.left c.in_ok-right.right c.in_ok-value.value
+    c.args.block.now c.lower_expression.new.block c.lower_place.new.block c.load.new.block c.put.new.self c.store.new.block c.in_ok-target.target
+    c.in_ok-left.left c.in_ok-right.right c.in_ok-value.value
     c.in_ok-right.ensures.value c.in_ok-target.ensures.places c.in_ok-left.ensures.block c.in_ok-value.ensures.block c.in_ok-store.ensures.stores)
     c.in_err-step.ensures.full)

@@ -119,7 +119,9 @@ returns-in_err-left-in-Binary-clause-full t c =
     let is =
     ap expression_of c.in-Binary.is
     ∙ ap (λ z. Expression.Binary c.in-Binary.operator c.in-Binary.ty (expression_of z) (expression_of c.in-Binary.right.value)) (sym c.deref-in-Binary.ensures) in
-    let weighs : expression_weight (expression_of c.args.expression.now) ≡ expression_weight (expression_of c.deref-in-Binary.result.now) + expression_weight (expression_of c.in-Binary.right.value) + 1 = ap expression_weight is in
+    let weighs : expression_weight (expression_of c.args.expression.now) ≡
+    expression_weight (expression_of c.deref-in-Binary.result.now) + expression_weight (expression_of c.in-Binary.right.value) + 1 =
+    ap expression_weight is in
     rw (p.1, p.2)
     (full_more _ (length c.args.block.now.operations + (2 * expression_weight (expression_of c.deref-in-Binary.result.now) + 1))
     (length c.args.block.now.operations + (2 * expression_weight (expression_of c.args.expression.now) + 1)) (omega (arith, weighs))
@@ -132,7 +134,9 @@ returns-in_err-right-in-Binary-clause-full t c =
     ap expression_of c.in-Binary.is
     ∙ ap (λ z. Expression.Binary c.in-Binary.operator c.in-Binary.ty (expression_of z) (expression_of c.in-Binary.right.value)) (sym c.deref-in-Binary.ensures)
     ∙ ap (λ z. Expression.Binary c.in-Binary.operator c.in-Binary.ty (expression_of c.deref-in-Binary.result.now) (expression_of z)) (sym c.deref-in-Binary-2.ensures) in
-    let weighs : expression_weight (expression_of c.args.expression.now) ≡ expression_weight (expression_of c.deref-in-Binary.result.now) + expression_weight (expression_of c.deref-in-Binary-2.result.now) + 1 = ap expression_weight is in
+    let weighs : expression_weight (expression_of c.args.expression.now) ≡
+    expression_weight (expression_of c.deref-in-Binary.result.now) + expression_weight (expression_of c.deref-in-Binary-2.result.now) + 1 =
+    ap expression_weight is in
     let count = c.in_ok-left-in-Binary.ensures.value.computes.count in
     rw (p.1, p.2)
     (full_more _ (length c.lower_expression-in-Binary.new.block.operations + (2 * expression_weight (expression_of c.deref-in-Binary-2.result.now) + 1))
