@@ -11,32 +11,39 @@ use std::test::Fail;
 use verilog_tree::name::Identifier;
 use verilog_tree::tree::{Assign, Expression, Item, Net};
 
-/// What the check says of the tree of a text.
-fn checked(alloc: Global, text: &str) -> Result<Result<(), NetFault>, Fault> {
-    let net = parsed(alloc, text)?;
-    Ok(check_net(alloc, &net))
+/// What the check finds in a net: a part that breaks a rule, or nothing.
+type Finding = Option<NetPart>;
+
+fn finds(alloc: Global, net: &Net, expected: Finding) -> bool {
+    match (check_net(alloc, net), expected) {
+        (Ok(()), None) => true,
+        (Err(NetFault::BadNet(found)), Some(part)) => found == part,
+        _ => false,
+    }
 }
 
-fn in_module(number: usize, part: ModulePart) -> Result<(), NetFault> {
-    Err(NetFault::BadNet(NetPart::Module { number, part }))
+/// Whether the check finds this in the tree of a text.
+fn finds_in_text(alloc: Global, text: &str, expected: Finding) -> Result<bool, Fault> {
+    let net = parsed(alloc, text)?;
+    Ok(finds(alloc, &net, expected))
+}
+
+fn in_module(number: usize, part: ModulePart) -> Finding {
+    Some(NetPart::Module { number, part })
 }
 
 fn top() -> &'static str {
-    "module top(input wire clk, input wire en, output wire done); counter u(.clk(clk), .en(en), .done(done)); endmodule"
+    "module top(input wire clk, input wire en, output wire done); counter u(.clk(clk), .en(en), .done(done)); endmodule "
 }
 
-/// A net is well formed, but not with two modules of one name, and not without a module.
+/// A net is well formed, but not with two modules of one name.
 #[test]
 fn nets(rt: HostRuntime) -> Result<(), Fail> {
-    let alloc = rt.alloc();
-    let net = format!(in alloc; "{}{}", counter(), top())?;
-    assert!(rt; checked(alloc, net.as_str())?.is_ok());
-    let twice = format!(in alloc; "{net} {}", counter())?;
-    assert!(rt; checked(alloc, twice.as_str())? == in_module(2, ModulePart::Head));
-    let none = Net {
-        modules: Items::new(alloc),
-    };
-    assert!(rt; check_net(alloc, &none) == Err(NetFault::BadNet(NetPart::Modules)));
+    for (last, expected) in [("", None), (counter(), in_module(2, ModulePart::Head))] {
+        let text = format!(in rt.alloc(); "{}{}{last}", counter(), top())?;
+        let is_found = finds_in_text(rt.alloc(), text.as_str(), expected)?;
+        assert!(rt; is_found);
+    }
     Ok(())
 }
 
@@ -112,12 +119,20 @@ fn changes() -> &'static [(&'static str, &'static str, &'static str, ModulePart)
 fn broken_rules(rt: HostRuntime) -> Result<(), Fail> {
     for (rule, ports, item, part) in changes() {
         let text = format!(in rt.alloc(); "module counter({ports}); {} {item} endmodule", items())?;
-        let found = checked(rt.alloc(), text.as_str())?;
-        if found != in_module(0, *part) {
+        let is_found = finds_in_text(rt.alloc(), text.as_str(), in_module(0, *part))?;
+        if !is_found {
             rt.panic(*rule);
         }
     }
     Ok(())
+}
+
+/// A list that no text leaves without parts.
+#[derive(Clone, Copy)]
+enum Emptied {
+    Modules,
+    Ports,
+    Concatenation,
 }
 
 /// An assignment of a concatenation without parts.
@@ -129,25 +144,29 @@ fn nothing(alloc: Global) -> Result<Item, AllocError> {
     }))
 }
 
-/// What the check says of a counter without ports, or with an assignment of nothing behind its items: no text has either.
-fn emptied(alloc: Global, has_ports: bool) -> Result<Result<(), NetFault>, Fault> {
+/// The net of the counter with a list without parts. The concatenation is the right side of an assignment behind its items.
+fn without_parts(alloc: Global, list: Emptied) -> Result<Net, Fault> {
     let mut net = parsed(alloc, counter())?;
     if let Some(mut counter) = net.modules.pop() {
-        if has_ports {
-            counter.items.push(nothing(alloc)?)?;
-        } else {
-            counter.ports = Items::new(alloc);
+        match list {
+            Emptied::Modules => return Ok(net),
+            Emptied::Ports => counter.ports = Items::new(alloc),
+            Emptied::Concatenation => counter.items.push(nothing(alloc)?)?,
         }
         net.modules.push(counter)?;
     }
-    Ok(check_net(alloc, &net))
+    Ok(net)
 }
 
 #[test]
 fn lists_without_parts(rt: HostRuntime) -> Result<(), Fail> {
-    for (has_ports, part) in [(true, NINTH), (false, ModulePart::Head)] {
-        let found = emptied(rt.alloc(), has_ports)?;
-        assert!(rt; found == in_module(0, part));
+    for (list, part) in [
+        (Emptied::Modules, Some(NetPart::Modules)),
+        (Emptied::Ports, in_module(0, ModulePart::Head)),
+        (Emptied::Concatenation, in_module(0, NINTH)),
+    ] {
+        let net = without_parts(rt.alloc(), list)?;
+        assert!(rt; finds(rt.alloc(), &net, part));
     }
     Ok(())
 }

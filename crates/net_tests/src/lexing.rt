@@ -1,7 +1,7 @@
 // One table of texts and their tokens, and the limits at their edges.
 
 use c_lexer::{LexFault, lex};
-use c_token::{Constant, ConstantType, Kind};
+use c_token::{Constant, ConstantType, Kind, Token};
 use std::alloc::{AllocError, Global};
 use std::process::Abort;
 use std::test::Fail;
@@ -37,27 +37,34 @@ fn push_kind(out: &mut String, kind: &Kind) -> Result<(), AllocError> {
     }
 }
 
-/// The tokens as `offset:token`, or the fault.
-fn shown(alloc: Global, text: &[u8]) -> Result<String, AllocError> {
+/// The tokens as `offset:token`.
+fn shown_tokens(alloc: Global, tokens: &[Token]) -> Result<String, AllocError> {
     let mut out = String::new(alloc);
-    match lex(alloc, text) {
-        Ok(tokens) => {
-            for token in tokens.as_slice() {
-                write!(out, " {}:", token.offset)?;
-                push_kind(&mut out, &token.kind)?;
-            }
-        }
-        Err(LexFault::Bad { offset }) => write!(out, "bad {offset}")?,
-        Err(
-            LexFault::Limit {
-                limit,
-                count,
-                offset,
-            },
-        ) => write!(out, "{limit:?} {count} at {offset}")?,
-        Err(LexFault::Memory) => out.push_str("memory")?,
+    for token in tokens {
+        write!(out, " {}:", token.offset)?;
+        push_kind(&mut out, &token.kind)?;
     }
     Ok(out)
+}
+
+fn shown_fault(alloc: Global, fault: &LexFault) -> Result<String, AllocError> {
+    match fault {
+        LexFault::Bad { offset } => format!(in alloc; "bad {offset}"),
+        LexFault::Limit {
+            limit,
+            count,
+            offset,
+        } => format!(in alloc; "{limit:?} {count} at {offset}"),
+        LexFault::Memory => String::from_str(alloc, "memory"),
+    }
+}
+
+/// The tokens, or the fault.
+fn shown(alloc: Global, text: &[u8]) -> Result<String, AllocError> {
+    match lex(alloc, text) {
+        Ok(tokens) => shown_tokens(alloc, tokens.as_slice()),
+        Err(fault) => shown_fault(alloc, &fault),
+    }
 }
 
 const ROWS: [(&str, &str); 51] = [

@@ -4,8 +4,6 @@
 #![tactic(auto)]
 
 #[cfg(test)]
-mod act_cores;
-#[cfg(test)]
 mod checks;
 #[cfg(test)]
 mod cores;

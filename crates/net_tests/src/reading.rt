@@ -1,6 +1,7 @@
 // Reads of small texts.
 
 use std::alloc::{AllocError, Global};
+use std::process::Abort;
 use std::test::Fail;
 use verilog_reader::read::{ReadError, read};
 
@@ -129,32 +130,14 @@ fn top_texts() -> &'static [&'static str] {
     &TOPS
 }
 
-/// How many of the texts are not as marked; they are printed.
-fn wrong(rt: &HostRuntime, texts: &[&str]) -> Result<usize, Fail> {
-    let mut wrong = 0usize;
-    for text in texts {
-        if !is_as_marked(rt.alloc(), text)? {
-            println!(rt; "{text}")?;
-            wrong = wrong.saturating_add(1);
+#[test]
+fn texts_are_as_marked(rt: HostRuntime) -> Result<(), Fail> {
+    for texts in [sentence_texts(), rule_texts(), top_texts()] {
+        for text in texts {
+            if !is_as_marked(rt.alloc(), text)? {
+                rt.panic(*text);
+            }
         }
     }
-    Ok(wrong)
-}
-
-#[test]
-fn sentences_go_on_up_to_the_mark(rt: HostRuntime) -> Result<(), Fail> {
-    assert!(rt; wrong(&rt, sentence_texts())? == 0);
-    Ok(())
-}
-
-#[test]
-fn parts_break_rules_at_the_mark(rt: HostRuntime) -> Result<(), Fail> {
-    assert!(rt; wrong(&rt, rule_texts())? == 0);
-    Ok(())
-}
-
-#[test]
-fn tops_are_none_that_is_run_at_the_mark(rt: HostRuntime) -> Result<(), Fail> {
-    assert!(rt; wrong(&rt, top_texts())? == 0);
     Ok(())
 }

@@ -1,20 +1,25 @@
 // Netlists laid out, and their texts, compared with texts by hand.
 
 use crate::small::{counter, laid, parsed};
+use std::alloc::{AllocError, Global};
 use std::test::Fail;
 use verilog_tree::name::Quoted;
+use verilog_tree::tree::{Module, Net};
 use verilog_writer::write;
+
+fn is_counter(modules: &[Module]) -> bool {
+    match modules {
+        [laid] => {
+            laid.name.as_str() == "counter" && (laid.ports.len(), laid.items.len()) == (3, 8)
+        }
+        _ => false,
+    }
+}
 
 #[test]
 fn lays_a_counter_out(rt: HostRuntime) -> Result<(), Fail> {
     let net = laid(rt.alloc(), counter())?;
-    match net.modules.as_slice() {
-        [laid] => {
-            assert!(rt; laid.name.as_str() == "counter");
-            assert!(rt; (laid.ports.len(), laid.items.len()) == (3, 8));
-        }
-        _ => assert!(rt; false),
-    }
+    assert!(rt; is_counter(net.modules.as_slice()));
     Ok(())
 }
 
@@ -52,17 +57,6 @@ endmodule
 "
 }
 
-/// What is laid out of a netlist is written as the text that has it.
-#[test]
-fn writes_what_is_laid_out(rt: HostRuntime) -> Result<(), Fail> {
-    for text in [counter(), each_form()] {
-        let net = laid(rt.alloc(), text)?;
-        let written = write(rt.alloc(), &net)?;
-        assert!(rt; written.as_slice() == text.as_bytes());
-    }
-    Ok(())
-}
-
 /// A block with a condition round two statements.
 fn printing() -> &'static str {
     "module printing(input wire clk);
@@ -76,11 +70,20 @@ endmodule
 "
 }
 
+fn is_written_as(alloc: Global, net: &Net, text: &str) -> Result<bool, AllocError> {
+    let written = write(alloc, net)?;
+    Ok(written.as_slice() == text.as_bytes())
+}
+
+/// What is laid out of a netlist is written as the text that has it, and so is the tree of a text.
 #[test]
-fn writes_a_block(rt: HostRuntime) -> Result<(), Fail> {
+fn writes_the_text_that_was_read(rt: HostRuntime) -> Result<(), Fail> {
+    for text in [counter(), each_form()] {
+        let net = laid(rt.alloc(), text)?;
+        assert!(rt; is_written_as(rt.alloc(), &net, text)?);
+    }
     let net = parsed(rt.alloc(), printing())?;
-    let text = write(rt.alloc(), &net)?;
-    assert!(rt; text.as_slice() == printing().as_bytes());
+    assert!(rt; is_written_as(rt.alloc(), &net, printing())?);
     Ok(())
 }
 

@@ -1,9 +1,17 @@
 // A net of one thread and no core.
 
 use crate::small::name_at;
+use netlist::netlist::Module;
 use sqlite_items::Items;
 use std::test::Fail;
 use top_wiring::{Group, Layout, wire};
+
+fn is_top(module: &Module) -> bool {
+    let signals = module.signals.as_slice();
+    module.name.as_str() == "top"
+        && module.instances.len() == 1
+        && name_at(signals, signals.len().saturating_sub(1)) == "done"
+}
 
 #[test]
 fn one_thread(rt: HostRuntime) -> Result<(), Fail> {
@@ -17,16 +25,8 @@ fn one_thread(rt: HostRuntime) -> Result<(), Fail> {
         arbiter: 0,
     };
     let netlist = wire(alloc, modules, &layout)?;
-    assert!(rt; netlist.modules.len() == 2);
-    match netlist.modules.get(0) {
-        Some(top) => {
-            assert!(rt; top.name.as_str() == "top");
-            assert!(rt; top.instances.len() == 1);
-            let signals = top.signals.as_slice();
-            assert!(rt; name_at(signals, signals.len().saturating_sub(1)) == "done");
-        }
-        None => assert!(rt; false),
-    }
+    let has_top = matches!(netlist.modules.get(0), Some(top) if is_top(top));
+    assert!(rt; has_top && netlist.modules.len() == 2);
     Ok(())
 }
 
