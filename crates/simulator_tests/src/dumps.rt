@@ -1,9 +1,13 @@
 // Dumps of a run, and the registers in them.
 
+ghost use Rattle.cycle_sim.specs.Opened.{IsOpenable};
+
 use crate::nets::{dumped, net_of};
-use cycle_sim::sim::Sim;
+use cycle_sim::sim::{OpenError, Sim};
 use hls_io::Bytes;
 use net_registers::registers::{register, registers};
+use netlist::netlist::Module;
+use std::alloc::{AllocError, Global};
 use std::test::Fail;
 use vcd_trace::trace::trace;
 
@@ -13,13 +17,27 @@ fn dump() -> &'static str {
     #0\n$dumpvars\nb0 !\n$end\n#1\nb1 !\n#2\nb10 !\n"
 }
 
+fn is_dumped(alloc: Global, modules: &[Module]) -> Result<bool, OpenError>
+    requires { IsOpenable modules.now }
+{
+    let traced = trace(alloc, modules, 9)?;
+    Ok(traced.cycles == 2 && traced.is_done && traced.text.as_slice() == dump().as_bytes())
+}
+
+/// Whether the only register is 0, and 1 behind a cycle.
+fn counts(alloc: Global, sim: &mut Sim<'_>) -> Result<bool, AllocError> {
+    let listing = registers(alloc, sim)?;
+    let is_new = register(sim, &listing, 0) == Some(0u64) && register(sim, &listing, 1) == None;
+    let mut out = Bytes::new(alloc);
+    let cycles = sim.lockstep(1, &mut out)?;
+    Ok(is_new && cycles == 1 && register(sim, &listing, 0) == Some(1u64))
+}
+
 #[test]
 fn a_run_is_dumped(rt: HostRuntime) -> Result<(), Fail> {
     let net = net_of(rt.alloc(), dumped())?;
-    let traced = trace(rt.alloc(), net.modules.as_slice(), 9)?;
-    assert!(rt; traced.cycles == 2);
-    assert!(rt; traced.is_done);
-    assert!(rt; traced.text.as_slice() == dump().as_bytes());
+    let is_dumped = is_dumped(rt.alloc(), net.modules.as_slice())?;
+    assert!(rt; is_dumped);
     Ok(())
 }
 
@@ -27,12 +45,7 @@ fn a_run_is_dumped(rt: HostRuntime) -> Result<(), Fail> {
 fn a_register_has_its_number(rt: HostRuntime) -> Result<(), Fail> {
     let net = net_of(rt.alloc(), dumped())?;
     let mut sim = Sim::open(rt.alloc(), net.modules.as_slice())?;
-    let listing = registers(rt.alloc(), &sim)?;
-    assert!(rt; register(&sim, &listing, 0) == Some(0u64));
-    assert!(rt; register(&sim, &listing, 1) == None);
-    let mut out = Bytes::new(rt.alloc());
-    let cycles = sim.lockstep(1, &mut out)?;
-    assert!(rt; cycles == 1);
-    assert!(rt; register(&sim, &listing, 0) == Some(1u64));
+    let counts = counts(rt.alloc(), &mut sim)?;
+    assert!(rt; counts);
     Ok(())
 }

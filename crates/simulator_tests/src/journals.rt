@@ -3,14 +3,29 @@
 use journal_text::entry::Entry;
 use journal_text::spelling::spelled;
 use journal_text::text::parted;
+use std::alloc::{AllocError, Global};
 use std::process::Abort;
 use std::test::Fail;
+
+fn has_parts(
+    alloc: Global,
+    text: &[u8],
+    entries: &[Entry],
+    rest: usize,
+) -> Result<bool, AllocError> {
+    let parts = parted(alloc, text)?;
+    Ok(parts.entries.as_slice() == entries && parts.bad == None && parts.rest == rest)
+}
+
+fn is_spelled(alloc: Global, entries: &[Entry], text: &[u8]) -> Result<bool, AllocError> {
+    let lines = spelled(alloc, entries)?;
+    Ok(lines.as_slice() == text)
+}
 
 /// Two lines and what stands behind them.
 #[test]
 fn a_journal_is_read_and_spelled(rt: HostRuntime) -> Result<(), Fail> {
     let text = b"//@ 1 4096 s\n//@ 0 0 -\nint main";
-    let parts = parted(rt.alloc(), text.as_slice())?;
     let entries = [
         Entry {
             thread: 1,
@@ -23,12 +38,21 @@ fn a_journal_is_read_and_spelled(rt: HostRuntime) -> Result<(), Fail> {
             opened: false,
         },
     ];
-    assert!(rt; parts.entries.as_slice() == entries.as_slice());
-    assert!(rt; parts.bad == None);
-    assert!(rt; parts.rest == 23);
-    let lines = spelled(rt.alloc(), entries.as_slice())?;
-    assert!(rt; lines.as_slice() == b"//@ 1 4096 s\n//@ 0 0 -\n".as_slice());
+    assert!(rt; has_parts(rt.alloc(), text.as_slice(), entries.as_slice(), 23)?);
+    assert!(rt;
+        is_spelled(
+            rt.alloc(),
+            entries.as_slice(),
+            b"//@ 1 4096 s\n//@ 0 0 -\n".as_slice()
+        )?
+    );
     Ok(())
+}
+
+fn is_misspelt(alloc: Global, line: &str) -> Result<bool, AllocError> {
+    let text = format!(in alloc; "//@ 1 2 -\n{line}")?;
+    let parts = parted(alloc, text.as_bytes())?;
+    Ok(parts.bad == Some(1usize) && parts.entries.len() == 1)
 }
 
 /// Of two lines the second spells no entry.
@@ -43,12 +67,10 @@ fn a_misspelt_line_is_found(rt: HostRuntime) -> Result<(), Fail> {
         "//@ 12345678901 2 s\n",
         "//@ 1 2 s",
     ] {
-        let text = format!(in rt.alloc(); "//@ 1 2 -\n{line}")?;
-        let parts = parted(rt.alloc(), text.as_bytes())?;
-        if parts.bad != Some(1usize) {
+        let is_misspelt = is_misspelt(rt.alloc(), line)?;
+        if !is_misspelt {
             rt.panic(line);
         }
-        assert!(rt; parts.entries.as_slice().len() == 1);
     }
     Ok(())
 }

@@ -31,42 +31,19 @@ fn shows(sim: &mut Sim<'_>, out: &mut Bytes, is_done: bool) -> Result<bool, Allo
     Ok(sim.shows_done(&all) == is_done && sim.done() == is_done)
 }
 
+/// Both threads are enabled, `en` is 3, and `pref_0` is 5.
 fn takes_its_choice(sim: &mut Sim<'_>, out: &mut Bytes) -> Result<bool, AllocError> {
     let is_new = !sim.done();
     let is_first = shows(sim, out, false)?;
     let is_last = shows(sim, out, true)?;
-    Ok(is_new && is_first && is_last)
+    Ok(is_new && is_first && is_last && out.as_slice() == b"3,5;3,5;".as_slice())
 }
 
-/// Both threads are enabled, `en` is 3, and `pref_0` is 5.
-#[test]
-fn a_cycle_takes_its_choice(rt: HostRuntime) -> Result<(), Fail> {
-    let net = net_of(rt.alloc(), counter())?;
-    let mut sim = Sim::open(rt.alloc(), net.modules.as_slice())?;
-    let mut out = Bytes::new(rt.alloc());
-    let is_right = takes_its_choice(&mut sim, &mut out)?;
-    assert!(rt; is_right);
-    assert!(rt; out.as_slice() == b"3,5;3,5;".as_slice());
-    Ok(())
-}
-
-/// Whether a copy runs to its end in this many cycles.
-fn copy_ends(sim: &Sim<'_>, out: &mut Bytes, cycles: u32) -> Result<bool, AllocError> {
+/// A copy runs to its end in two cycles, and leaves its original where it is.
+fn goes_its_own_way(sim: &mut Sim<'_>, out: &mut Bytes) -> Result<bool, AllocError> {
     let mut copy = sim.copy()?;
-    let ran = copy.lockstep(20, out)?;
-    Ok(ran == cycles && copy.done())
-}
-
-/// A copy goes its own way.
-#[test]
-fn a_copy_leaves_its_original(rt: HostRuntime) -> Result<(), Fail> {
-    let net = net_of(rt.alloc(), counter())?;
-    let mut sim = Sim::open(rt.alloc(), net.modules.as_slice())?;
-    let mut out = Bytes::new(rt.alloc());
-    let is_ended = copy_ends(&sim, &mut out, 2)?;
-    assert!(rt; is_ended);
-    assert!(rt; !sim.done());
-    Ok(())
+    let cycles = copy.lockstep(20, out)?;
+    Ok(cycles == 2 && copy.done() && !sim.done())
 }
 
 /// The elements of `x` before the first edge, by their numbers.
@@ -96,39 +73,61 @@ fn has_elements(sim: &Sim<'_>, elements: &[(u64, Option<u64>)]) -> bool {
     true
 }
 
-fn stand(sim: &mut Sim<'_>, out: &mut Bytes) -> Result<bool, AllocError> {
+/// Element j is word j / 2 of bank j modulo 2. The first edge makes word 1 of both banks 1.
+fn has_banks(sim: &mut Sim<'_>, out: &mut Bytes) -> Result<bool, AllocError> {
     let is_first = has_elements(sim, &FIRST) && sim.global("y", 0) == None;
     let cycles = sim.lockstep(1, out)?;
     Ok(is_first && cycles == 1 && has_elements(sim, &NEXT))
 }
 
-/// Element j is word j / 2 of bank j modulo 2. The first edge makes word 1 of both banks 1.
-#[test]
-fn an_element_stands_in_its_bank(rt: HostRuntime) -> Result<(), Fail> {
-    let net = net_of(rt.alloc(), counter())?;
-    let mut sim = Sim::open(rt.alloc(), net.modules.as_slice())?;
-    let mut out = Bytes::new(rt.alloc());
-    let is_right = stand(&mut sim, &mut out)?;
-    assert!(rt; is_right);
-    Ok(())
-}
-
-/// Two cycles, and no more.
+/// Two cycles, and no more: in cycle k both threads are enabled, and `pref_0` is k.
 fn ends(sim: &mut Sim<'_>, out: &mut Bytes) -> Result<bool, AllocError> {
     let first = sim.lockstep(20, out)?;
     let more = sim.lockstep(20, out)?;
-    Ok(first == 2 && more == 0)
+    Ok(first == 2 && more == 0 && out.as_slice() == b"3,0;3,1;".as_slice())
 }
 
-/// In cycle k both threads are enabled, and `pref_0` is k.
+#[derive(Clone, Copy)]
+enum Case {
+    Choice,
+    Copy,
+    Banks,
+    End,
+}
+
+fn holds(case: Case, sim: &mut Sim<'_>, out: &mut Bytes) -> Result<bool, AllocError> {
+    match case {
+        Case::Choice => takes_its_choice(sim, out),
+        Case::Copy => goes_its_own_way(sim, out),
+        Case::Banks => has_banks(sim, out),
+        Case::End => ends(sim, out),
+    }
+}
+
+/// Whether a case holds of a simulator of these modules at its start.
+fn holds_at_start(alloc: Global, modules: &[Module], case: Case) -> Result<bool, OpenError>
+    requires { IsOpenable modules.now }
+{
+    let mut sim = Sim::open(alloc, modules)?;
+    let mut out = Bytes::new(alloc);
+    let holds = holds(case, &mut sim, &mut out)?;
+    Ok(holds)
+}
+
 #[test]
-fn lockstep_ends_where_done_is_shown(rt: HostRuntime) -> Result<(), Fail> {
+fn a_simulator_of_the_counter(rt: HostRuntime) -> Result<(), Fail> {
     let net = net_of(rt.alloc(), counter())?;
-    let mut sim = Sim::open(rt.alloc(), net.modules.as_slice())?;
-    let mut out = Bytes::new(rt.alloc());
-    let is_ended = ends(&mut sim, &mut out)?;
-    assert!(rt; is_ended);
-    assert!(rt; out.as_slice() == b"3,0;3,1;".as_slice());
+    for (name, case) in [
+        ("a cycle takes its choice", Case::Choice),
+        ("a copy leaves its original", Case::Copy),
+        ("an element stands in its bank", Case::Banks),
+        ("lockstep ends where done is shown", Case::End),
+    ] {
+        let holds = holds_at_start(rt.alloc(), net.modules.as_slice(), case)?;
+        if !holds {
+            rt.panic(name);
+        }
+    }
     Ok(())
 }
 
