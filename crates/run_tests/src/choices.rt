@@ -4,8 +4,8 @@ ghost use Rattle.cycle_sim.specs.Opened.{IsOpenable};
 
 use crate::programs::adding;
 use cycle_sim::sim::Sim;
-use hls_commands::commands::compiled;
-use hls_io::{Bytes, MemSource};
+use hls_compile::compile;
+use hls_io::Bytes;
 use net_netlist::netlist;
 use netlist::netlist::Module;
 use std::alloc::{AllocError, Global};
@@ -54,8 +54,7 @@ fn is_done_by(alloc: Global, text: &[u8], cycles: u32, printed: &[u8]) -> Result
 /// T is 4 and B is 64 * (24 + 1): 88,000 / 1,600 - 4 is 51, and the program ends after 50 steps. Where done is shown it stays.
 #[test]
 fn is_done_within_the_bound_on_steps(rt: HostRuntime) -> Result<(), Fail> {
-    let mut source = MemSource::new(adding().as_bytes(), 4096, &[]);
-    let built = compiled(&rt, rt.alloc(), &mut source, 1)?;
+    let built = compile(&rt, rt.alloc(), adding().as_bytes(), 1)?;
     let is_right = is_done_by(rt.alloc(), built.text.as_slice(), 88_000, b"3\n")?;
     assert!(rt; is_right);
     Ok(())
