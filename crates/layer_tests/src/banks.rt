@@ -3,30 +3,22 @@
 ghost use Rattle.std.specs.Prelude.{IfOk};
 ghost use Rattle.bank_partition.specs.Partition.{AreBanks, shapes};
 
-use crate::trees::{INT, program};
 use bank_partition::banks::{Bank, Banks, Element, Place, partition};
 use bank_partition::count::bank_count;
-use c_program::tree::{GlobalVariable, Program};
-use std::alloc::{AllocError, Global};
+use c_profile::accept;
+use std::alloc::Global;
 use std::test::Fail;
 
-/// int x[6] = {10, 11, -12};
-fn program_of_x(alloc: Global) -> Result<Program, AllocError> {
-    let mut program = program(alloc, Vec::new(alloc), 0);
-    program.globals.push(GlobalVariable {
-        name: String::from_str(alloc, "x")?,
-        ty: INT,
-        length: 6,
-        initial: [10i128, 11, -12].to_vec(alloc)?,
-    })?;
-    Ok(program)
+fn text() -> &'static str {
+    "int x[6] = {10, 11, -12}; int main(void){return 0;}"
 }
 
-fn banks_of_x(alloc: Global) -> Result<Banks, AllocError>
+fn banks_of_x(alloc: Global) -> Result<Banks, Fail>
     ensures { IfOk result (λ b. AreBanks b.spreads.items (shapes b)) }
 {
-    let program = program_of_x(alloc)?;
-    partition(alloc, &program, &[5])
+    let accepted = accept(alloc, text().as_bytes())?;
+    let banks = partition(alloc, &accepted.program, &[5])?;
+    Ok(banks)
 }
 
 /// Whether it is a bank of x with -12 alone.

@@ -1,4 +1,4 @@
-//! Tests of the layers of the front end and below: the parser, weights and bounds, races, the lowering and the banks of globals. They
+//! Tests of the layers of the front end and below: weights and bounds, races, the lowering and the banks of globals. They
 //! stand in a crate of their own, since a crate with tests is proved twice.
 #![tactic(auto)]
 
@@ -7,10 +7,6 @@ mod banks;
 #[cfg(test)]
 mod lowering;
 #[cfg(test)]
-mod parsing;
-#[cfg(test)]
 mod races;
-#[cfg(test)]
-mod trees;
 #[cfg(test)]
 mod weights;

@@ -1,35 +1,19 @@
-// A program with a call, whose weights are known, and the bounds of two texts.
-use crate::trees::{INT, assign, call, define, on_heap, program, with_x, x};
+// A text with a call and a thread, whose weights are known, and the bounds of two texts.
 use c_limits::bound;
 use c_profile::accept;
 use c_program::threads::{thread_count, thread_functions, weight};
-use c_program::tree::{BinaryOperator, Function, Program, RightSide, Statement, ThreadObject};
+use c_program::tree::{BinaryOperator, Expression, Program, Storage};
 use c_program::types::expression_type;
 use c_program::weight::{Amount, inlined_amounts};
+use hls_ints::CType;
 use std::alloc::{AllocError, Global};
 use std::process::Abort;
 use std::test::Fail;
 
-/// `int f(int x){return x < 1;} int main(void){int x = f(x);}`
-fn functions(alloc: Global) -> Result<Vec<Function>, AllocError> {
-    let mut functions = Vec::new(alloc);
-    let below = with_x(alloc, BinaryOperator::Less, 1)?;
-    let end = Statement::Return(13, Some(RightSide::Value(below)));
-    define(alloc, &mut functions, "f", 1, on_heap(alloc, end)?)?;
-    let called = call(alloc, 0, x())?;
-    let body = assign(alloc, called)?;
-    define(alloc, &mut functions, "main", 0, body)?;
-    Ok(functions)
-}
-
-/// These, and `pthread_t t[3];` for f.
-fn sample(alloc: Global) -> Result<Program, AllocError> {
-    let mut sample = program(alloc, functions(alloc)?, 1);
-    sample.threads.push(ThreadObject {
-        length: 3,
-        routine: Some(0),
-    })?;
-    Ok(sample)
+/// f weighs 1, and 1 each for its return and its operator; w 1, and 1 for its return; main 1, and 1 each for the declarator, the argument,
+/// the create and its index, and what f weighs. Each has a parameter or a local, and main also that of f.
+fn counted() -> &'static str {
+    "pthread_t t[3]; int f(int x){return x < 1;} void *w(void *arg){return NULL;} int main(void){int x = f(x); pthread_create(&t[0], NULL, w, NULL);}"
 }
 
 fn has_amounts(
@@ -47,23 +31,33 @@ fn has_routines(alloc: Global, program: &Program, wanted: &[usize]) -> Result<bo
     Ok(functions.as_slice() == wanted)
 }
 
-/// f weighs 1, and 1 each for its return and its operator; main 1, and 1 each for the declarator and the argument, and
-/// what f weighs.
+/// The weight of the program is that of main and of w.
 #[test]
 fn counts_a_call(rt: HostRuntime) -> Result<(), Fail> {
-    let program = sample(rt.alloc())?;
-    assert!(rt; has_amounts(rt.alloc(), &program, Amount::Weight, &[3, 6])?);
-    assert!(rt; has_amounts(rt.alloc(), &program, Amount::LocalElements, &[1, 2])?);
-    assert!(rt; has_routines(rt.alloc(), &program, &[1, 0])?);
-    assert!(rt; weight(rt.alloc(), &program)? == 9);
-    assert!(rt; thread_count(&program) == 4);
+    let accepted = accept(rt.alloc(), counted().as_bytes())?;
+    let program = &accepted.program;
+    assert!(rt; has_amounts(rt.alloc(), program, Amount::Weight, &[3, 2, 8])?);
+    assert!(rt; has_amounts(rt.alloc(), program, Amount::LocalElements, &[1, 1, 2])?);
+    assert!(rt; has_routines(rt.alloc(), program, &[2, 1])?);
+    assert!(rt; weight(rt.alloc(), program)? == 10);
+    assert!(rt; thread_count(program) == 4);
     Ok(())
+}
+
+/// `x < 1`, of an int x.
+fn comparison(alloc: Global) -> Result<Expression, AllocError> {
+    let x = Box::new(
+        alloc,
+        Expression::Variable(Storage::Automatic, 0, CType::INT),
+    )?;
+    let one = Box::new(alloc, Expression::Constant(CType::INT, 1))?;
+    Ok(Expression::Binary(BinaryOperator::Less, CType::INT, x, one))
 }
 
 #[test]
 fn has_the_type_of_an_operator(rt: HostRuntime) -> Result<(), Fail> {
-    let below = with_x(rt.alloc(), BinaryOperator::Less, 1)?;
-    assert!(rt; expression_type(&below) == INT);
+    let below = comparison(rt.alloc())?;
+    assert!(rt; expression_type(&below) == CType::INT);
     Ok(())
 }
 

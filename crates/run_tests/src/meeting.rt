@@ -1,11 +1,13 @@
 // Workers that run side by side.
 
 use crate::programs::{ADDING, COUNTING, PRINTING, sixty_three};
-use crate::runs::{ENTRIES, run};
 use hardware_threads::gate::Gate;
+use hls_commands::answer::Answer;
 use hls_commands::commands::Stop;
+use hls_commands::runs::run_workers;
+use hls_io::MemSource;
 use hls_status::status::Status;
-use std::alloc::Global;
+use std::alloc::{AllocError, Global};
 use std::process::Abort;
 use std::sync::Wait;
 use std::sync::atomic::{AtomicBool, AtomicU64, Ordering};
@@ -13,13 +15,16 @@ use std::test::Fail;
 use std::thread;
 use std::thread::Threads;
 
+/// The most entries of a run to its end.
+const ENTRIES: u32 = 100_000;
+
 /// How often a worker looks for the flags of the others.
 const TURNS: u64 = 1_000_000_000;
 
 /// A gate at which each worker raises a flag, at its first `before_closed` and at its first `after_closed`, and waits there for the flags of
-/// all. For no workers it is open.
+/// all.
 #[derive(Drop)]
-pub struct Meeting {
+struct Meeting {
     all: u64,
     before: AtomicU64,
     after: AtomicU64,
@@ -27,7 +32,7 @@ pub struct Meeting {
 }
 
 impl Meeting {
-    pub fn of(workers: u32) -> Meeting {
+    fn of(workers: u32) -> Meeting {
         let all = if workers < 64 {
             (1u64 << workers) - 1
         } else {
@@ -42,7 +47,7 @@ impl Meeting {
     }
 
     fn meet(&self, flags: &AtomicU64, worker: u32) {
-        if worker >= 64 || self.all == 0 {
+        if worker >= 64 {
             return;
         }
         let flag = 1u64 << worker;
@@ -67,6 +72,24 @@ impl Gate for Meeting {
     fn after_closed(&self, worker: u32) {
         self.meet(&self.after, worker);
     }
+}
+
+fn boxed(alloc: Global, answer: Answer) -> Result<Box<Answer>, AllocError> {
+    let answer = Box::new(alloc, answer)?;
+    Ok(answer)
+}
+
+/// What a run of the text by workers owes, where they meet at the gate.
+fn run<R: Threads + Wait + Sync>(
+    rt: &R,
+    alloc: Global,
+    text: &[u8],
+    entries: u32,
+    gate: &Meeting,
+) -> Result<Box<Answer>, Stop> {
+    let mut source = MemSource::new(text, 4096, &[]);
+    let answer = run_workers(rt, alloc, &mut source, entries, false, gate)?;
+    Ok(boxed(alloc, answer)?)
 }
 
 /// Whether all workers of a run of the text meet at both flags; the run ends with this status.

@@ -3,11 +3,6 @@
 pub const COUNTING: &str =
     "int main(void){int i; for (i = 1; i < 4; i++) printf(\"%d\\n\", i); return 0;}";
 
-/// Main creates a thread that no second one meets at a barrier of two.
-pub const WAITING: &str =
-    "pthread_t t; pthread_barrier_t b; void *w(void *arg){pthread_barrier_wait(&b); return NULL;} int main(void){pthread_barrier_init(&b, NULL, 2); \
-    pthread_create(&t, NULL, w, NULL); pthread_join(t, NULL); return 0;}";
-
 /// Three threads add 1 each.
 pub const ADDING: &str =
     "pthread_t t[3]; pthread_mutex_t m = PTHREAD_MUTEX_INITIALIZER; int s; void *w(void *arg){pthread_mutex_lock(&m); s = s + 1; pthread_mutex_unlock(&m); \
@@ -17,12 +12,6 @@ pub const ADDING: &str =
 pub fn adding() -> &'static str {
     ADDING
 }
-
-/// Two threads add to one global, and nothing keeps one from reading what the other is about to write.
-pub const RACING: &str =
-    "pthread_t t[2]; int sum; void *w(void *arg){int i; for (i = 0; i < 100; i++){sum = sum + 1;} return NULL;} int main(void){int i; \
-    for (i = 0; i < 2; i++) pthread_create(&t[i], NULL, w, (void *)(long)i); for (i = 0; i < 2; i++) pthread_join(t[i], NULL); printf(\"%d\\n\", sum); \
-    return 0;}";
 
 /// As many threads as a program may create: each writes an element of its own, and adds it to a sum under a mutex.
 pub fn sixty_three() -> &'static str {
