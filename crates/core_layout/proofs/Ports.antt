@@ -5,7 +5,7 @@ use Rattle.std.specs.List.{flat_map}
 use Rattle.std.proofs.Math.Nat.{mul-suc}
 use Rattle.std.proofs.lemmas.Option.{same_Some, none-some}
 use Rattle.std.proofs.lemmas.List.{length-replicate}
-use Rattle.top_wiring.specs.declared.layout.Group.{Group}
+use Rattle.top_parts.specs.declared.layout.Group.{Group}
 use Rattle.top_wiring.specs.Parts.{group_widths}
 use Rattle.core_layout.specs.Fits.{group}
 

@@ -8,9 +8,9 @@ use Rattle.circuit.specs.declared.rows.Row.{Row}
 use Rattle.circuit.specs.declared.rows.Row.TheVariants as row
 use Rattle.circuit.specs.Rows.{EachOf, spread, source_at, row_end, row_signals, laid, signal_at}
 use Rattle.bank_arbiter.specs.Arbiter.{IsArbiter, rows}
-use Rattle.top_wiring.specs.declared.layout.Layout.{Layout}
-use Rattle.top_wiring.specs.declared.wires.Wire.{Wire}
-use Rattle.top_wiring.specs.declared.wires.Wire.TheVariants.{Whole, Bit, Port}
+use Rattle.top_parts.specs.declared.layout.Layout.{Layout}
+use Rattle.top_parts.specs.declared.wires.Wire.{Wire}
+use Rattle.top_parts.specs.declared.wires.Wire.TheVariants.{Whole, Bit, Port}
 use Rattle.top_wiring.specs.Parts.{each_from}
 use Rattle.top_wiring.specs.Wires.{wire_signal}
 use Rattle.top_wiring.specs.Top.{preference, output, all_wires, done_place, IsTop}

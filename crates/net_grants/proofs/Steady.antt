@@ -16,7 +16,7 @@ use Rattle.circuit.specs.Modules.{Agree}
 use Rattle.circuit.specs.Machines.{CoreMachine, ThreadMachine}
 use Rattle.circuit.proofs.Staged.{no_deeper, staged_settles}
 use Rattle.circuit.proofs.Stepping.{obeys, holds}
-use Rattle.top_wiring.specs.declared.layout.Layout.{Layout}
+use Rattle.top_parts.specs.declared.layout.Layout.{Layout}
 use Rattle.top_wiring.specs.Parts as top_parts
 use Rattle.top_wiring.specs.Ports.{threads, cores}
 use Rattle.top_wiring.specs.Top.{starts, thread_instance, arbiter_instance}

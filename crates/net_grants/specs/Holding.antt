@@ -2,7 +2,7 @@
 use Rattle.std.specs.Prelude.{ℕ, List}
 use Rattle.netlist.specs.declared.netlist.Module.{Module}
 use Rattle.bank_arbiter.specs.Arbiter.{IsArbiter}
-use Rattle.top_wiring.specs.declared.layout.Layout.{Layout}
+use Rattle.top_parts.specs.declared.layout.Layout.{Layout}
 use Rattle.top_wiring.specs.Top.{IsTop}
 use Rattle.net_grants.specs.Steady.{HoldsNothing}
 

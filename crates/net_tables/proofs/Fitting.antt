@@ -10,7 +10,7 @@ use Rattle.netlist.specs.declared.netlist.Module.{Module}
 use Rattle.circuit.specs.Modules.{IsLeaf}
 use Rattle.circuit.specs.Interfaces.{first_of}
 use Rattle.circuit.proofs.Growth.{length-laid}
-use Rattle.top_wiring.specs.declared.layout.Core.{Core}
+use Rattle.top_parts.specs.declared.layout.Core.{Core}
 use Rattle.top_wiring.specs.Ports.{EachModule, arbiter_inputs}
 use Rattle.top_wiring.specs.Leaves.{IsThreadLeaf, IsCoreLeaf, IsArbiterLeaf, AreLeaves}
 use Rattle.top_wiring.specs.Machine.{IsCoreAt, IsArbiterAt}

@@ -14,8 +14,8 @@ use Rattle.verilog_meaning.specs.Threads.Depends.{directly, through}
 use Rattle.verilog_meaning.specs.Follows.{BankOf}
 use Rattle.verilog_meaning.proofs.Settling.{IsLevelled}
 use Rattle.circuit.proofs.Staged.{net_level, net_levelled}
-use Rattle.top_wiring.specs.declared.layout.Core.{Core}
-use Rattle.top_wiring.specs.declared.layout.Layout.{Layout}
+use Rattle.top_parts.specs.declared.layout.Core.{Core}
+use Rattle.top_parts.specs.declared.layout.Layout.{Layout}
 use Rattle.top_wiring.specs.Top.{input, output, done_place}
 use Rattle.top_wiring.specs.Leaves.{IsThreadLeaf, AreLeaves}
 use Rattle.top_wiring.specs.Ports.{EachModule}

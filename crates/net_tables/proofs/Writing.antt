@@ -8,8 +8,8 @@ use Rattle.netlist.specs.declared.netlist.Module.{Module}
 use Rattle.netlist.specs.Sound.{is_write}
 use Rattle.circuit.specs.Rows.{EachOf, spread}
 use Rattle.leaf_machine.specs.Standing.{IsSilent}
-use Rattle.top_wiring.specs.declared.layout.Core.{Core}
-use Rattle.top_wiring.specs.declared.parts.Part.{Part}
+use Rattle.top_parts.specs.declared.layout.Core.{Core}
+use Rattle.top_parts.specs.declared.parts.Part.{Part}
 use Rattle.top_wiring.specs.Parts.{ask_widths, thread_part, core_part, arbiter_part, parts}
 use Rattle.top_wiring.specs.Sound.{WritesIn, IsOf}
 use Rattle.top_wiring.proofs.Lists.{IsBehind, get_either, spread_back}

@@ -3,7 +3,7 @@ use Rattle.std.specs.Prelude.{◌≡◌, ℕ, ◌+◌, ◌^◌, ◌<◌, Bool, L
 use Rattle.netlist.specs.declared.netlist.Module.{Module}
 use Rattle.circuit.specs.Rows.{EachOf}
 use Rattle.circuit.specs.Interfaces.{first_of, HasInterface}
-use Rattle.top_wiring.specs.declared.layout.Core.{Core}
+use Rattle.top_parts.specs.declared.layout.Core.{Core}
 use Rattle.top_wiring.specs.Parts.{core_outputs, thread_outputs, ask_widths}
 use Rattle.top_wiring.specs.Ports.{threads, asked, asked_before, told_before, thread_inputs, core_inputs, arbiter_inputs, arbiter_outputs}
 use Rattle.top_wiring.specs.Top.{IsSmall}

@@ -12,7 +12,7 @@ use Rattle.global_banks.specs.Banks.{behind, is_decimal}
 use Rattle.global_banks.proofs.Digits.{minimal_passes}
 use Rattle.sim_layout.specs.Rounds.{is_input, is_number, is_pref, pref_count}
 use Rattle.circuit.specs.Rows.{spread}
-use Rattle.top_wiring.specs.declared.layout.Layout.{Layout}
+use Rattle.top_parts.specs.declared.layout.Layout.{Layout}
 use Rattle.top_wiring.specs.Parts.{each_from}
 use Rattle.top_wiring.specs.Ports.{cores}
 use Rattle.top_wiring.specs.Top.{input, output, preference, all_wires, done_place, IsTop}

@@ -12,7 +12,7 @@ use Rattle.verilog_meaning.specs.Ports.{HasDone, TakesInput}
 use Rattle.circuit.specs.Rows.{EachOf}
 use Rattle.circuit.proofs.Filters.{each_there}
 use Rattle.sim_layout.specs.Rounds.{prefs_of}
-use Rattle.top_wiring.specs.declared.layout.Layout.{Layout}
+use Rattle.top_parts.specs.declared.layout.Layout.{Layout}
 use Rattle.top_wiring.specs.Sound.{AreSound}
 use Rattle.top_wiring.specs.Round.{inner, round_signals}
 use Rattle.top_wiring.specs.Top.{input, output}

@@ -10,7 +10,7 @@ use Rattle.verilog_meaning.specs.Threads.{all_enabled}
 use Rattle.verilog_meaning.specs.Follows.{IsDetermined}
 use Rattle.sim_layout.specs.Rounds.{enable_width, enables, threads_of, prefs_in, prefs_of, rounds, Tells, IsGoing}
 use Rattle.round_robin.specs.Round.{turns, IsRound}
-use Rattle.top_wiring.specs.declared.layout.Layout.{Layout}
+use Rattle.top_parts.specs.declared.layout.Layout.{Layout}
 use Rattle.top_wiring.specs.Leaves.{SettlesOnce}
 use Rattle.top_wiring.specs.Wired.{IsWired}
 use Rattle.round_net.specs.Alike.{Ends}

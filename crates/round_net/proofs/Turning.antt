@@ -9,7 +9,7 @@ use Rattle.verilog_meaning.specs.Readings.{initial_reading, initial_signal}
 use Rattle.verilog_meaning.specs.Cycles.{Path, Valuation, Choice, IsSameIn, IsSettled, Cycle, Runs, Reaches, ShowsDone, next_state, initial_state}
 use Rattle.sim_layout.specs.Rounds.{round, rounds}
 use Rattle.cycle_sim.proofs.Same.{same_trans, runs_from_same}
-use Rattle.top_wiring.specs.declared.layout.Layout.{Layout}
+use Rattle.top_parts.specs.declared.layout.Layout.{Layout}
 use Rattle.top_wiring.specs.Round.{inner}
 use Rattle.top_wiring.specs.Top.{output, done_place}
 use Rattle.top_wiring.specs.Wired.{IsWired}

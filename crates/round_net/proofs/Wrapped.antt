@@ -18,9 +18,9 @@ use Rattle.verilog_meaning.specs.Names.{numbered}
 use Rattle.verilog_meaning.specs.Readings.{signal_width, width, or_zero, written, register_after, action_bytes}
 use Rattle.verilog_meaning.specs.Cycles.{Valuation, Choice, IsRegister, instance_at, connected, pref_number, choice_number, number, IsAt, IsSettled, next_state}
 use Rattle.sim_layout.specs.Rounds.{round}
-use Rattle.top_wiring.specs.declared.layout.Layout.{Layout}
-use Rattle.top_wiring.specs.declared.wires.Wire.{Wire}
-use Rattle.top_wiring.specs.declared.wires.Wire.TheVariants as wires
+use Rattle.top_parts.specs.declared.layout.Layout.{Layout}
+use Rattle.top_parts.specs.declared.wires.Wire.{Wire}
+use Rattle.top_parts.specs.declared.wires.Wire.TheVariants as wires
 use Rattle.top_wiring.specs.Wires.{source_of, wire_signal}
 use Rattle.top_wiring.specs.Top.{input, preference, output, all_wires, done_place}
 use Rattle.top_wiring.specs.Round.{inner, round_signals, top_instance}

@@ -13,7 +13,7 @@ use Rattle.verilog_meaning.specs.Readings.{Reading, width}
 use Rattle.verilog_meaning.specs.Cycles.{Path, Valuation, Choice, number, IsSameIn, IsSettled, IsWritten, Cycle, Runs, Reaches, ShowsDone, next_state, initial_state}
 use Rattle.sim_layout.specs.Rounds.{round, rounds}
 use Rattle.cycle_sim.proofs.Same.{same_trans, shows_moved, runs_from_same}
-use Rattle.top_wiring.specs.declared.layout.Layout.{Layout}
+use Rattle.top_parts.specs.declared.layout.Layout.{Layout}
 use Rattle.top_wiring.specs.Round.{round_signals}
 use Rattle.top_wiring.specs.Top.{output, done_place}
 use Rattle.top_wiring.specs.Wired.{IsWired}

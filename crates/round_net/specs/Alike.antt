@@ -6,7 +6,7 @@ use Rattle.verilog_meaning.specs.Cycles.{Valuation, Choice, IsSameIn, Reaches, S
 use Rattle.verilog_meaning.specs.Threads.{all_enabled}
 use Rattle.verilog_meaning.specs.Follows.{IsDetermined}
 use Rattle.sim_layout.specs.Rounds.{round, rounds}
-use Rattle.top_wiring.specs.declared.layout.Layout.{Layout}
+use Rattle.top_parts.specs.declared.layout.Layout.{Layout}
 use Rattle.top_wiring.specs.Ports.{threads, cores}
 use Rattle.top_wiring.specs.Leaves.{SettlesOnce}
 use Rattle.top_wiring.specs.Wired.{IsWired}

@@ -3,7 +3,7 @@ use Rattle.std.specs.Prelude.{◌≡◌, ◌≢◌, ℕ, List, Some, slice_get, 
 use Rattle.netlist.specs.declared.netlist.Module.{Module}
 use Rattle.netlist.specs.declared.netlist.Netlist.{Netlist}
 use Rattle.verilog_meaning.specs.Names.{module_named}
-use Rattle.top_wiring.specs.declared.layout.Layout.{Layout}
+use Rattle.top_parts.specs.declared.layout.Layout.{Layout}
 use Rattle.top_wiring.specs.Wired.{IsWired}
 
 -- none of these modules has a name

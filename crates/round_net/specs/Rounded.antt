@@ -7,7 +7,7 @@ use Rattle.netlist.specs.declared.netlist.Source.TheVariants.{Input}
 use Rattle.verilog_meaning.specs.Names.{module_named}
 use Rattle.verilog_meaning.specs.Ports.{HasDone, TakesInput}
 use Rattle.sim_layout.specs.Rounds.{prefs_of}
-use Rattle.top_wiring.specs.declared.layout.Layout.{Layout}
+use Rattle.top_parts.specs.declared.layout.Layout.{Layout}
 use Rattle.top_wiring.specs.Ports.{threads}
 use Rattle.top_wiring.specs.Sound.{AreSound}
 use Rattle.top_wiring.specs.Wired.{IsWired}

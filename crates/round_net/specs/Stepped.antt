@@ -6,7 +6,7 @@ use Rattle.verilog_meaning.specs.Cycles.{Choice}
 use Rattle.verilog_meaning.specs.Follows.{IsDetermined}
 use Rattle.sim_layout.specs.Rounds.{threads_of}
 use Rattle.round_robin.specs.Round.{IsRound}
-use Rattle.top_wiring.specs.declared.layout.Layout.{Layout}
+use Rattle.top_parts.specs.declared.layout.Layout.{Layout}
 use Rattle.top_wiring.specs.Ports.{threads, cores}
 use Rattle.top_wiring.specs.Leaves.{SettlesOnce}
 use Rattle.top_wiring.specs.Wired.{IsWired}

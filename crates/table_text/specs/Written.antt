@@ -8,7 +8,7 @@ use Rattle.netlist.specs.declared.netlist.Netlist.{Netlist}
 use Rattle.netlist.specs.NetlistOf.{netlist_of}
 use Rattle.netlist.specs.Laid.{IsLaid}
 use Rattle.netlist.specs.Sound.{IsSound}
-use Rattle.top_wiring.specs.declared.layout.Layout.{Layout}
+use Rattle.top_parts.specs.declared.layout.Layout.{Layout}
 use Rattle.top_wiring.specs.Sound.{AreSound}
 use Rattle.top_wiring.specs.Wired.{IsWired}
 use Rattle.placed_cores.specs.Tables.{Table, IsArbiterModule, layout_of, modules_of}

@@ -12,10 +12,10 @@ use Rattle.netlist.specs.declared.netlist.Module.{Module}
 use Rattle.netlist.specs.declared.netlist.Netlist.{Netlist}
 use Rattle.verilog_meaning.specs.Names.{numbered, module_named, top_of}
 use Rattle.verilog_meaning.specs.Threads.{instance_named}
-use Rattle.top_wiring.specs.declared.layout.Layout.{Layout}
-use Rattle.top_wiring.specs.declared.wires.Wire.TheVariants.{Port}
-use Rattle.top_wiring.specs.Parts.{ask_widths, thread_outputs, thread_part, parts}
-use Rattle.top_wiring.specs.Wires.{first_port, wire_signal}
+use Rattle.top_parts.specs.declared.layout.Layout.{Layout}
+use Rattle.top_parts.specs.declared.wires.Wire.TheVariants.{Port}
+use Rattle.top_parts.specs.Parts.{ask_widths, thread_outputs, thread_part, parts}
+use Rattle.top_parts.specs.Wires.{first_port, wire_signal}
 use Rattle.top_wiring.specs.Top.{preference, starts, all_wires, done_place, thread_instance, IsSmall}
 use Rattle.top_wiring.specs.Wired.{IsWired}
 use Rattle.top_wiring.specs.Found.{IsFound, TopsAreFound}

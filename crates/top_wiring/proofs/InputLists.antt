@@ -6,9 +6,9 @@ use Rattle.std.proofs.lemmas.List.{length-replicate}
 use Rattle.lists.proofs.Places.{get_front}
 use Rattle.circuit.specs.Rows.{spread}
 use Rattle.circuit.proofs.Growth.{length-spread}
-use Rattle.top_wiring.specs.declared.layout.Group.{Group}
-use Rattle.top_wiring.specs.declared.layout.Core.{Core}
-use Rattle.top_wiring.specs.Parts.{flat_from, flat_spread, group_widths, told_widths}
+use Rattle.top_parts.specs.declared.layout.Group.{Group}
+use Rattle.top_parts.specs.declared.layout.Core.{Core}
+use Rattle.top_parts.specs.Parts.{flat_from, flat_spread, group_widths, told_widths}
 use Rattle.top_wiring.specs.Top.{run, grant_places, told_places, thread_inputs, group_places, core_inputs, arbiter_inputs}
 use Rattle.top_wiring.proofs.Lists.{get_behind, get_spread, get_flat_from, get_flat_spread, length-flat_spread}
 

@@ -4,12 +4,12 @@ use Rattle.std.specs.Prelude.{slice_get}
 use Rattle.netlist.specs.declared.netlist.Instance.{Instance}
 use Rattle.netlist.specs.declared.netlist.Module.{Module}
 use Rattle.circuit.specs.Rows.{spread}
-use Rattle.top_wiring.specs.declared.layout.Core.{Core}
-use Rattle.top_wiring.specs.declared.layout.Layout.{Layout}
-use Rattle.top_wiring.specs.Parts.{each_from, ask_widths, parts}
+use Rattle.top_parts.specs.declared.layout.Core.{Core}
+use Rattle.top_parts.specs.declared.layout.Layout.{Layout}
+use Rattle.top_parts.specs.Parts.{each_from, ask_widths, parts}
 use Rattle.top_wiring.specs.Top.{thread_instance, core_instance, arbiter_instance, starts, IsTop}
 use Rattle.top_wiring.specs.Ports.{EachModule}
-use Rattle.top_wiring.proofs.Growing.{length-each_from}
+use Rattle.top_parts.proofs.Growing.{length-each_from}
 use Rattle.top_wiring.proofs.Lists.{get_either, each_back, spread_back, IsBehind}
 
 module _ (layout : Layout) (modules : List Module) where

@@ -14,12 +14,12 @@ use Rattle.netlist.specs.declared.netlist.Source.{Source}
 use Rattle.netlist.specs.declared.netlist.Source.TheVariants as source
 use Rattle.netlist.specs.declared.netlist.Signal.{Signal}
 use Rattle.netlist.specs.declared.netlist.Module.{Module}
-use Rattle.top_wiring.specs.declared.layout.Group.{Group}
-use Rattle.top_wiring.specs.declared.layout.Core.{Core}
-use Rattle.top_wiring.specs.declared.layout.Layout.{Layout}
-use Rattle.top_wiring.specs.declared.wires.Wire.TheVariants.{Whole, Bit, Port}
-use Rattle.top_wiring.specs.Parts.{group_widths, ask_widths, told_widths, core_outputs, thread_part, core_part, arbiter_part}
-use Rattle.top_wiring.specs.Wires.{first_port, wire_signal}
+use Rattle.top_parts.specs.declared.layout.Group.{Group}
+use Rattle.top_parts.specs.declared.layout.Core.{Core}
+use Rattle.top_parts.specs.declared.layout.Layout.{Layout}
+use Rattle.top_parts.specs.declared.wires.Wire.TheVariants.{Whole, Bit, Port}
+use Rattle.top_parts.specs.Parts.{group_widths, ask_widths, told_widths, core_outputs, thread_part, core_part, arbiter_part}
+use Rattle.top_parts.specs.Wires.{first_port, wire_signal}
 use Rattle.top_wiring.specs.Top.{input, preference, starts, thread_inputs, core_inputs, arbiter_inputs, IsTop}
 use Rattle.top_wiring.specs.Ports as ports
 use Rattle.top_wiring.proofs.Lists.{get_behind, get_each_copied, get_flat_map, copies_back, get_either, flat_map_back}

@@ -1,4 +1,3 @@
-pub mod Growing
 pub mod Steps
 pub mod Lists
 pub mod Standing

@@ -10,10 +10,10 @@ use Rattle.lists.proofs.Places.{get_front, get_back, copies_there}
 use Rattle.netlist.specs.declared.netlist.Module.{Module}
 use Rattle.circuit.specs.Rows.{spread}
 use Rattle.circuit.proofs.Growth.{slice_get-spread}
-use Rattle.top_wiring.specs.declared.parts.Part.{Part}
-use Rattle.top_wiring.specs.Parts.{each_from, flat_from, flat_spread}
-use Rattle.top_wiring.specs.Wires.{ports, starts_from}
-use Rattle.top_wiring.proofs.Growing.{length-ports}
+use Rattle.top_parts.specs.declared.parts.Part.{Part}
+use Rattle.top_parts.specs.Parts.{each_from, flat_from, flat_spread}
+use Rattle.top_parts.specs.Wires.{ports, starts_from}
+use Rattle.top_parts.proofs.Growing.{length-ports}
 
 -- the same, where the length is known
 pub get_behind : {A : Type 0} (n : ℕ) (xs ys : List A) (i : ℕ) (x : A) → length xs ≡ n → slice_get ys i ≡ Some x → slice_get (xs ++ ys) (n + i) ≡ Some x

@@ -10,12 +10,12 @@ use Rattle.netlist.specs.declared.netlist.Instance.{Instance}
 use Rattle.netlist.specs.declared.netlist.Module.{Module}
 use Rattle.netlist.specs.Laid.{AreApart, signal_names, memory_names, instance_names, declared_names}
 use Rattle.verilog_meaning.specs.Names.{numbered}
-use Rattle.top_wiring.specs.declared.layout.Core.{Core}
-use Rattle.top_wiring.specs.declared.layout.Layout.{Layout}
+use Rattle.top_parts.specs.declared.layout.Core.{Core}
+use Rattle.top_parts.specs.declared.layout.Layout.{Layout}
 use Rattle.top_wiring.specs.Top.{all_wires, IsTop}
 use Rattle.circuit.specs.Interfaces.{HasInterface}
 use Rattle.top_wiring.specs.Sound.{AreSound}
-use Rattle.top_wiring.specs.Parts.{ask_widths, thread_outputs, core_outputs}
+use Rattle.top_parts.specs.Parts.{ask_widths, thread_outputs, core_outputs}
 use Rattle.top_wiring.specs.Ports as ports
 use Rattle.top_wiring.proofs.Steps.{wires_low}
 use Rattle.top_wiring.proofs.Lists.{get_either}

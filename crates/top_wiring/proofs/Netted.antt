@@ -15,7 +15,7 @@ use Rattle.netlist.specs.declared.netlist.Netlist.{Netlist}
 use Rattle.netlist.specs.Laid.{AreApart, module_names, IsLaidModule}
 use Rattle.netlist.specs.Sound.{is_write, Writes, Places, IsPrinting, IsSoundModule, IsSound}
 use Rattle.netlist.specs.Sound as Sound
-use Rattle.top_wiring.specs.declared.layout.Layout.{Layout}
+use Rattle.top_parts.specs.declared.layout.Layout.{Layout}
 use Rattle.top_wiring.specs.Round.{count, top_instance}
 use Rattle.top_wiring.specs.Sound.{AreSound, WritesIn, IsOf, NetsAreSound}
 use Rattle.top_wiring.specs.Wired.{IsWired}

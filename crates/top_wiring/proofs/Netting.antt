@@ -15,13 +15,13 @@ use Rattle.verilog_meaning.specs.Cycles.{module_at}
 use Rattle.circuit.specs.Machines.{CoreMachine, IsCore, ThreadMachine, IsThread}
 use Rattle.circuit.specs.Arbitration.{Arbitrates}
 use Rattle.circuit.specs.Wiring.{NetPlaces, IsFed, IsNet, Stands, IsEnabledBy, IsAskedBy, IsInstanceOf}
-use Rattle.top_wiring.specs.declared.layout.Group.{Group}
-use Rattle.top_wiring.specs.declared.layout.Core.{Core}
-use Rattle.top_wiring.specs.declared.layout.Layout.{Layout}
-use Rattle.top_wiring.specs.declared.parts.Part.{Part}
-use Rattle.top_wiring.specs.declared.wires.Wire.TheVariants.{Whole, Bit, Port}
-use Rattle.top_wiring.specs.Parts.{group_widths, ask_widths, thread_outputs, core_outputs, thread_part, core_part, arbiter_part, parts}
-use Rattle.top_wiring.specs.Wires.{ports_from, first_port, wire_signal}
+use Rattle.top_parts.specs.declared.layout.Group.{Group}
+use Rattle.top_parts.specs.declared.layout.Core.{Core}
+use Rattle.top_parts.specs.declared.layout.Layout.{Layout}
+use Rattle.top_parts.specs.declared.parts.Part.{Part}
+use Rattle.top_parts.specs.declared.wires.Wire.TheVariants.{Whole, Bit, Port}
+use Rattle.top_parts.specs.Parts.{group_widths, ask_widths, thread_outputs, core_outputs, thread_part, core_part, arbiter_part, parts}
+use Rattle.top_parts.specs.Wires.{ports_from, first_port, wire_signal}
 use Rattle.top_wiring.specs.Top.{input, preference, thread_instance, core_instance, arbiter_instance, starts}
 use Rattle.circuit.specs.Interfaces.{first_of}
 use Rattle.top_wiring.specs.Ports.{asked_before, told_before, arbiter_outputs}

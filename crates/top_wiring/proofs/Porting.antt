@@ -6,10 +6,10 @@ use Rattle.netlist.specs.declared.netlist.Signal.{Signal}
 use Rattle.netlist.specs.declared.netlist.Module.{Module}
 use Rattle.verilog_meaning.specs.Names.{numbered}
 use Rattle.verilog_meaning.specs.Ports.{HasPorts}
-use Rattle.top_wiring.specs.declared.layout.Layout.{Layout}
-use Rattle.top_wiring.specs.declared.wires.Wire.{Wire}
-use Rattle.top_wiring.specs.declared.wires.Wire.TheVariants.{Whole, Bit, Port}
-use Rattle.top_wiring.specs.Wires.{source_of, wire_signal}
+use Rattle.top_parts.specs.declared.layout.Layout.{Layout}
+use Rattle.top_parts.specs.declared.wires.Wire.{Wire}
+use Rattle.top_parts.specs.declared.wires.Wire.TheVariants.{Whole, Bit, Port}
+use Rattle.top_parts.specs.Wires.{source_of, wire_signal}
 use Rattle.top_wiring.specs.Top.{input, preference, output, all_wires, done_place, IsTop}
 use Rattle.top_wiring.proofs.SignalKinds as signals
 use Rattle.top_wiring.proofs.SignalKinds.SignalKind.{clock, mask, chosen, wire, done}

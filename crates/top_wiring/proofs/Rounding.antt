@@ -24,7 +24,7 @@ use Rattle.netlist.specs.Sound.{IsSoundSignal, is_clk_at, input_fits, action_fit
 use Rattle.verilog_meaning.specs.Names.{numbered}
 use Rattle.circuit.specs.Rows.{spread}
 use Rattle.circuit.proofs.Growth.{length-spread}
-use Rattle.top_wiring.specs.declared.layout.Layout.{Layout}
+use Rattle.top_parts.specs.declared.layout.Layout.{Layout}
 use Rattle.top_wiring.specs.Top.{input, preference, output, done_place, all_wires, IsTop}
 use Rattle.top_wiring.specs.Round.{inner, round_signals, top_instance, count, IsRound}
 use Rattle.top_wiring.specs.Sound.{AreSound}

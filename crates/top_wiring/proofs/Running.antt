@@ -14,11 +14,11 @@ use Rattle.circuit.specs.Wiring.{NetState, NetPlaces, ShowsAll}
 use Rattle.circuit.proofs.Staged.{from_then}
 use Rattle.circuit.proofs.Stepping.{obeys, holds}
 use Rattle.circuit.proofs.Running as running
-use Rattle.top_wiring.specs.declared.layout.Core.{Core}
-use Rattle.top_wiring.specs.declared.layout.Layout.{Layout}
-use Rattle.top_wiring.specs.declared.wires.Wire.TheVariants.{Port}
-use Rattle.top_wiring.specs.Parts.{ask_widths, thread_outputs, thread_part}
-use Rattle.top_wiring.specs.Wires.{wire_signal}
+use Rattle.top_parts.specs.declared.layout.Core.{Core}
+use Rattle.top_parts.specs.declared.layout.Layout.{Layout}
+use Rattle.top_parts.specs.declared.wires.Wire.TheVariants.{Port}
+use Rattle.top_parts.specs.Parts.{ask_widths, thread_outputs, thread_part}
+use Rattle.top_parts.specs.Wires.{wire_signal}
 use Rattle.top_wiring.specs.Top.{preference, output, done_place}
 use Rattle.circuit.specs.Interfaces.{first_of}
 use Rattle.top_wiring.specs.Ports.{threads, cores}

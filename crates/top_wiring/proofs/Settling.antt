@@ -17,13 +17,13 @@ use Rattle.circuit.specs.Modules.{Has, IsLeaf, IsSoundSource, FitsAction, FitsMe
 use Rattle.circuit.specs.Staging.{Stages, port_stage, ReadsWire, ReadsPort, IsStagedSource, IsConnected, IsStaged}
 use Rattle.circuit.proofs.Staged.{from_then, net_fits, net_statements, staged_settles, staged_same}
 use Rattle.circuit.proofs.States.{keeps_states}
-use Rattle.top_wiring.specs.declared.layout.Core.{Core}
-use Rattle.top_wiring.specs.declared.layout.Layout.{Layout}
-use Rattle.top_wiring.specs.declared.parts.Part.{Part}
-use Rattle.top_wiring.specs.declared.wires.Wire.{Wire}
-use Rattle.top_wiring.specs.declared.wires.Wire.TheVariants.{Port}
-use Rattle.top_wiring.specs.Parts.{ask_widths, thread_outputs, core_outputs, thread_part, core_part, arbiter_part, parts}
-use Rattle.top_wiring.specs.Wires.{first_port, wire_signal}
+use Rattle.top_parts.specs.declared.layout.Core.{Core}
+use Rattle.top_parts.specs.declared.layout.Layout.{Layout}
+use Rattle.top_parts.specs.declared.parts.Part.{Part}
+use Rattle.top_parts.specs.declared.wires.Wire.{Wire}
+use Rattle.top_parts.specs.declared.wires.Wire.TheVariants.{Port}
+use Rattle.top_parts.specs.Parts.{ask_widths, thread_outputs, core_outputs, thread_part, core_part, arbiter_part, parts}
+use Rattle.top_parts.specs.Wires.{first_port, wire_signal}
 use Rattle.top_wiring.specs.Top.{input, output, starts, all_wires, done_place, thread_instance, core_instance, arbiter_instance}
 use Rattle.top_wiring.specs.Ports as ports
 use Rattle.circuit.specs.Interfaces.{first_of, HasPorts}

@@ -7,14 +7,14 @@ use Rattle.std.proofs.lemmas.Option.{same_Some, none-some}
 use Rattle.netlist.specs.declared.netlist.Signal.{Signal}
 use Rattle.netlist.specs.declared.netlist.Module.{Module}
 use Rattle.circuit.specs.Rows.{spread}
-use Rattle.top_wiring.specs.declared.layout.Layout.{Layout}
-use Rattle.top_wiring.specs.declared.parts.Part.{Part}
-use Rattle.top_wiring.specs.declared.wires.Wire.{Wire}
-use Rattle.top_wiring.specs.declared.wires.Wire.TheVariants.{Whole, Bit, Port}
-use Rattle.top_wiring.specs.Parts.{each_from, parts}
-use Rattle.top_wiring.specs.Wires.{first_port, port_wire, ports, enables, blocks, wire_signal}
+use Rattle.top_parts.specs.declared.layout.Layout.{Layout}
+use Rattle.top_parts.specs.declared.parts.Part.{Part}
+use Rattle.top_parts.specs.declared.wires.Wire.{Wire}
+use Rattle.top_parts.specs.declared.wires.Wire.TheVariants.{Whole, Bit, Port}
+use Rattle.top_parts.specs.Parts.{each_from, parts}
+use Rattle.top_parts.specs.Wires.{first_port, port_wire, ports, enables, blocks, wire_signal}
 use Rattle.top_wiring.specs.Top.{input, preference, output, starts, all_wires, done_place, IsTop}
-use Rattle.top_wiring.proofs.Growing.{length-each_from}
+use Rattle.top_parts.proofs.Growing.{length-each_from}
 use Rattle.top_wiring.proofs.Lists.{get_either, each_back, spread_back, flat_from_back, IsBehind}
 use Rattle.top_wiring.proofs.Standing as standing
 

@@ -21,14 +21,14 @@ use Rattle.netlist.specs.Laid.{EachAt, AreSignals, kind_of, is_input_port, is_in
 use Rattle.netlist.specs.Sound.{width, width_read, has_width, source_fits, IsSoundSignal, is_clk_at, input_fits, IsSoundInstance, IsSoundModule}
 use Rattle.circuit.specs.Rows.{spread}
 use Rattle.circuit.proofs.Growth.{length-spread}
-use Rattle.top_wiring.specs.declared.layout.Group.{Group}
-use Rattle.top_wiring.specs.declared.layout.Core.{Core}
-use Rattle.top_wiring.specs.declared.layout.Layout.{Layout}
-use Rattle.top_wiring.specs.declared.parts.Part.{Part}
-use Rattle.top_wiring.specs.declared.wires.Wire.{Wire}
-use Rattle.top_wiring.specs.declared.wires.Wire.TheVariants.{Whole, Bit, Port}
-use Rattle.top_wiring.specs.Parts.{each_from, group_widths, ask_widths, told_widths, thread_outputs, core_outputs, thread_part, core_part, arbiter_part, parts, output_count}
-use Rattle.top_wiring.specs.Wires.{ports_from, first_port, wire_signal}
+use Rattle.top_parts.specs.declared.layout.Group.{Group}
+use Rattle.top_parts.specs.declared.layout.Core.{Core}
+use Rattle.top_parts.specs.declared.layout.Layout.{Layout}
+use Rattle.top_parts.specs.declared.parts.Part.{Part}
+use Rattle.top_parts.specs.declared.wires.Wire.{Wire}
+use Rattle.top_parts.specs.declared.wires.Wire.TheVariants.{Whole, Bit, Port}
+use Rattle.top_parts.specs.Parts.{each_from, group_widths, ask_widths, told_widths, thread_outputs, core_outputs, thread_part, core_part, arbiter_part, parts, output_count}
+use Rattle.top_parts.specs.Wires.{ports_from, first_port, wire_signal}
 use Rattle.top_wiring.specs.Top.{input, preference, output, run, starts, all_wires, done_place, thread_inputs, core_inputs, arbiter_inputs, outputs_at, thread_instance, IsTop}
 use Rattle.top_wiring.specs.Ports as ports
 use Rattle.circuit.specs.Interfaces.{HasInterface}

@@ -11,15 +11,15 @@ use Rattle.netlist.specs.declared.netlist.Instance.{Instance}
 use Rattle.netlist.specs.declared.netlist.Module.{Module}
 use Rattle.circuit.specs.Rows.{spread}
 use Rattle.circuit.proofs.Growth.{length-spread}
-use Rattle.top_wiring.specs.declared.layout.Core.{Core}
-use Rattle.top_wiring.specs.declared.layout.Layout.{Layout}
-use Rattle.top_wiring.specs.declared.parts.Part.{Part}
-use Rattle.top_wiring.specs.declared.wires.Wire.{Wire}
-use Rattle.top_wiring.specs.declared.wires.Wire.TheVariants.{Whole, Bit, Port}
-use Rattle.top_wiring.specs.Parts.{each_from, flat_from, ask_widths, thread_part, core_part, arbiter_part, parts, output_count}
-use Rattle.top_wiring.specs.Wires.{first_port, port_wire, ports, enables, blocks, wire_signal}
+use Rattle.top_parts.specs.declared.layout.Core.{Core}
+use Rattle.top_parts.specs.declared.layout.Layout.{Layout}
+use Rattle.top_parts.specs.declared.parts.Part.{Part}
+use Rattle.top_parts.specs.declared.wires.Wire.{Wire}
+use Rattle.top_parts.specs.declared.wires.Wire.TheVariants.{Whole, Bit, Port}
+use Rattle.top_parts.specs.Parts.{each_from, flat_from, ask_widths, thread_part, core_part, arbiter_part, parts, output_count}
+use Rattle.top_parts.specs.Wires.{first_port, port_wire, ports, enables, blocks, wire_signal}
 use Rattle.top_wiring.specs.Top.{input, preference, output, thread_instance, core_instance, arbiter_instance, all_wires, starts, done_place, IsTop}
-use Rattle.top_wiring.proofs.Growing.{length-each_from}
+use Rattle.top_parts.proofs.Growing.{length-each_from}
 use Rattle.top_wiring.proofs.Lists.{get_behind, get_each, get_spread, get_flat_from, starts_at}
 
 -- the wire that says whether thread i is enabled

@@ -10,8 +10,8 @@ use Rattle.verilog_meaning.specs.Ports.{HasPorts}
 use Rattle.verilog_meaning.specs.Threads.{slot, IsChoice}
 use Rattle.circuit.specs.Interfaces.{first_of}
 use Rattle.circuit.specs.Nets.{FitsChoice}
-use Rattle.top_wiring.specs.declared.layout.Layout.{Layout}
-use Rattle.top_wiring.specs.Parts.{ask_widths, thread_outputs}
+use Rattle.top_parts.specs.declared.layout.Layout.{Layout}
+use Rattle.top_parts.specs.Parts.{ask_widths, thread_outputs}
 use Rattle.top_wiring.specs.Top.{input, output, done_place, IsSmall}
 use Rattle.top_wiring.specs.Ports.{threads, cores, asked}
 use Rattle.top_wiring.specs.Wired.{IsWired}

@@ -7,9 +7,9 @@ use Rattle.verilog_meaning.specs.Cycles.{Valuation, Choice, IsAt, IsSettled, IsS
 use Rattle.verilog_meaning.specs.Threads.{IsChoice}
 use Rattle.circuit.specs.Modules.{IsLeaf}
 use Rattle.circuit.specs.Staging.{Stages, IsStaged}
-use Rattle.top_wiring.specs.declared.layout.Core.{Core}
-use Rattle.top_wiring.specs.declared.layout.Layout.{Layout}
-use Rattle.top_wiring.specs.Parts.{group_widths, ask_widths, thread_outputs, core_outputs}
+use Rattle.top_parts.specs.declared.layout.Core.{Core}
+use Rattle.top_parts.specs.declared.layout.Layout.{Layout}
+use Rattle.top_parts.specs.Parts.{group_widths, ask_widths, thread_outputs, core_outputs}
 use Rattle.circuit.specs.Interfaces.{first_of, HasPorts}
 use Rattle.top_wiring.specs.Ports.{threads, cores, told, thread_inputs, core_inputs, arbiter_inputs, arbiter_outputs, EachModule}
 use Rattle.top_wiring.specs.Wired.{IsWired}

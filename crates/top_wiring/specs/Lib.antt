@@ -1,5 +1,5 @@
-pub mod Parts
-pub mod Wires
+pub use Rattle.top_parts.specs.Parts
+pub use Rattle.top_parts.specs.Wires
 pub mod Top
 pub mod Round
 pub mod Wired

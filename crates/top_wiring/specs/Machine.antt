@@ -10,10 +10,10 @@ use Rattle.circuit.specs.Interfaces.{first_of}
 use Rattle.circuit.specs.Arbitration.{ArbiterPlaces, Arbitrates}
 use Rattle.circuit.specs.Machines.{CoreMachine, CorePlaces, IsCore, ThreadMachine, ThreadPlaces, IsThread}
 use Rattle.circuit.specs.Wiring.{NetState, stepped, output, start, run, outputs, PrintsAlone, NetPlaces, IsNet, ShowsAll}
-use Rattle.top_wiring.specs.declared.layout.Group.{Group}
-use Rattle.top_wiring.specs.declared.layout.Core.{Core}
-use Rattle.top_wiring.specs.declared.layout.Layout.{Layout}
-use Rattle.top_wiring.specs.Parts.{group_widths, ask_widths, thread_outputs, core_outputs}
+use Rattle.top_parts.specs.declared.layout.Group.{Group}
+use Rattle.top_parts.specs.declared.layout.Core.{Core}
+use Rattle.top_parts.specs.declared.layout.Layout.{Layout}
+use Rattle.top_parts.specs.Parts.{group_widths, ask_widths, thread_outputs, core_outputs}
 use Rattle.top_wiring.specs.Ports.{threads, cores, asked, asked_before, told_before, arbiter_outputs, EachModule}
 use Rattle.top_wiring.specs.Wired.{IsWired}
 

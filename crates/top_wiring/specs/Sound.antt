@@ -4,10 +4,10 @@ use Rattle.netlist.specs.declared.netlist.Action.{Action}
 use Rattle.netlist.specs.declared.netlist.Module.{Module}
 use Rattle.netlist.specs.Laid.{AreApart, IsLaidModule, module_names}
 use Rattle.netlist.specs.Sound.{IsSoundModule, is_write, IsSound}
-use Rattle.top_wiring.specs.declared.layout.Core.{Core}
-use Rattle.top_wiring.specs.declared.layout.Layout.{Layout}
-use Rattle.top_wiring.specs.declared.parts.Part.{Part}
-use Rattle.top_wiring.specs.Parts.{ask_widths, thread_outputs, core_outputs, parts}
+use Rattle.top_parts.specs.declared.layout.Core.{Core}
+use Rattle.top_parts.specs.declared.layout.Layout.{Layout}
+use Rattle.top_parts.specs.declared.parts.Part.{Part}
+use Rattle.top_parts.specs.Parts.{ask_widths, thread_outputs, core_outputs, parts}
 use Rattle.top_wiring.specs.Top.{IsSmall}
 use Rattle.top_wiring.specs.Wired.{IsWired}
 use Rattle.netlist.specs.declared.netlist.Netlist.{Netlist}

@@ -7,13 +7,13 @@ use Rattle.netlist.specs.declared.netlist.Instance.{Instance}
 use Rattle.netlist.specs.declared.netlist.Module.{Module}
 use Rattle.verilog_meaning.specs.Names.{numbered}
 use Rattle.circuit.specs.Rows.{spread, EachOf}
-use Rattle.top_wiring.specs.declared.layout.Group.{Group}
-use Rattle.top_wiring.specs.declared.layout.Core.{Core}
-use Rattle.top_wiring.specs.declared.layout.Layout.{Layout}
-use Rattle.top_wiring.specs.declared.parts.Part.{Part}
-use Rattle.top_wiring.specs.declared.wires.Wire.{Wire}
-use Rattle.top_wiring.specs.Parts.{each_from, flat_from, flat_spread, group_widths, ask_widths, told_widths, output_count, parts}
-use Rattle.top_wiring.specs.Wires.{enables, blocks, starts_from, wire_signal}
+use Rattle.top_parts.specs.declared.layout.Group.{Group}
+use Rattle.top_parts.specs.declared.layout.Core.{Core}
+use Rattle.top_parts.specs.declared.layout.Layout.{Layout}
+use Rattle.top_parts.specs.declared.parts.Part.{Part}
+use Rattle.top_parts.specs.declared.wires.Wire.{Wire}
+use Rattle.top_parts.specs.Parts.{each_from, flat_from, flat_spread, group_widths, ask_widths, told_widths, output_count, parts}
+use Rattle.top_parts.specs.Wires.{enables, blocks, starts_from, wire_signal}
 
 -- ---- signals
 

@@ -2,14 +2,14 @@
 
 ghost use Rattle.std.specs.Prelude.{◌≡◌, ℕ, ◌+◌, ◌*◌, ◌^◌, ◌<◌, ◌≤◌, ◌++◌, length, slice_index, IfOk, OnOk};
 ghost use Rattle.circuit.specs.Rows.{spread, EachOf};
-ghost use Rattle.top_wiring.specs.Parts.{group_widths, flat_from, flat_spread};
+ghost use Rattle.top_parts.specs.Parts.{group_widths, flat_from, flat_spread};
 ghost use Rattle.top_wiring.specs.Top.{run, grant_places, told_places, thread_inputs, group_places, core_inputs, arbiter_inputs, HasFewTold, IsFewGroup};
 
-use crate::layout::{Core, Group};
-use crate::parts::push_copies;
 use crate::places::Places;
 use sqlite_items::Items;
 use std::alloc::{AllocError, Global};
+use top_parts::layout::{Core, Group};
+use top_parts::parts::push_copies;
 
 /// So many places from a first one on.
 pub fn push_run(places: &mut Items<usize>, first: usize, count: usize) -> Result<(), AllocError>

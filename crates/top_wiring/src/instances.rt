@@ -2,16 +2,16 @@
 
 ghost use Rattle.std.specs.Prelude.{◌≡◌, ℕ, ◌+◌, ◌^◌, ◌<◌, ◌≤◌, ◌++◌, length, IfOk, OnOk, take, slice_get};
 ghost use Rattle.circuit.specs.Rows.{spread, EachOf};
-ghost use Rattle.top_wiring.specs.Parts.{each_from, group_widths, ask_widths, output_count};
+ghost use Rattle.top_parts.specs.Parts.{each_from, group_widths, ask_widths, output_count};
 ghost use Rattle.top_wiring.specs.Top.{outputs_at, thread_instance, core_instance, arbiter_instance, instances_of, HasFewTold, HasFewGroups};
 
 use crate::inputs::push_run;
-use crate::layout::{Core, Layout};
 use crate::places::Places;
 use crate::signals::numbered;
 use netlist::netlist::Instance;
 use sqlite_items::Items;
 use std::alloc::{AllocError, Global};
+use top_parts::layout::{Core, Layout};
 
 impl Places {
     /// How many wires an instance drives.

@@ -3,7 +3,7 @@
 ghost use Rattle.std.specs.Prelude.{ℕ, length};
 ghost use Rattle.circuit.specs.Machines.{CoreMachine, ThreadMachine};
 ghost use Rattle.circuit.specs.Wiring.{NetPlaces};
-ghost use Rattle.top_wiring.specs.declared.layout.Layout.{Layout};
+ghost use Rattle.top_parts.specs.declared.layout.Layout.{Layout};
 ghost use Rattle.top_wiring.specs.Found.{TopsAreFound};
 ghost use Rattle.top_wiring.specs.Leaves.{NetsHaveStages, NetsSettle};
 ghost use Rattle.top_wiring.specs.Machine.{IsOneMachine};

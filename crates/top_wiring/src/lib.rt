@@ -4,13 +4,10 @@
 mod inputs;
 mod instances;
 pub mod law;
-pub mod layout;
-mod parts;
 mod places;
 mod round;
 mod signals;
-mod wires;
 pub mod wiring;
 
-pub use layout::{Core, Group, Layout};
+pub use top_parts::layout::{Core, Group, Layout};
 pub use wiring::wire;

@@ -1,10 +1,10 @@
 // Where the wires of the instances stand.
 
 ghost use Rattle.std.specs.Prelude.{ℕ, ◌^◌, ◌<◌, ◌≤◌, slice_get, slice_index};
-ghost use Rattle.top_wiring.specs.Parts.{output_count};
+ghost use Rattle.top_parts.specs.Parts.{output_count};
 
-use crate::parts::Part;
 use sqlite_items::Items;
+use top_parts::parts::Part;
 
 /// The instances, for each the place of the first wire that it drives, and the numbers of threads and of cores. The
 /// instances are the threads, then the cores, then the arbiters.

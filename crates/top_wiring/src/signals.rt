@@ -4,14 +4,14 @@ ghost use Rattle.std.specs.Prelude.{◌≡◌, [], ◌∷◌, ◌++◌, true, le
 ghost use Rattle.verilog_tree.specs.Spelling.{is_name};
 ghost use Rattle.verilog_meaning.specs.Names.{numbered};
 ghost use Rattle.circuit.specs.Rows.{spread};
-ghost use Rattle.top_wiring.specs.Parts.{each_from};
-ghost use Rattle.top_wiring.specs.Wires.{wire_signal};
+ghost use Rattle.top_parts.specs.Parts.{each_from};
+ghost use Rattle.top_parts.specs.Wires.{wire_signal};
 ghost use Rattle.top_wiring.specs.Top.{input, preference, output, top_signals};
 
-use crate::wires::Wire;
 use netlist::netlist::{Signal, Source, Value};
 use sqlite_items::Items;
 use std::alloc::{AllocError, Global};
+use top_parts::wires::Wire;
 use verilog_tree::name::Identifier;
 
 /// A name with a number.

@@ -1,23 +1,23 @@
 // The modules `top` and `top_rr`, behind those that they wire.
 
 ghost use Rattle.std.specs.Prelude.{◌≡◌, ◌+◌, ◌-◌, ◌^◌, ◌<◌, ◌≤◌, ◌++◌, length, IfOk};
-ghost use Rattle.top_wiring.specs.Parts.{parts, ask_widths};
-ghost use Rattle.top_wiring.specs.Wires.{enables, blocks, starts_from};
+ghost use Rattle.top_parts.specs.Parts.{parts, ask_widths};
+ghost use Rattle.top_parts.specs.Wires.{enables, blocks, starts_from};
 ghost use Rattle.top_wiring.specs.Top.{top_signals, instances_of, done_place, all_wires, starts, IsTop, IsSmall};
 ghost use Rattle.top_wiring.specs.Wired.{IsWired};
 ghost use Rattle.top_wiring.specs.Sound.{AreSound};
 ghost use Rattle.top_wiring.specs.Leaves.{AreLeaves, SettlesOnce};
 ghost use Rattle.netlist.specs.Sound.{IsSound};
 
-use crate::layout::Layout;
-use crate::parts::parts;
 use crate::places::Places;
 use crate::round;
 use crate::signals::signals;
-use crate::wires::{Wires, lay_wires};
 use netlist::netlist::{Module, Netlist};
 use sqlite_items::Items;
 use std::alloc::{AllocError, Global};
+use top_parts::layout::Layout;
+use top_parts::parts::parts;
+use top_parts::wires::{Wires, lay_wires};
 use verilog_tree::name::Identifier;
 
 /// `top` of these modules.

@@ -1,6 +1,6 @@
 use Rattle.std.proofs.Common.{◌++◌, ◌∷◌, [], ap, ◌∙◌}
 use Rattle.circuit.proofs.Growth.{more_of}
-use Rattle.top_wiring.specs.declared.layout.Core.{Core}
+use Rattle.top_parts.specs.declared.layout.Core.{Core}
 use Rattle.placed_cores.specs.Laying.{barrier_core}
 use Rattle.placed_cores.proofs.layout.barrier_cores.Goals as goal
 

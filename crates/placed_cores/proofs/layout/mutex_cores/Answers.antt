@@ -1,7 +1,7 @@
 use Rattle.std.proofs.Common.{◌≡◌, ◌+◌, List, [], ◌∷◌, ◌++◌, get_or, take, Some, false, slice_get, sym, ap, ◌∙◌, arith}
 use Rattle.std.proofs.lemmas.Option.{slice_get-get_or}
 use Rattle.mutex_cores.specs.declared.mutex.Shape.{Shape as MutexShape}
-use Rattle.top_wiring.specs.declared.layout.Core.{Core}
+use Rattle.top_parts.specs.declared.layout.Core.{Core}
 use Rattle.top_wiring.specs.Parts.{each_from}
 use Rattle.placed_cores.specs.Laying.{either_mutex, mutex_core}
 use Rattle.placed_cores.proofs.Placing.{each_next}

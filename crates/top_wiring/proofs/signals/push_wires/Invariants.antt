@@ -1,6 +1,6 @@
 use Rattle.std.proofs.Common.{◌≡◌, ◌++◌, take, length}
-use Rattle.top_wiring.specs.Parts.{each_from}
-use Rattle.top_wiring.specs.Wires.{wire_signal}
+use Rattle.top_parts.specs.Parts.{each_from}
+use Rattle.top_parts.specs.Wires.{wire_signal}
 use Rattle.top_wiring.proofs.signals.push_wires.Given as goal
 
 abbrev pub invariant-loop-wire : goal.invariant-loop-wire

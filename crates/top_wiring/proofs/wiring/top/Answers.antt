@@ -1,8 +1,8 @@
 use Rattle.std.proofs.Common.{◌≡◌, ℕ, ◌+◌, ◌^◌, ◌<◌, ◌≤◌, List, ◌++◌, length, sym, ap, ◌∙◌, subst}
 use Rattle.std.specs.Prelude.{slice_get, slice_index}
-use Rattle.top_wiring.specs.declared.parts.Part.{Part}
-use Rattle.top_wiring.specs.Parts.{output_count, parts}
-use Rattle.top_wiring.specs.Wires.{enables, blocks, starts_from}
+use Rattle.top_parts.specs.declared.parts.Part.{Part}
+use Rattle.top_parts.specs.Parts.{output_count, parts}
+use Rattle.top_parts.specs.Wires.{enables, blocks, starts_from}
 use Rattle.top_wiring.specs.Top.{starts}
 use Rattle.top_wiring.proofs.Steps.{places_low, counts_few, wires_low}
 use Rattle.top_wiring.proofs.wiring.top.Goals as goal

@@ -1,7 +1,7 @@
 use Rattle.std.proofs.Common.{◌≡◌, ◌++◌, take, length}
-use Rattle.top_wiring.specs.Parts.{flat_from}
+use Rattle.top_parts.specs.Parts.{flat_from}
 use Rattle.top_wiring.specs.Top.{told_places}
-use Rattle.top_wiring.specs.declared.layout.Core.{Core}
+use Rattle.top_parts.specs.declared.layout.Core.{Core}
 use Rattle.top_wiring.proofs.places.Places.push_all_told.Given as goal
 
 abbrev pub invariant-loop-number : goal.invariant-loop-number

@@ -1,5 +1,5 @@
 use Rattle.std.proofs.Common.{◌≡◌, ◌++◌, take, length}
-use Rattle.top_wiring.specs.Parts.{flat_from, group_widths}
+use Rattle.top_parts.specs.Parts.{flat_from, group_widths}
 use Rattle.top_wiring.specs.Top.{group_places}
 use Rattle.top_wiring.proofs.places.Places.push_asks.Given as goal
 

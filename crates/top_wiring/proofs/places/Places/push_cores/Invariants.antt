@@ -1,5 +1,5 @@
 use Rattle.std.proofs.Common.{◌≡◌, ◌++◌, take, length}
-use Rattle.top_wiring.specs.Parts.{each_from, ask_widths}
+use Rattle.top_parts.specs.Parts.{each_from, ask_widths}
 use Rattle.top_wiring.specs.Top.{core_instance}
 use Rattle.top_wiring.proofs.places.Places.push_cores.Given as goal
 

@@ -1,6 +1,6 @@
 use Rattle.std.proofs.Common.{◌≡◌, ◌+◌, ◌++◌}
 use Rattle.std.specs.Prelude.{slice_index}
-use Rattle.top_wiring.specs.Parts.{flat_spread}
+use Rattle.top_parts.specs.Parts.{flat_spread}
 use Rattle.top_wiring.specs.Top.{run}
 use Rattle.top_wiring.proofs.places.Places.push_group.Given as goal
 

@@ -1,5 +1,5 @@
 use Rattle.std.proofs.Common.{◌≡◌, ◌++◌, take}
-use Rattle.top_wiring.specs.Parts.{each_from}
+use Rattle.top_parts.specs.Parts.{each_from}
 use Rattle.top_wiring.specs.Top.{thread_instance}
 use Rattle.top_wiring.proofs.places.Places.push_threads.Given as goal
 

@@ -2,7 +2,7 @@
 
 ghost use Rattle.std.specs.Prelude.{◌≡◌, ◌++◌, replicate, IfOk, OnOk, map};
 ghost use Rattle.circuit.specs.Rows.{spread};
-ghost use Rattle.top_wiring.specs.Parts.{ask_widths, core_outputs, thread_part, core_part, arbiter_part, parts};
+ghost use Rattle.top_parts.specs.Parts.{ask_widths, core_outputs, thread_part, core_part, arbiter_part, parts};
 
 use crate::layout::{Core, Layout};
 use sqlite_items::Items;

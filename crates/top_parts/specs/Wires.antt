@@ -8,10 +8,10 @@ use Rattle.netlist.specs.declared.netlist.Module.{Module}
 use Rattle.verilog_meaning.specs.Names.{numbered}
 use Rattle.std.specs.Prelude.{codes}
 use Rattle.circuit.specs.Rows.{spread}
-use Rattle.top_wiring.specs.declared.parts.Part.{Part}
-use Rattle.top_wiring.specs.declared.wires.Wire.{Wire}
-use Rattle.top_wiring.specs.declared.wires.Wire.TheVariants.{Whole, Bit, Port}
-use Rattle.top_wiring.specs.Parts.{each_from, flat_from}
+use Rattle.top_parts.specs.declared.parts.Part.{Part}
+use Rattle.top_parts.specs.declared.wires.Wire.{Wire}
+use Rattle.top_parts.specs.declared.wires.Wire.TheVariants.{Whole, Bit, Port}
+use Rattle.top_parts.specs.Parts.{each_from, flat_from}
 
 -- the place of the first of so many last signals
 abbrev pub ports_from : Option Module → ℕ → ℕ

@@ -1,8 +1,8 @@
 use Rattle.std.proofs.Common.{ℕ, List, [], ◌∷◌, ◌++◌, replicate, ap, ◌∙◌}
 use Rattle.circuit.proofs.Growth.{row_grows}
-use Rattle.top_wiring.specs.declared.parts.Part.{Part}
-use Rattle.top_wiring.specs.Parts.{arbiter_part}
-use Rattle.top_wiring.proofs.parts.push_arbiters.Goals as goal
+use Rattle.top_parts.specs.declared.parts.Part.{Part}
+use Rattle.top_parts.specs.Parts.{arbiter_part}
+use Rattle.top_parts.proofs.parts.push_arbiters.Goals as goal
 
 pub loop-number-preserved : goal.loop-number-preserved
 loop-number-preserved c =

@@ -1,8 +1,8 @@
 // The wires of `top`: for each thread whether it is enabled, and one for each output port of an instance.
 
 ghost use Rattle.std.specs.Prelude.{◌≡◌, ◌+◌, ◌^◌, ◌<◌, ◌++◌, length, IfOk, OnOk};
-ghost use Rattle.top_wiring.specs.Parts.{each_from};
-ghost use Rattle.top_wiring.specs.Wires.{first_port, port_wire, enables, blocks, starts_from};
+ghost use Rattle.top_parts.specs.Parts.{each_from};
+ghost use Rattle.top_parts.specs.Wires.{first_port, port_wire, enables, blocks, starts_from};
 
 use crate::parts::Part;
 use netlist::netlist::Module;

@@ -1,8 +1,8 @@
 use Rattle.std.proofs.Common.{get_or}
 use Rattle.std.proofs.lemmas.List.{get_or_default}
-use Rattle.top_wiring.specs.Wires.{port_wire}
-use Rattle.top_wiring.proofs.Growing.{each_onto}
-use Rattle.top_wiring.proofs.wires.push_ports.Goals as goal
+use Rattle.top_parts.specs.Wires.{port_wire}
+use Rattle.top_parts.proofs.Growing.{each_onto}
+use Rattle.top_parts.proofs.wires.push_ports.Goals as goal
 
 pub loop-number-preserved : goal.loop-number-preserved
 loop-number-preserved c =

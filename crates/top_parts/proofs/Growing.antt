@@ -5,10 +5,10 @@ use Rattle.std.specs.List.{flat_map}
 use Rattle.std.proofs.lemmas.List.{take_more, append-nil, length-take-le}
 use Rattle.std.proofs.lemmas.List.Concat.{flat_map-append}
 use Rattle.netlist.specs.declared.netlist.Module.{Module}
-use Rattle.top_wiring.specs.declared.parts.Part.{Part}
-use Rattle.top_wiring.specs.declared.wires.Wire.{Wire}
-use Rattle.top_wiring.specs.Parts.{each_from, flat_from, flat_spread, output_count}
-use Rattle.top_wiring.specs.Wires.{port_wire, first_port, ports, enables, starts_from}
+use Rattle.top_parts.specs.declared.parts.Part.{Part}
+use Rattle.top_parts.specs.declared.wires.Wire.{Wire}
+use Rattle.top_parts.specs.Parts.{each_from, flat_from, flat_spread, output_count}
+use Rattle.top_parts.specs.Wires.{port_wire, first_port, ports, enables, starts_from}
 
 take_next : {A : Type 0} (xs : List A) (i : ℕ) (x : A) → x ≡ get_or xs i x → i < length xs → take (i + 1) xs ≡ take i xs ++ x ∷ []
 take_next xs i x is lt = take_more xs i x lt ∙ ap (λ y. take i xs ++ y ∷ []) (sym is)

@@ -1,8 +1,8 @@
 use Rattle.std.proofs.Common.{ℕ, ◌+◌, List, [], ◌∷◌, ◌++◌, ap, ◌∙◌}
-use Rattle.top_wiring.specs.Parts.{each_from}
-use Rattle.top_wiring.specs.Wires.{port_wire}
-use Rattle.top_wiring.proofs.Growing.{wires_grow}
-use Rattle.top_wiring.proofs.wires.lay_wires.Goals as goal
+use Rattle.top_parts.specs.Parts.{each_from}
+use Rattle.top_parts.specs.Wires.{port_wire}
+use Rattle.top_parts.proofs.Growing.{wires_grow}
+use Rattle.top_parts.proofs.wires.lay_wires.Goals as goal
 
 pub loop-instance-preserved : goal.loop-instance-preserved
 loop-instance-preserved c =
