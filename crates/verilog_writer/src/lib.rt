@@ -6,13 +6,11 @@ ghost use Rattle.verilog_tree.specs.Grammar as g;
 ghost use Rattle.verilog_tree.specs.Tokens.{Splits};
 ghost use Rattle.verilog_tree.specs.Reads.{IsFull, Reads};
 
-mod expressions;
 mod items;
-mod text;
 
-use crate::text::Text;
 use hls_io::Bytes;
 use std::alloc::{AllocError, Global};
+use verilog_text::text::Text;
 use verilog_tree::tree::Net;
 
 /// The text of a net: one item a line, indented by two spaces a level, with a line feed at the end.

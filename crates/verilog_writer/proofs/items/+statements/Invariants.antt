@@ -1,6 +1,6 @@
 use Rattle.std.proofs.Common.{◌≡◌, take}
 use Rattle.verilog_tree.specs.Grammar as g
-use Rattle.verilog_writer.specs.Layout.{put_all, AllTokens}
+use Rattle.verilog_text.specs.Layout.{put_all, AllTokens}
 use Rattle.verilog_writer.proofs.items.+statements.Given as goal
 
 abbrev pub invariant-statements-loop-one : goal.invariant-statements-loop-one

@@ -1,5 +1,5 @@
-use Rattle.verilog_writer.proofs.Laying.{more_spaces}
-use Rattle.verilog_writer.proofs.text.new_line.Goals as goal
+use Rattle.verilog_text.proofs.Laying.{more_spaces}
+use Rattle.verilog_text.proofs.text.new_line.Goals as goal
 
 pub loop-level-preserved : goal.loop-level-preserved
 loop-level-preserved c = more_spaces _ _ _ _ c.loop-level.invariant c.in_ok-put.ensures

@@ -5,7 +5,7 @@ ghost use Rattle.verilog_tree.specs.Spelling.{word_spelling, is_name, is_quoted}
 ghost use Rattle.verilog_tree.specs.Tokens.{mark_spelling, is_token};
 ghost use Rattle.verilog_tree.specs.declared.token.Token.TheVariants as t;
 ghost use Rattle.verilog_tree.specs.Grammar as g;
-ghost use Rattle.verilog_writer.specs.Layout.{put, piece, begun, gap, spaces, start, layout, word_layout, mark_layout, brackets_after, plain};
+ghost use Rattle.verilog_text.specs.Layout.{put, piece, begun, gap, spaces, start, layout, word_layout, mark_layout, brackets_after, plain};
 
 use hls_io::{Bytes, put_dec};
 use std::alloc::{AllocError, Global};

@@ -9,12 +9,12 @@ use Rattle.verilog_tree.specs.declared.token.Token.TheVariants as t
 use Rattle.verilog_tree.specs.Tokens.{spelling, front, skip, Splits, is_token}
 use Rattle.verilog_tree.specs.Grammar as g
 use Rattle.verilog_tree.proofs.Fronts.{separates, front_token, stays_token}
-use Rattle.verilog_writer.specs.declared.text.Ending.{Ending}
-use Rattle.verilog_writer.specs.declared.text.Ending.TheVariants.{Start, Line, Open, Plain, Apart}
-use Rattle.verilog_writer.specs.declared.text.Text.{Text}
+use Rattle.verilog_text.specs.declared.text.Ending.{Ending}
+use Rattle.verilog_text.specs.declared.text.Ending.TheVariants.{Start, Line, Open, Plain, Apart}
+use Rattle.verilog_text.specs.declared.text.Text.{Text}
 use Rattle.verilog_tree.specs.declared.tree.Net.{Net}
 use Rattle.verilog_tree.specs.Reads.{IsFull, Reads}
-use Rattle.verilog_writer.specs.Layout.{layout_of, brackets_after, spaces, gap, depth_before, depth_after, put, put_all, laid, start, AllTokens}
+use Rattle.verilog_text.specs.Layout.{layout_of, brackets_after, spaces, gap, depth_before, depth_after, put, put_all, laid, start, AllTokens}
 
 spaces_next : (n : ℕ) → spaces (suc n) ≡ spaces n ++ (32 ∷ (32 ∷ []))
 spaces_next zero = refl

@@ -7,10 +7,10 @@ use Rattle.verilog_tree.specs.declared.token.Mark.TheVariants as m
 use Rattle.verilog_tree.specs.declared.token.Token.{Token}
 use Rattle.verilog_tree.specs.declared.token.Token.TheVariants as t
 use Rattle.verilog_tree.specs.Tokens.{spelling, is_token}
-use Rattle.verilog_writer.specs.declared.text.Ending.{Ending}
-use Rattle.verilog_writer.specs.declared.text.Ending.TheVariants.{Start, Line, Open, Plain, Apart}
-use Rattle.verilog_writer.specs.declared.text.Layout.{Layout}
-use Rattle.verilog_writer.specs.declared.text.Text.{Text}
+use Rattle.verilog_text.specs.declared.text.Ending.{Ending}
+use Rattle.verilog_text.specs.declared.text.Ending.TheVariants.{Start, Line, Open, Plain, Apart}
+use Rattle.verilog_text.specs.declared.text.Layout.{Layout}
+use Rattle.verilog_text.specs.declared.text.Text.{Text}
 
 abbrev pub layout : Bool → Bool → Bool → Ending → Layout
 layout hugs outdents indents ending = record { hugs = hugs; outdents = outdents; indents = indents; ending = ending }

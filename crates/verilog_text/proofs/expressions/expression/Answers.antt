@@ -1,4 +1,4 @@
-use Rattle.verilog_writer.proofs.expressions.expression.Goals as goal
+use Rattle.verilog_text.proofs.expressions.expression.Goals as goal
 
 pub returns-in_ok-guard-in-Division-clause-text : goal.returns-in_ok-guard-in-Division-clause-text
 returns-in_ok-guard-in-Division-clause-text c =

@@ -3,7 +3,7 @@
 ghost use Rattle.std.specs.Prelude.{◌≡◌, ◌++◌, OnOk};
 ghost use Rattle.verilog_tree.specs.Grammar as g;
 ghost use Rattle.verilog_tree.specs.declared.token.Mark.TheVariants as m;
-ghost use Rattle.verilog_writer.specs.Layout.{put_all, AllTokens};
+ghost use Rattle.verilog_text.specs.Layout.{put_all, AllTokens};
 
 use crate::text::Text;
 use std::alloc::AllocError;
