@@ -1,8 +1,8 @@
 // Statements with no statement in them, declarations in a block, and the heads of control statements. The room of each
 // is how many levels of nesting are left, its own among them.
 
-ghost use Rattle.std.specs.Prelude.{◌≡◌, IfOk};
-ghost use Rattle.grammar.specs.Readers.{reads_optional};
+ghost use Rattle.std.specs.Prelude.{◌≡◌};
+ghost use Rattle.grammar.specs.Readers.{and_then, reads_pure};
 ghost use Rattle.grammar.specs.Steps.{Steps};
 ghost use Rattle.c_reading.specs.Tokens as tokens_of;
 ghost use Rattle.c_reading.specs.Expressions as expressions_of;
@@ -12,12 +12,12 @@ use c_cursor::Cursor;
 use c_expression_parser::expressions::{Part, Rules, expression, null, specifiers};
 use c_token::{Keyword, Punctuator};
 use c_tree::{
-    Argument, Call, Declaration, Declarator, Expression, ForStart, Name, Place, Pointer, Returned,
-    Sign, SimpleForm, SimpleStatement, Statement,
+    Call, Declaration, Declarator, Expression, ForStart, Name, Place, Returned, Sign, SimpleForm,
+    SimpleStatement, Statement,
 };
 use grammar::{Fault, too_deep};
 use sqlite_items::{Boxed, Items};
-use std::alloc::{AllocError, Global};
+use std::alloc::Global;
 
 /// How many levels are left inside of the phrase.
 #[tactic(auto, using(crate::proofs::Below::below_is))]
@@ -54,62 +54,7 @@ pub fn optional_index(
     rules.optional_index(cursor, room)
 }
 
-fn place(alloc: Global, cursor: &mut Cursor<'_>, room: usize) -> Result<Place, Fault>
-    ensures { Steps (expressions_of.read_place (expressions_of.read_expr room) room cursor.old) result cursor.new }
-{
-    let rules = Rules {
-        alloc,
-        read: expression,
-    };
-    rules.place(cursor, room)
-}
-
-fn arguments(alloc: Global, cursor: &mut Cursor<'_>, room: usize) -> Result<Items<Argument>, Fault>
-    ensures { Steps (expressions_of.read_arguments (expressions_of.read_argument room) room cursor.old) result cursor.new }
-{
-    let rules = Rules {
-        alloc,
-        read: expression,
-    };
-    rules.arguments(cursor, room)
-}
-
-fn converted_pointer(alloc: Global, cursor: &mut Cursor<'_>, room: usize) -> Result<Pointer, Fault>
-    ensures { Steps (expressions_of.read_converted_pointer (expressions_of.read_cast room) room cursor.old) result cursor.new }
-{
-    let rules = Rules {
-        alloc,
-        read: expression,
-    };
-    rules.converted_pointer(cursor, room)
-}
-
 // ---- simple statements
-
-/// The statement of the form, whose text begins at the place.
-fn boxed_simple(
-    alloc: Global,
-    form: SimpleForm,
-    offset: usize,
-) -> Result<Boxed<SimpleStatement>, AllocError>
-    ensures { IfOk result (λ s. s ≡ record { form = form; offset = offset }) }
-{
-    Boxed::new(alloc, SimpleStatement { form, offset })
-}
-
-/// `++` or `--`, and a place.
-#[tactic(auto, unfolding(c_reading::specs::Statements::read_step_before))]
-fn step_before(
-    alloc: Global,
-    cursor: &mut Cursor<'_>,
-    room: usize,
-) -> Result<Boxed<SimpleStatement>, Fault>
-    ensures { Steps (spec.read_step_before room (spec.below room) cursor.old) result cursor.new }
-{
-    let (direction, offset) = cursor.direction()?;
-    let place = place(alloc, cursor, inside(room))?;
-    Ok(boxed_simple(alloc, SimpleForm::Step(place, direction), offset)?)
-}
 
 /// The call whose name was read.
 #[tactic(auto, unfolding(c_reading::specs::Statements::read_called))]
@@ -122,48 +67,17 @@ fn called(
     ensures { Steps (spec.read_called room (spec.below room) name cursor.old) result cursor.new }
 {
     let offset = name.offset;
-    let arguments = arguments(alloc, cursor, inside(room))?;
-    let call = Call { name, arguments };
-    Ok(boxed_simple(alloc, SimpleForm::Call(call), offset)?)
+    let rules = Rules {
+        alloc,
+        read: expression,
+    };
+    let arguments = rules.arguments(cursor, inside(room))?;
+    let form = SimpleForm::Call(Call { name, arguments });
+    Ok(Boxed::new(alloc, SimpleStatement { form, offset })?)
 }
 
-/// `++` or `--`, behind the place that was read.
-#[tactic(auto, unfolding(c_reading::specs::Statements::read_step_behind))]
-fn step_behind(
-    alloc: Global,
-    cursor: &mut Cursor<'_>,
-    room: usize,
-    name: Name,
-    index: Option<Boxed<Expression>>,
-) -> Result<Boxed<SimpleStatement>, Fault>
-    ensures { Steps (spec.read_step_behind room (spec.below room) name index cursor.old) result cursor.new }
-{
-    let offset = name.offset;
-    let direction = cursor.way()?;
-    let place = Place { name, index };
-    Ok(boxed_simple(alloc, SimpleForm::Step(place, direction), offset)?)
-}
-
-/// What is assigned to the place that was read.
-#[tactic(auto, unfolding(c_reading::specs::Statements::read_assigned))]
-fn assigned(
-    alloc: Global,
-    cursor: &mut Cursor<'_>,
-    room: usize,
-    name: Name,
-    index: Option<Boxed<Expression>>,
-) -> Result<Boxed<SimpleStatement>, Fault>
-    ensures { Steps (spec.read_assigned room (spec.below room) name index cursor.old) result cursor.new }
-{
-    let offset = name.offset;
-    let operator = cursor.assignment_operator()?;
-    let value = value(alloc, cursor, room)?;
-    let form = SimpleForm::Assign(Place { name, index }, operator, value);
-    Ok(boxed_simple(alloc, form, offset)?)
-}
-
-/// What changes the place whose name was read.
-#[tactic(auto, unfolding(c_reading::specs::Statements::read_changed))]
+/// What changes the place whose name was read: `++` or `--` behind it, or an assignment.
+#[tactic(auto, unfolding(c_reading::specs::Statements::read_changed, c_reading::specs::Statements::read_step_behind, c_reading::specs::Statements::read_assigned))]
 fn changed(
     alloc: Global,
     cursor: &mut Cursor<'_>,
@@ -172,33 +86,21 @@ fn changed(
 ) -> Result<Boxed<SimpleStatement>, Fault>
     ensures { Steps (spec.read_changed room (spec.below room) name cursor.old) result cursor.new }
 {
+    let offset = name.offset;
     let index = optional_index(alloc, cursor, inside(room))?;
+    let place = Place { name, index };
     if cursor.sees_direction() {
-        step_behind(alloc, cursor, room, name, index)
-    } else {
-        assigned(alloc, cursor, room, name, index)
+        let form = SimpleForm::Step(place, cursor.way()?);
+        return Ok(Boxed::new(alloc, SimpleStatement { form, offset })?);
     }
-}
-
-/// What begins with a name.
-#[tactic(auto, unfolding(c_reading::specs::Statements::read_on_name))]
-fn on_name(
-    alloc: Global,
-    cursor: &mut Cursor<'_>,
-    room: usize,
-) -> Result<Boxed<SimpleStatement>, Fault>
-    ensures { Steps (spec.read_on_name room (spec.below room) cursor.old) result cursor.new }
-{
-    let name = cursor.name(alloc)?;
-    if cursor.sees(Sign::Mark(Punctuator::OpenRound)) {
-        called(alloc, cursor, room, name)
-    } else {
-        changed(alloc, cursor, room, name)
-    }
+    let operator = cursor.assignment_operator()?;
+    let value = value(alloc, cursor, room)?;
+    let form = SimpleForm::Assign(place, operator, value);
+    Ok(Boxed::new(alloc, SimpleStatement { form, offset })?)
 }
 
 /// Reads an assignment, a step or a call.
-#[tactic(auto, unfolding(c_reading::specs::Statements::read_simple))]
+#[tactic(auto, unfolding(c_reading::specs::Statements::read_simple, c_reading::specs::Statements::read_step_before, c_reading::specs::Statements::read_on_name))]
 pub fn simple(
     alloc: Global,
     cursor: &mut Cursor<'_>,
@@ -207,29 +109,27 @@ pub fn simple(
     ensures { Steps (spec.read_simple room (spec.below room) cursor.old) result cursor.new }
 {
     if cursor.sees_direction() {
-        step_before(alloc, cursor, room)
+        let (direction, offset) = cursor.direction()?;
+        let rules = Rules {
+            alloc,
+            read: expression,
+        };
+        let place = rules.place(cursor, inside(room))?;
+        let form = SimpleForm::Step(place, direction);
+        return Ok(Boxed::new(alloc, SimpleStatement { form, offset })?);
+    }
+    let name = cursor.name(alloc)?;
+    if cursor.sees(Sign::Mark(Punctuator::OpenRound)) {
+        called(alloc, cursor, room, name)
     } else {
-        on_name(alloc, cursor, room)
+        changed(alloc, cursor, room, name)
     }
 }
 
 // ---- declarations in a block
 
-/// `=`, and a value.
-#[tactic(auto, unfolding(c_reading::specs::Statements::read_value))]
-fn initial_value(
-    alloc: Global,
-    cursor: &mut Cursor<'_>,
-    room: usize,
-) -> Result<Boxed<Expression>, Fault>
-    ensures { Steps (spec.read_value room (spec.below room) cursor.old) result cursor.new }
-{
-    cursor.mark(Punctuator::Assign)?;
-    value(alloc, cursor, room)
-}
-
-/// The same, if there is one.
-#[tactic(auto, unfolding(c_reading::specs::Statements::read_optional_value))]
+/// `=` and a value, if there is one.
+#[tactic(auto, unfolding(c_reading::specs::Statements::read_optional_value, c_reading::specs::Statements::read_value))]
 fn optional_value(
     alloc: Global,
     cursor: &mut Cursor<'_>,
@@ -240,7 +140,8 @@ fn optional_value(
     if !cursor.sees(Sign::Mark(Punctuator::Assign)) {
         return Ok(None);
     }
-    Ok(Some(initial_value(alloc, cursor, room)?))
+    cursor.mark(Punctuator::Assign)?;
+    Ok(Some(value(alloc, cursor, room)?))
 }
 
 #[tactic(auto, unfolding(c_reading::specs::Statements::read_declarator))]
@@ -262,40 +163,7 @@ fn declarator(
     Ok(Boxed::new(alloc, declarator)?)
 }
 
-/// A comma and one more declarator.
-#[tactic(auto, unfolding(c_reading::specs::Tokens::read_next))]
-fn next_declarator(
-    alloc: Global,
-    cursor: &mut Cursor<'_>,
-    room: usize,
-) -> Result<Boxed<Declarator>, Fault>
-    ensures { Steps (tokens_of.read_next (spec.read_declarator room (spec.below room)) cursor.old) result cursor.new }
-{
-    cursor.mark(Punctuator::Comma)?;
-    declarator(alloc, cursor, room)
-}
-
-/// The declarators behind the first one.
-fn more_declarators(
-    alloc: Global,
-    cursor: &mut Cursor<'_>,
-    room: usize,
-    first: Boxed<Declarator>,
-) -> Result<Items<Declarator>, Fault>
-    ensures { Steps (tokens_of.read_more (spec.read_declarator room (spec.below room)) first cursor.old) result cursor.new }
-{
-    let mut found = Items::new(alloc);
-    found.push(first.into_inner())?;
-    for _turn in 0..cursor.left() {
-        if !cursor.sees(Sign::Mark(Punctuator::Comma)) {
-            return Ok(found);
-        }
-        found.push(next_declarator(alloc, cursor, room)?.into_inner())?;
-    }
-    Ok(found)
-}
-
-#[tactic(auto, unfolding(c_reading::specs::Tokens::read_listed))]
+/// One or more declarators, with commas between them.
 fn declarators(
     alloc: Global,
     cursor: &mut Cursor<'_>,
@@ -303,8 +171,16 @@ fn declarators(
 ) -> Result<Items<Declarator>, Fault>
     ensures { Steps (tokens_of.read_listed (spec.read_declarator room (spec.below room)) cursor.old) result cursor.new }
 {
-    let first = declarator(alloc, cursor, room)?;
-    more_declarators(alloc, cursor, room, first)
+    let mut found = Items::new(alloc);
+    found.push(declarator(alloc, cursor, room)?.into_inner())?;
+    for _turn in 0..cursor.left() {
+        if !cursor.sees(Sign::Mark(Punctuator::Comma)) {
+            return Ok(found);
+        }
+        cursor.mark(Punctuator::Comma)?;
+        found.push(declarator(alloc, cursor, room)?.into_inner())?;
+    }
+    Ok(found)
 }
 
 /// Variables of a block, the `;` included.
@@ -327,112 +203,44 @@ pub fn declaration(
 
 // ---- statements with no statement in them
 
-#[tactic(auto, unfolding(c_reading::specs::Statements::read_simple_statement))]
-fn simple_statement(
+/// The statement, with the `;` behind it.
+fn ended(
     alloc: Global,
     cursor: &mut Cursor<'_>,
-    room: usize,
+    statement: Statement,
 ) -> Result<Boxed<Statement>, Fault>
-    ensures { Steps (spec.read_simple_statement room (spec.below room) cursor.old) result cursor.new }
+    ensures { Steps (and_then (tokens_of.expect (Sign.Mark Punctuator.Semicolon) cursor.old) (λ _. reads_pure statement)) result cursor.new }
 {
-    let simple = simple(alloc, cursor, room)?;
+    let statement = Boxed::new(alloc, statement)?;
     cursor.mark(Punctuator::Semicolon)?;
-    Ok(Boxed::new(alloc, Statement::Simple(simple))?)
+    Ok(statement)
 }
 
-#[tactic(auto, unfolding(c_reading::specs::Statements::read_empty))]
-fn empty(alloc: Global, cursor: &mut Cursor<'_>) -> Result<Boxed<Statement>, Fault>
-    ensures { Steps (spec.read_empty cursor.old) result cursor.new }
-{
-    cursor.mark(Punctuator::Semicolon)?;
-    Ok(Boxed::new(alloc, Statement::Empty)?)
-}
-
-#[tactic(auto, unfolding(c_reading::specs::Statements::read_break))]
-fn break_out(alloc: Global, cursor: &mut Cursor<'_>) -> Result<Boxed<Statement>, Fault>
-    ensures { Steps (spec.read_break cursor.old) result cursor.new }
-{
-    let offset = cursor.word(Keyword::Break)?;
-    cursor.mark(Punctuator::Semicolon)?;
-    Ok(Boxed::new(alloc, Statement::Break(offset))?)
-}
-
-#[tactic(auto, unfolding(c_reading::specs::Statements::read_continue))]
-fn continue_on(alloc: Global, cursor: &mut Cursor<'_>) -> Result<Boxed<Statement>, Fault>
-    ensures { Steps (spec.read_continue cursor.old) result cursor.new }
-{
-    let offset = cursor.word(Keyword::Continue)?;
-    cursor.mark(Punctuator::Semicolon)?;
-    Ok(Boxed::new(alloc, Statement::Continue(offset))?)
-}
-
-#[tactic(auto, unfolding(c_reading::specs::Statements::read_returned_null))]
-fn returned_null(
-    alloc: Global,
-    cursor: &mut Cursor<'_>,
-    room: usize,
-) -> Result<Boxed<Returned>, Fault>
-    ensures { Steps (spec.read_returned_null room (spec.below room) cursor.old) result cursor.new }
-{
-    let pointer = null(cursor)?;
-    Ok(Boxed::new(alloc, Returned::Pointer(pointer))?)
-}
-
-#[tactic(auto, unfolding(c_reading::specs::Statements::read_returned_pointer))]
-fn returned_pointer(
-    alloc: Global,
-    cursor: &mut Cursor<'_>,
-    room: usize,
-) -> Result<Boxed<Returned>, Fault>
-    ensures { Steps (spec.read_returned_pointer room (spec.below room) cursor.old) result cursor.new }
-{
-    let pointer = converted_pointer(alloc, cursor, inside(room))?;
-    Ok(Boxed::new(alloc, Returned::Pointer(pointer))?)
-}
-
-#[tactic(auto, unfolding(c_reading::specs::Statements::read_returned_value))]
-fn returned_value(
-    alloc: Global,
-    cursor: &mut Cursor<'_>,
-    room: usize,
-) -> Result<Boxed<Returned>, Fault>
-    ensures { Steps (spec.read_returned_value room (spec.below room) cursor.old) result cursor.new }
-{
-    let value = value(alloc, cursor, room)?;
-    Ok(Boxed::new(alloc, Returned::Value(value))?)
-}
-
-#[tactic(auto, unfolding(c_reading::specs::Statements::read_returned))]
+/// What a `return` gives back.
+#[tactic(auto, unfolding(c_reading::specs::Statements::read_returned, c_reading::specs::Statements::read_returned_null, c_reading::specs::Statements::read_returned_pointer, c_reading::specs::Statements::read_returned_value))]
 fn returned(alloc: Global, cursor: &mut Cursor<'_>, room: usize) -> Result<Boxed<Returned>, Fault>
     ensures { Steps (spec.read_returned room (spec.below room) cursor.old) result cursor.new }
 {
     if cursor.sees(Sign::Word(Keyword::Null)) {
-        returned_null(alloc, cursor, room)
+        let pointer = null(cursor)?;
+        Ok(Boxed::new(alloc, Returned::Pointer(pointer))?)
     } else if cursor.begins_conversion_to_pointer() {
-        returned_pointer(alloc, cursor, room)
+        let rules = Rules {
+            alloc,
+            read: expression,
+        };
+        let pointer = rules.converted_pointer(cursor, inside(room))?;
+        Ok(Boxed::new(alloc, Returned::Pointer(pointer))?)
     } else if cursor.begins_cast() {
-        returned_value(alloc, cursor, room)
+        let value = value(alloc, cursor, room)?;
+        Ok(Boxed::new(alloc, Returned::Value(value))?)
     } else {
         Ok(Boxed::new(alloc, Returned::Nothing)?)
     }
 }
 
-#[tactic(auto, unfolding(c_reading::specs::Statements::read_return))]
-fn return_back(
-    alloc: Global,
-    cursor: &mut Cursor<'_>,
-    room: usize,
-) -> Result<Boxed<Statement>, Fault>
-    ensures { Steps (spec.read_return room (spec.below room) cursor.old) result cursor.new }
-{
-    let offset = cursor.word(Keyword::Return)?;
-    let returned = returned(alloc, cursor, room)?;
-    cursor.mark(Punctuator::Semicolon)?;
-    Ok(Boxed::new(alloc, Statement::Return(returned.into_inner(), offset))?)
-}
-
 /// A statement with no other in it, by its first word or mark.
-#[tactic(auto, unfolding(c_reading::specs::Statements::read_plain))]
+#[tactic(auto, unfolding(c_reading::specs::Statements::read_plain, c_reading::specs::Statements::read_empty, c_reading::specs::Statements::read_break, c_reading::specs::Statements::read_continue, c_reading::specs::Statements::read_return, c_reading::specs::Statements::read_simple_statement))]
 pub fn plain_statement(
     alloc: Global,
     cursor: &mut Cursor<'_>,
@@ -441,15 +249,24 @@ pub fn plain_statement(
     ensures { Steps (spec.read_plain room (spec.below room) cursor.old) result cursor.new }
 {
     if cursor.sees(Sign::Mark(Punctuator::Semicolon)) {
-        empty(alloc, cursor)
+        ended(alloc, cursor, Statement::Empty)
     } else if cursor.sees(Sign::Word(Keyword::Break)) {
-        break_out(alloc, cursor)
+        let offset = cursor.word(Keyword::Break)?;
+        ended(alloc, cursor, Statement::Break(offset))
     } else if cursor.sees(Sign::Word(Keyword::Continue)) {
-        continue_on(alloc, cursor)
+        let offset = cursor.word(Keyword::Continue)?;
+        ended(alloc, cursor, Statement::Continue(offset))
     } else if cursor.sees(Sign::Word(Keyword::Return)) {
-        return_back(alloc, cursor, room)
+        let offset = cursor.word(Keyword::Return)?;
+        let returned = returned(alloc, cursor, room)?;
+        ended(
+            alloc,
+            cursor,
+            Statement::Return(returned.into_inner(), offset),
+        )
     } else {
-        simple_statement(alloc, cursor, room)
+        let simple = simple(alloc, cursor, room)?;
+        ended(alloc, cursor, Statement::Simple(simple))
     }
 }
 
@@ -473,50 +290,21 @@ pub fn condition(
     Ok(value)
 }
 
-#[tactic(auto, unfolding(c_reading::specs::Statements::read_declared_start))]
-fn declared_start(
-    alloc: Global,
-    cursor: &mut Cursor<'_>,
-    room: usize,
-) -> Result<Boxed<ForStart>, Fault>
-    ensures { Steps (spec.read_declared_start room (spec.below room) cursor.old) result cursor.new }
-{
-    let declaration = declaration(alloc, cursor, room)?;
-    Ok(Boxed::new(alloc, ForStart::Declaration(declaration))?)
-}
-
-#[tactic(auto, unfolding(c_reading::specs::Statements::read_simple_start))]
-fn simple_start(
-    alloc: Global,
-    cursor: &mut Cursor<'_>,
-    room: usize,
-) -> Result<Boxed<ForStart>, Fault>
-    ensures { Steps (spec.read_simple_start room (spec.below room) cursor.old) result cursor.new }
-{
-    let simple = simple(alloc, cursor, room)?;
-    cursor.mark(Punctuator::Semicolon)?;
-    Ok(Boxed::new(alloc, ForStart::Simple(simple))?)
-}
-
-#[tactic(auto, unfolding(c_reading::specs::Statements::read_no_start))]
-fn no_start(alloc: Global, cursor: &mut Cursor<'_>, room: usize) -> Result<Boxed<ForStart>, Fault>
-    ensures { Steps (spec.read_no_start room (spec.below room) cursor.old) result cursor.new }
-{
-    cursor.mark(Punctuator::Semicolon)?;
-    Ok(Boxed::new(alloc, ForStart::Nothing)?)
-}
-
 /// What the head of a `for` begins with, the `;` behind it included.
-#[tactic(auto, unfolding(c_reading::specs::Statements::read_for_start))]
+#[tactic(auto, unfolding(c_reading::specs::Statements::read_for_start, c_reading::specs::Statements::read_declared_start, c_reading::specs::Statements::read_simple_start, c_reading::specs::Statements::read_no_start))]
 fn for_start(alloc: Global, cursor: &mut Cursor<'_>, room: usize) -> Result<Boxed<ForStart>, Fault>
     ensures { Steps (spec.read_for_start room (spec.below room) cursor.old) result cursor.new }
 {
     if cursor.sees_type_word() {
-        declared_start(alloc, cursor, room)
+        let declaration = declaration(alloc, cursor, room)?;
+        Ok(Boxed::new(alloc, ForStart::Declaration(declaration))?)
     } else if cursor.begins_simple() {
-        simple_start(alloc, cursor, room)
+        let simple = simple(alloc, cursor, room)?;
+        cursor.mark(Punctuator::Semicolon)?;
+        Ok(Boxed::new(alloc, ForStart::Simple(simple))?)
     } else {
-        no_start(alloc, cursor, room)
+        cursor.mark(Punctuator::Semicolon)?;
+        Ok(Boxed::new(alloc, ForStart::Nothing)?)
     }
 }
 
@@ -548,39 +336,8 @@ fn optional_simple(
     Ok(Some(simple(alloc, cursor, room)?))
 }
 
-/// The step of a `for` and the closing parenthesis, behind what stands before them.
-#[tactic(auto, unfolding(c_reading::specs::Statements::read_for_step))]
-fn for_step<S: Drop, C: Drop>(
-    alloc: Global,
-    cursor: &mut Cursor<'_>,
-    room: usize,
-    start: S,
-    condition: C,
-) -> Result<(S, C, Option<Boxed<SimpleStatement>>), Fault>
-    ensures { Steps (spec.read_for_step room start condition cursor.old) result cursor.new }
-{
-    let step = optional_simple(alloc, cursor, room)?;
-    cursor.mark(Punctuator::CloseRound)?;
-    Ok((start, condition, step))
-}
-
-/// The condition of a `for` and what is behind it, behind the start.
-#[tactic(auto, unfolding(c_reading::specs::Statements::read_for_condition))]
-fn for_condition<S: Drop>(
-    alloc: Global,
-    cursor: &mut Cursor<'_>,
-    room: usize,
-    start: S,
-) -> Result<(S, Option<Boxed<Expression>>, Option<Boxed<SimpleStatement>>), Fault>
-    ensures { Steps (spec.read_for_condition room start cursor.old) result cursor.new }
-{
-    let condition = optional_expression(alloc, cursor, room)?;
-    cursor.mark(Punctuator::Semicolon)?;
-    for_step(alloc, cursor, room, start, condition)
-}
-
 /// The start, the condition and the step of a `for`.
-#[tactic(auto, unfolding(c_reading::specs::Statements::read_for_head))]
+#[tactic(auto, unfolding(c_reading::specs::Statements::read_for_head, c_reading::specs::Statements::read_for_condition, c_reading::specs::Statements::read_for_step))]
 pub fn for_head(
     alloc: Global,
     cursor: &mut Cursor<'_>,
@@ -600,5 +357,9 @@ pub fn for_head(
     }
     cursor.mark(Punctuator::OpenRound)?;
     let start = for_start(alloc, cursor, room)?;
-    for_condition(alloc, cursor, room, start)
+    let condition = optional_expression(alloc, cursor, room)?;
+    cursor.mark(Punctuator::Semicolon)?;
+    let step = optional_simple(alloc, cursor, room)?;
+    cursor.mark(Punctuator::CloseRound)?;
+    Ok((start, condition, step))
 }

@@ -33,38 +33,18 @@ impl<F: Fn(Global, &mut Cursor<'_>, usize) -> Result<Boxed<Statement>, Fault>> B
         (self.read)(self.alloc, cursor, room)
     }
 
-    #[tactic(auto, unfolding(c_reading::specs::Statements::read_declared_item))]
-    fn declared_item(&self, cursor: &mut Cursor<'_>, room: usize) -> Result<Boxed<BlockItem>, Fault>
-        requires { NestsStatements room (F.pre self.now.read) (F.post self.now.read) }
-        ensures { Steps (spec.read_declared_item (spec.read_statement room) room cursor.old) result cursor.new }
-    {
-        let declaration = declaration(self.alloc, cursor, room)?;
-        Ok(Boxed::new(self.alloc, BlockItem::Declaration(declaration))?)
-    }
-
-    #[tactic(auto, unfolding(c_reading::specs::Statements::read_statement_item))]
-    fn statement_item(
-        &self,
-        cursor: &mut Cursor<'_>,
-        room: usize,
-    ) -> Result<Boxed<BlockItem>, Fault>
-        requires { NestsStatements room (F.pre self.now.read) (F.post self.now.read) }
-        ensures { Steps (spec.read_statement_item (spec.read_statement room) room cursor.old) result cursor.new }
-    {
-        let statement = self.body(cursor, room)?;
-        Ok(Boxed::new(self.alloc, BlockItem::Statement(statement.into_inner()))?)
-    }
-
     /// A declaration or a statement.
-    #[tactic(auto, unfolding(c_reading::specs::Statements::read_item))]
+    #[tactic(auto, unfolding(c_reading::specs::Statements::read_item, c_reading::specs::Statements::read_declared_item, c_reading::specs::Statements::read_statement_item))]
     fn item(&self, cursor: &mut Cursor<'_>, room: usize) -> Result<Boxed<BlockItem>, Fault>
         requires { NestsStatements room (F.pre self.now.read) (F.post self.now.read) }
         ensures { Steps (spec.read_item (spec.read_statement room) room cursor.old) result cursor.new }
     {
         if cursor.sees_type_word() {
-            self.declared_item(cursor, room)
+            let declaration = declaration(self.alloc, cursor, room)?;
+            Ok(Boxed::new(self.alloc, BlockItem::Declaration(declaration))?)
         } else {
-            self.statement_item(cursor, room)
+            let statement = self.body(cursor, room)?;
+            Ok(Boxed::new(self.alloc, BlockItem::Statement(statement.into_inner()))?)
         }
     }
 
@@ -97,33 +77,7 @@ impl<F: Fn(Global, &mut Cursor<'_>, usize) -> Result<Boxed<Statement>, Fault>> B
         Ok(Block { items, close })
     }
 
-    #[tactic(auto, unfolding(c_reading::specs::Statements::read_block_statement))]
-    fn block_statement(
-        &self,
-        cursor: &mut Cursor<'_>,
-        room: usize,
-    ) -> Result<Boxed<Statement>, Fault>
-        requires { NestsStatements room (F.pre self.now.read) (F.post self.now.read) }
-        ensures { Steps (spec.read_block_statement (spec.read_statement room) room cursor.old) result cursor.new }
-    {
-        let block = self.block(cursor, room)?;
-        Ok(Boxed::new(self.alloc, Statement::Block(block))?)
-    }
-
-    /// `else` and its statement, if there is one.
-    #[tactic(auto, unfolding(c_reading::specs::Statements::read_other))]
-    fn other(&self, cursor: &mut Cursor<'_>, room: usize) -> Result<Option<Boxed<Statement>>, Fault>
-        requires { NestsStatements room (F.pre self.now.read) (F.post self.now.read) }
-        ensures { Steps (spec.read_other (spec.read_statement room) room cursor.old) result cursor.new }
-    {
-        if !cursor.sees(Sign::Word(Keyword::Else)) {
-            return Ok(None);
-        }
-        cursor.word(Keyword::Else)?;
-        Ok(Some(self.body(cursor, room)?))
-    }
-
-    #[tactic(auto, unfolding(c_reading::specs::Statements::read_branch))]
+    #[tactic(auto, unfolding(c_reading::specs::Statements::read_branch, c_reading::specs::Statements::read_other))]
     fn branch(&self, cursor: &mut Cursor<'_>, room: usize) -> Result<Boxed<Statement>, Fault>
         requires { NestsStatements room (F.pre self.now.read) (F.post self.now.read) }
         ensures { Steps (spec.read_branch (spec.read_statement room) room cursor.old) result cursor.new }
@@ -131,9 +85,12 @@ impl<F: Fn(Global, &mut Cursor<'_>, usize) -> Result<Boxed<Statement>, Fault>> B
         cursor.word(Keyword::If)?;
         let condition = condition(self.alloc, cursor, room)?;
         let body = self.body(cursor, room)?;
-        let other = self.other(cursor, room)?;
-        let branch = Statement::If(condition, body, other);
-        Ok(Boxed::new(self.alloc, branch)?)
+        if !cursor.sees(Sign::Word(Keyword::Else)) {
+            return Ok(Boxed::new(self.alloc, Statement::If(condition, body, None))?);
+        }
+        cursor.word(Keyword::Else)?;
+        let other = self.body(cursor, room)?;
+        Ok(Boxed::new(self.alloc, Statement::If(condition, body, Some(other)))?)
     }
 
     #[tactic(auto, unfolding(c_reading::specs::Statements::read_while))]
@@ -162,41 +119,27 @@ impl<F: Fn(Global, &mut Cursor<'_>, usize) -> Result<Boxed<Statement>, Fault>> B
         Ok(Boxed::new(self.alloc, do_loop)?)
     }
 
-    /// The body, with what stands before it.
-    #[tactic(auto, unfolding(c_reading::specs::Statements::read_with_body))]
-    fn with_body<H: Drop>(
-        &self,
-        cursor: &mut Cursor<'_>,
-        room: usize,
-        head: H,
-    ) -> Result<(H, Boxed<Statement>), Fault>
-        requires { NestsStatements room (F.pre self.now.read) (F.post self.now.read) }
-        ensures { Steps (spec.read_with_body (spec.read_statement room) room head cursor.old) result cursor.new }
-    {
-        let body = self.body(cursor, room)?;
-        Ok((head, body))
-    }
-
-    #[tactic(auto, unfolding(c_reading::specs::Statements::read_for))]
+    #[tactic(auto, unfolding(c_reading::specs::Statements::read_for, c_reading::specs::Statements::read_with_body))]
     fn for_loop(&self, cursor: &mut Cursor<'_>, room: usize) -> Result<Boxed<Statement>, Fault>
         requires { NestsStatements room (F.pre self.now.read) (F.post self.now.read) }
         ensures { Steps (spec.read_for (spec.read_statement room) room cursor.old) result cursor.new }
     {
         cursor.word(Keyword::For)?;
-        let head = for_head(self.alloc, cursor, room)?;
-        let ((start, condition, step), body) = self.with_body(cursor, room, head)?;
+        let (start, condition, step) = for_head(self.alloc, cursor, room)?;
+        let body = self.body(cursor, room)?;
         let for_loop = Statement::For(start, condition, step, body);
         Ok(Boxed::new(self.alloc, for_loop)?)
     }
 
     /// A block or a control statement.
-    #[tactic(auto, unfolding(c_reading::specs::Statements::read_compound))]
+    #[tactic(auto, unfolding(c_reading::specs::Statements::read_compound, c_reading::specs::Statements::read_block_statement))]
     fn compound(&self, cursor: &mut Cursor<'_>, room: usize) -> Result<Boxed<Statement>, Fault>
         requires { NestsStatements room (F.pre self.now.read) (F.post self.now.read) }
         ensures { Steps (spec.read_compound (spec.read_statement room) room cursor.old) result cursor.new }
     {
         if cursor.sees(Sign::Mark(Punctuator::OpenCurly)) {
-            self.block_statement(cursor, room)
+            let block = self.block(cursor, room)?;
+            Ok(Boxed::new(self.alloc, Statement::Block(block))?)
         } else if cursor.sees(Sign::Word(Keyword::If)) {
             self.branch(cursor, room)
         } else if cursor.sees(Sign::Word(Keyword::While)) {
