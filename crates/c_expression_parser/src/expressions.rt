@@ -12,8 +12,7 @@ ghost use Rattle.c_expression_parser.specs.Nests.{Nests, read_part};
 use c_cursor::Cursor;
 use c_token::{Keyword, Punctuator};
 use c_tree::{
-    Argument, Call, Choice, Expression, Form, Name, Place, Pointer, Sign, Specifiers, Term,
-    TypeWord,
+    Argument, Call, Choice, Expression, Form, Place, Pointer, Sign, Specifiers, Term, TypeWord,
 };
 use grammar::{Fault, too_deep};
 use sqlite_items::{Boxed, Items};
@@ -23,7 +22,7 @@ use std::alloc::{AllocError, Global};
 const LEVELS: usize = 10;
 
 /// Which of the two rules that refer to themselves.
-#[derive(Clone, Copy, PartialEq, Eq)]
+#[derive(Clone, Copy)]
 pub enum Part {
     /// An operand of a binary operator.
     Operand,
@@ -35,17 +34,6 @@ fn boxed(alloc: Global, offset: usize, form: Form) -> Result<Boxed<Expression>, 
     ensures { IfOk result (λ e. e ≡ tree.expression offset form) }
 {
     Boxed::new(alloc, Expression { offset, form })
-}
-
-/// The expression with parentheses round it, the first of them at the place.
-fn moved(
-    alloc: Global,
-    offset: usize,
-    inner: Boxed<Expression>,
-) -> Result<Boxed<Expression>, AllocError>
-    ensures { IfOk result (λ e. e ≡ tree.moved offset inner) }
-{
-    boxed(alloc, offset, inner.into_inner().form)
 }
 
 /// The operand with the terms that follow it.
@@ -60,18 +48,6 @@ fn joined(
         return Ok(first);
     }
     boxed(alloc, first.get().offset, Form::Binary(first, terms))
-}
-
-/// The value with the choices round it; the place is that of the outermost condition.
-fn conditional(
-    alloc: Global,
-    offset: usize,
-    value: Boxed<Expression>,
-    choices: Items<Choice>,
-) -> Result<Boxed<Expression>, AllocError>
-    ensures { IfOk result (λ e. e ≡ tree.conditional offset value choices) }
-{
-    boxed(alloc, offset, Form::Conditional(value, choices))
 }
 
 fn words(alloc: Global, cursor: &mut Cursor<'_>, first: TypeWord) -> Result<Items<TypeWord>, Fault>
@@ -98,39 +74,6 @@ pub fn specifiers(alloc: Global, cursor: &mut Cursor<'_>) -> Result<Specifiers, 
     Ok(Specifiers { words, offset })
 }
 
-/// A type in parentheses, with the place of the first of them.
-#[tactic(auto, unfolding(c_reading::specs::Expressions::read_conversion))]
-fn conversion(
-    alloc: Global,
-    cursor: &mut Cursor<'_>,
-    room: usize,
-) -> Result<(Specifiers, usize), Fault>
-    ensures { Steps (spec.read_conversion room cursor.old) result cursor.new }
-{
-    if room == 0 {
-        return Err(too_deep(cursor.sees(Sign::Mark(Punctuator::OpenRound)), false));
-    }
-    let offset = cursor.mark(Punctuator::OpenRound)?;
-    let specifiers = specifiers(alloc, cursor)?;
-    cursor.mark(Punctuator::CloseRound)?;
-    Ok((specifiers, offset))
-}
-
-/// `(void *)`, and the place of its parenthesis.
-#[tactic(auto, unfolding(c_reading::specs::Expressions::read_conversion_to_pointer))]
-fn conversion_to_pointer(cursor: &mut Cursor<'_>, room: usize) -> Result<usize, Fault>
-    ensures { Steps (spec.read_conversion_to_pointer room cursor.old) result cursor.new }
-{
-    if room == 0 {
-        return Err(too_deep(cursor.sees(Sign::Mark(Punctuator::OpenRound)), false));
-    }
-    let offset = cursor.mark(Punctuator::OpenRound)?;
-    cursor.word(Keyword::Void)?;
-    cursor.mark(Punctuator::Star)?;
-    cursor.mark(Punctuator::CloseRound)?;
-    Ok(offset)
-}
-
 /// Reads `NULL`.
 #[tactic(auto, unfolding(c_reading::specs::Expressions::read_null))]
 pub fn null(cursor: &mut Cursor<'_>) -> Result<Pointer, Fault>
@@ -143,22 +86,6 @@ pub fn null(cursor: &mut Cursor<'_>) -> Result<Pointer, Fault>
     })
 }
 
-#[tactic(auto, unfolding(c_reading::specs::Expressions::read_text_argument))]
-fn text_argument(alloc: Global, cursor: &mut Cursor<'_>) -> Result<Boxed<Argument>, Fault>
-    ensures { Steps (spec.read_text_argument cursor.old) result cursor.new }
-{
-    let (bytes, offset) = cursor.text(alloc)?;
-    Ok(Boxed::new(alloc, Argument::Text(bytes, offset))?)
-}
-
-#[tactic(auto, unfolding(c_reading::specs::Expressions::read_null_argument))]
-fn null_argument(alloc: Global, cursor: &mut Cursor<'_>) -> Result<Boxed<Argument>, Fault>
-    ensures { Steps (spec.read_null_argument cursor.old) result cursor.new }
-{
-    let pointer = null(cursor)?;
-    Ok(Boxed::new(alloc, Argument::Pointer(pointer))?)
-}
-
 /// The rules of expressions, by the function that reads what is in them. The room of each is how many levels of nesting
 /// are left inside of the phrase.
 #[derive(Clone, Copy)]
@@ -168,56 +95,21 @@ pub struct Rules<F> {
 }
 
 impl<F: Fn(Global, &mut Cursor<'_>, usize, Part) -> Result<Boxed<Expression>, Fault>> Rules<F> {
-    /// An operand one level deeper.
-    fn inner(&self, cursor: &mut Cursor<'_>, room: usize) -> Result<Boxed<Expression>, Fault>
-        requires { Nests room (F.pre self.now.read) (F.post self.now.read) }
-        ensures { Steps (spec.read_cast room cursor.old) result cursor.new }
-    {
-        (self.read)(self.alloc, cursor, room, Part::Operand)
-    }
-
-    /// An expression one level deeper.
-    fn whole_inside(&self, cursor: &mut Cursor<'_>, room: usize) -> Result<Boxed<Expression>, Fault>
-        requires { Nests room (F.pre self.now.read) (F.post self.now.read) }
-        ensures { Steps (spec.read_expr room cursor.old) result cursor.new }
-    {
-        (self.read)(self.alloc, cursor, room, Part::Whole)
-    }
-
-    #[tactic(auto, unfolding(c_reading::specs::Expressions::read_parenthesized))]
-    fn parenthesized(
+    /// An operand or an expression one level deeper.
+    fn inside(
         &self,
         cursor: &mut Cursor<'_>,
         room: usize,
+        part: Part,
     ) -> Result<Boxed<Expression>, Fault>
         requires { Nests room (F.pre self.now.read) (F.post self.now.read) }
-        ensures { Steps (spec.read_parenthesized (spec.read_expr room) room cursor.old) result cursor.new }
+        ensures { Steps (read_part part room cursor.old) result cursor.new }
     {
-        if room == 0 {
-            return Err(too_deep(cursor.sees(Sign::Mark(Punctuator::OpenRound)), false));
-        }
-        let offset = cursor.mark(Punctuator::OpenRound)?;
-        let inner = self.whole_inside(cursor, room)?;
-        cursor.mark(Punctuator::CloseRound)?;
-        Ok(moved(self.alloc, offset, inner)?)
-    }
-
-    #[tactic(auto, unfolding(c_reading::specs::Expressions::read_index))]
-    fn index(&self, cursor: &mut Cursor<'_>, room: usize) -> Result<Boxed<Expression>, Fault>
-        requires { Nests room (F.pre self.now.read) (F.post self.now.read) }
-        ensures { Steps (spec.read_index (spec.read_expr room) room cursor.old) result cursor.new }
-    {
-        if room == 0 {
-            return Err(too_deep(cursor.sees(Sign::Mark(Punctuator::OpenSquare)), false));
-        }
-        cursor.mark(Punctuator::OpenSquare)?;
-        let index = self.whole_inside(cursor, room)?;
-        cursor.mark(Punctuator::CloseSquare)?;
-        Ok(index)
+        (self.read)(self.alloc, cursor, room, part)
     }
 
     /// What stands between brackets, if there are any.
-    #[tactic(auto, unfolding(c_reading::specs::Expressions::read_optional_index))]
+    #[tactic(auto, unfolding(c_reading::specs::Expressions::read_optional_index, c_reading::specs::Expressions::read_index))]
     pub fn optional_index(
         &self,
         cursor: &mut Cursor<'_>,
@@ -229,7 +121,13 @@ impl<F: Fn(Global, &mut Cursor<'_>, usize, Part) -> Result<Boxed<Expression>, Fa
         if !cursor.sees(Sign::Mark(Punctuator::OpenSquare)) {
             return Ok(None);
         }
-        Ok(Some(self.index(cursor, room)?))
+        if room == 0 {
+            return Err(too_deep(cursor.sees(Sign::Mark(Punctuator::OpenSquare)), false));
+        }
+        cursor.mark(Punctuator::OpenSquare)?;
+        let index = self.inside(cursor, room, Part::Whole)?;
+        cursor.mark(Punctuator::CloseSquare)?;
+        Ok(Some(index))
     }
 
     /// Reads a name, with its index where one stands behind it.
@@ -244,30 +142,23 @@ impl<F: Fn(Global, &mut Cursor<'_>, usize, Part) -> Result<Boxed<Expression>, Fa
     }
 
     /// Reads `(void *)` and its operand.
-    #[tactic(auto, unfolding(c_reading::specs::Expressions::read_converted_pointer))]
+    #[tactic(auto, unfolding(c_reading::specs::Expressions::read_converted_pointer, c_reading::specs::Expressions::read_conversion_to_pointer))]
     pub fn converted_pointer(&self, cursor: &mut Cursor<'_>, room: usize) -> Result<Pointer, Fault>
         requires { Nests room (F.pre self.now.read) (F.post self.now.read) }
         ensures { Steps (spec.read_converted_pointer (spec.read_cast room) room cursor.old) result cursor.new }
     {
-        let offset = conversion_to_pointer(cursor, room)?;
-        let operand = self.inner(cursor, room)?;
+        if room == 0 {
+            return Err(too_deep(cursor.sees(Sign::Mark(Punctuator::OpenRound)), false));
+        }
+        let offset = cursor.mark(Punctuator::OpenRound)?;
+        cursor.word(Keyword::Void)?;
+        cursor.mark(Punctuator::Star)?;
+        cursor.mark(Punctuator::CloseRound)?;
+        let operand = self.inside(cursor, room, Part::Operand)?;
         Ok(Pointer {
             operand: Some(operand),
             offset,
         })
-    }
-
-    #[tactic(auto, unfolding(c_reading::specs::Expressions::read_pointer_argument))]
-    fn pointer_argument(
-        &self,
-        cursor: &mut Cursor<'_>,
-        room: usize,
-    ) -> Result<Boxed<Argument>, Fault>
-        requires { Nests room (F.pre self.now.read) (F.post self.now.read) }
-        ensures { Steps (spec.read_pointer_argument (spec.read_cast room) room cursor.old) result cursor.new }
-    {
-        let pointer = self.converted_pointer(cursor, room)?;
-        Ok(Boxed::new(self.alloc, Argument::Pointer(pointer))?)
     }
 
     /// A place one level deeper.
@@ -282,43 +173,29 @@ impl<F: Fn(Global, &mut Cursor<'_>, usize, Part) -> Result<Boxed<Expression>, Fa
         self.place(cursor, room - 1)
     }
 
-    /// `&` and a place.
-    #[tactic(auto, unfolding(c_reading::specs::Expressions::read_address))]
-    fn address(&self, cursor: &mut Cursor<'_>, room: usize) -> Result<Boxed<Argument>, Fault>
-        requires { Nests room (F.pre self.now.read) (F.post self.now.read) }
-        ensures { Steps (spec.read_address (spec.read_target room) cursor.old) result cursor.new }
-    {
-        let offset = cursor.mark(Punctuator::And)?;
-        let place = self.target(cursor, room)?;
-        Ok(Boxed::new(self.alloc, Argument::Address(place, offset))?)
-    }
-
-    #[tactic(auto, unfolding(c_reading::specs::Expressions::read_value_argument))]
-    fn value_argument(&self, cursor: &mut Cursor<'_>, room: usize) -> Result<Boxed<Argument>, Fault>
-        requires { Nests room (F.pre self.now.read) (F.post self.now.read) }
-        ensures { Steps (spec.read_value_argument (spec.read_expr room) cursor.old) result cursor.new }
-    {
-        let value = self.whole_inside(cursor, room)?;
-        Ok(Boxed::new(self.alloc, Argument::Value(value))?)
-    }
-
     /// An argument, where a level is left for it.
-    #[tactic(auto, unfolding(c_reading::specs::Expressions::read_any_argument))]
+    #[tactic(auto, unfolding(c_reading::specs::Expressions::read_any_argument, c_reading::specs::Expressions::read_text_argument, c_reading::specs::Expressions::read_address, c_reading::specs::Expressions::read_null_argument, c_reading::specs::Expressions::read_pointer_argument, c_reading::specs::Expressions::read_value_argument))]
     fn any_argument(&self, cursor: &mut Cursor<'_>, room: usize) -> Result<Boxed<Argument>, Fault>
         requires nests { Nests room (F.pre self.now.read) (F.post self.now.read) }
         requires some { 0 < room }
         ensures { Steps (spec.read_any_argument (spec.read_expr room) (spec.read_cast (room - 1)) (spec.read_target (room - 1)) (room - 1) cursor.old) result cursor.new }
     {
         if cursor.sees_text() {
-            text_argument(self.alloc, cursor)
+            let (bytes, offset) = cursor.text(self.alloc)?;
+            Ok(Boxed::new(self.alloc, Argument::Text(bytes, offset))?)
         } else if cursor.sees(Sign::Mark(Punctuator::And)) {
-            self.address(cursor, room - 1)
+            let offset = cursor.mark(Punctuator::And)?;
+            let place = self.target(cursor, room - 1)?;
+            Ok(Boxed::new(self.alloc, Argument::Address(place, offset))?)
         } else if cursor.sees(Sign::Word(Keyword::Null)) {
-            null_argument(self.alloc, cursor)
+            let pointer = null(cursor)?;
+            Ok(Boxed::new(self.alloc, Argument::Pointer(pointer))?)
         } else if cursor.begins_conversion_to_pointer() {
-            self.pointer_argument(cursor, room - 1)
+            let pointer = self.converted_pointer(cursor, room - 1)?;
+            Ok(Boxed::new(self.alloc, Argument::Pointer(pointer))?)
         } else {
-            self.value_argument(cursor, room)
+            let value = self.inside(cursor, room, Part::Whole)?;
+            Ok(Boxed::new(self.alloc, Argument::Value(value))?)
         }
     }
 
@@ -333,51 +210,24 @@ impl<F: Fn(Global, &mut Cursor<'_>, usize, Part) -> Result<Boxed<Expression>, Fa
         self.any_argument(cursor, room)
     }
 
-    /// A comma and one more argument.
-    #[tactic(auto, unfolding(c_reading::specs::Tokens::read_next))]
-    fn next_argument(&self, cursor: &mut Cursor<'_>, room: usize) -> Result<Boxed<Argument>, Fault>
+    /// No argument, or one or more with commas between them.
+    fn listed(&self, cursor: &mut Cursor<'_>, room: usize) -> Result<Items<Argument>, Fault>
         requires { Nests room (F.pre self.now.read) (F.post self.now.read) }
-        ensures { Steps (tokens_of.read_next (spec.read_argument room) cursor.old) result cursor.new }
-    {
-        cursor.mark(Punctuator::Comma)?;
-        self.argument(cursor, room)
-    }
-
-    /// The arguments behind the first one.
-    fn more_arguments(
-        &self,
-        cursor: &mut Cursor<'_>,
-        room: usize,
-        first: Boxed<Argument>,
-    ) -> Result<Items<Argument>, Fault>
-        requires { Nests room (F.pre self.now.read) (F.post self.now.read) }
-        ensures { Steps (tokens_of.read_more (spec.read_argument room) first cursor.old) result cursor.new }
+        ensures { Steps (tokens_of.read_any tokens_of.begins_argument (spec.read_argument room) cursor.old) result cursor.new }
     {
         let mut found = Items::new(self.alloc);
-        found.push(first.into_inner())?;
+        if !cursor.begins_argument() {
+            return Ok(found);
+        }
+        found.push(self.argument(cursor, room)?.into_inner())?;
         for _turn in 0..cursor.left() {
             if !cursor.sees(Sign::Mark(Punctuator::Comma)) {
                 return Ok(found);
             }
-            found.push(self.next_argument(cursor, room)?.into_inner())?;
+            cursor.mark(Punctuator::Comma)?;
+            found.push(self.argument(cursor, room)?.into_inner())?;
         }
         Ok(found)
-    }
-
-    #[tactic(auto, unfolding(c_reading::specs::Tokens::read_any, c_reading::specs::Tokens::read_listed))]
-    fn arguments_inside(
-        &self,
-        cursor: &mut Cursor<'_>,
-        room: usize,
-    ) -> Result<Items<Argument>, Fault>
-        requires { Nests room (F.pre self.now.read) (F.post self.now.read) }
-        ensures { Steps (tokens_of.read_any tokens_of.begins_argument (spec.read_argument room) cursor.old) result cursor.new }
-    {
-        if !cursor.begins_argument() {
-            return Ok(Items::new(self.alloc));
-        }
-        let first = self.argument(cursor, room)?;
-        self.more_arguments(cursor, room, first)
     }
 
     /// Arguments in parentheses.
@@ -390,95 +240,69 @@ impl<F: Fn(Global, &mut Cursor<'_>, usize, Part) -> Result<Boxed<Expression>, Fa
             return Err(too_deep(cursor.sees(Sign::Mark(Punctuator::OpenRound)), false));
         }
         cursor.mark(Punctuator::OpenRound)?;
-        let found = self.arguments_inside(cursor, room)?;
+        let found = self.listed(cursor, room)?;
         cursor.mark(Punctuator::CloseRound)?;
         Ok(found)
     }
 
-    /// The call whose name was read.
-    #[tactic(auto, unfolding(c_reading::specs::Expressions::read_call_of))]
-    fn call_of(
-        &self,
-        cursor: &mut Cursor<'_>,
-        room: usize,
-        name: Name,
-    ) -> Result<Boxed<Expression>, Fault>
-        requires { Nests room (F.pre self.now.read) (F.post self.now.read) }
-        ensures { Steps (spec.read_call_of (spec.read_cast room) (spec.read_expr room) (spec.read_argument room) room name cursor.old) result cursor.new }
-    {
-        let offset = name.offset;
-        let arguments = self.arguments(cursor, room)?;
-        let call = Call { name, arguments };
-        Ok(boxed(self.alloc, offset, Form::Call(call))?)
-    }
-
-    /// The value of the place whose name was read.
-    #[tactic(auto, unfolding(c_reading::specs::Expressions::read_place_of))]
-    fn place_of(
-        &self,
-        cursor: &mut Cursor<'_>,
-        room: usize,
-        name: Name,
-    ) -> Result<Boxed<Expression>, Fault>
-        requires { Nests room (F.pre self.now.read) (F.post self.now.read) }
-        ensures { Steps (spec.read_place_of (spec.read_cast room) (spec.read_expr room) (spec.read_argument room) room name cursor.old) result cursor.new }
-    {
-        let offset = name.offset;
-        let index = self.optional_index(cursor, room)?;
-        let place = Place { name, index };
-        Ok(boxed(self.alloc, offset, Form::Place(place))?)
-    }
-
     /// A place, or a call.
-    #[tactic(auto, unfolding(c_reading::specs::Expressions::read_named))]
+    #[tactic(auto, unfolding(c_reading::specs::Expressions::read_named, c_reading::specs::Expressions::read_call_of, c_reading::specs::Expressions::read_place_of))]
     fn named(&self, cursor: &mut Cursor<'_>, room: usize) -> Result<Boxed<Expression>, Fault>
         requires { Nests room (F.pre self.now.read) (F.post self.now.read) }
         ensures { Steps (spec.read_named (spec.read_cast room) (spec.read_expr room) (spec.read_argument room) room cursor.old) result cursor.new }
     {
         let name = cursor.name(self.alloc)?;
+        let offset = name.offset;
         if cursor.sees(Sign::Mark(Punctuator::OpenRound)) {
-            self.call_of(cursor, room, name)
-        } else {
-            self.place_of(cursor, room, name)
+            let arguments = self.arguments(cursor, room)?;
+            let call = Call { name, arguments };
+            return Ok(boxed(self.alloc, offset, Form::Call(call))?);
         }
+        let index = self.optional_index(cursor, room)?;
+        let place = Place { name, index };
+        Ok(boxed(self.alloc, offset, Form::Place(place))?)
     }
 
-    #[tactic(auto, unfolding(c_reading::specs::Expressions::read_primary))]
+    /// A name and what belongs to it, a constant, or an expression in parentheses, whose place is that of the first of
+    /// them.
+    #[tactic(auto, unfolding(c_reading::specs::Expressions::read_primary, c_reading::specs::Expressions::read_parenthesized))]
     fn primary(&self, cursor: &mut Cursor<'_>, room: usize) -> Result<Boxed<Expression>, Fault>
         requires { Nests room (F.pre self.now.read) (F.post self.now.read) }
         ensures { Steps (spec.read_primary (spec.read_cast room) (spec.read_expr room) (spec.read_argument room) room cursor.old) result cursor.new }
     {
         if cursor.sees_name() {
-            self.named(cursor, room)
-        } else if cursor.sees_constant() {
-            Ok(Boxed::new(self.alloc, cursor.constant()?)?)
-        } else {
-            self.parenthesized(cursor, room)
+            return self.named(cursor, room);
         }
+        if cursor.sees_constant() {
+            return Ok(Boxed::new(self.alloc, cursor.constant()?)?);
+        }
+        if room == 0 {
+            return Err(too_deep(cursor.sees(Sign::Mark(Punctuator::OpenRound)), false));
+        }
+        let offset = cursor.mark(Punctuator::OpenRound)?;
+        let inner = self.inside(cursor, room, Part::Whole)?;
+        cursor.mark(Punctuator::CloseRound)?;
+        Ok(boxed(self.alloc, offset, inner.into_inner().form)?)
     }
 
-    #[tactic(auto, unfolding(c_reading::specs::Expressions::read_unary))]
-    fn unary(&self, cursor: &mut Cursor<'_>, room: usize) -> Result<Boxed<Expression>, Fault>
-        requires { Nests room (F.pre self.now.read) (F.post self.now.read) }
-        ensures { Steps (spec.read_unary (spec.read_cast room) (spec.read_expr room) (spec.read_argument room) room cursor.old) result cursor.new }
-    {
-        let (operator, offset) = cursor.unary_operator()?;
-        let operand = self.inner(cursor, room)?;
-        Ok(boxed(self.alloc, offset, Form::Unary(operator, operand))?)
-    }
-
-    #[tactic(auto, unfolding(c_reading::specs::Expressions::read_converted))]
+    /// A conversion to the type in parentheses.
+    #[tactic(auto, unfolding(c_reading::specs::Expressions::read_converted, c_reading::specs::Expressions::read_conversion))]
     fn converted(&self, cursor: &mut Cursor<'_>, room: usize) -> Result<Boxed<Expression>, Fault>
         requires { Nests room (F.pre self.now.read) (F.post self.now.read) }
         ensures { Steps (spec.read_converted (spec.read_cast room) (spec.read_expr room) (spec.read_argument room) room cursor.old) result cursor.new }
     {
-        let (specifiers, offset) = conversion(self.alloc, cursor, room)?;
-        let operand = self.inner(cursor, room)?;
+        if room == 0 {
+            return Err(too_deep(cursor.sees(Sign::Mark(Punctuator::OpenRound)), false));
+        }
+        let offset = cursor.mark(Punctuator::OpenRound)?;
+        let specifiers = specifiers(self.alloc, cursor)?;
+        cursor.mark(Punctuator::CloseRound)?;
+        let operand = self.inside(cursor, room, Part::Operand)?;
         Ok(boxed(self.alloc, offset, Form::Cast(specifiers, operand))?)
     }
 
     /// An operand of a binary operator.
-    #[tactic(auto, unfolding(c_reading::specs::Expressions::read_operand))]
+    #[tactic(auto, unfolding(c_reading::specs::Expressions::read_operand, c_reading::specs::Expressions::read_unary))]
     fn operand(&self, cursor: &mut Cursor<'_>, room: usize) -> Result<Boxed<Expression>, Fault>
         requires { Nests room (F.pre self.now.read) (F.post self.now.read) }
         ensures { Steps (spec.read_operand (spec.read_cast room) (spec.read_expr room) (spec.read_argument room) room cursor.old) result cursor.new }
@@ -486,28 +310,12 @@ impl<F: Fn(Global, &mut Cursor<'_>, usize, Part) -> Result<Boxed<Expression>, Fa
         if cursor.begins_conversion() {
             self.converted(cursor, room)
         } else if cursor.sees_unary_operator() {
-            self.unary(cursor, room)
+            let (operator, offset) = cursor.unary_operator()?;
+            let operand = self.inside(cursor, room, Part::Operand)?;
+            Ok(boxed(self.alloc, offset, Form::Unary(operator, operand))?)
         } else {
             self.primary(cursor, room)
         }
-    }
-
-    /// A binary operator of the level, and its right operand.
-    #[cycle(levels)]
-    #[tactic(auto, unfolding(c_reading::specs::Expressions::read_term))]
-    fn term(&self, cursor: &mut Cursor<'_>, room: usize, level: usize) -> Result<Boxed<Term>, Fault>
-        requires nests { Nests room (F.pre self.now.read) (F.post self.now.read) }
-        requires some { 0 < level }
-        ensures { Steps (spec.read_term level (spec.read_binary (level - 1) (spec.operand_within room)) cursor.old) result cursor.new }
-    {
-        let (operator, offset) = cursor.operator(level)?;
-        let operand = self.binary(cursor, room, level - 1)?;
-        let term = Term {
-            operator,
-            offset,
-            operand: operand.into_inner(),
-        };
-        Ok(Boxed::new(self.alloc, term)?)
     }
 
     /// The operators of the level, each with its right operand.
@@ -527,7 +335,13 @@ impl<F: Fn(Global, &mut Cursor<'_>, usize, Part) -> Result<Boxed<Expression>, Fa
             if !cursor.binds_at(level) {
                 return Ok(found);
             }
-            found.push(self.term(cursor, room, level)?.into_inner())?;
+            let (operator, offset) = cursor.operator(level)?;
+            let operand = self.binary(cursor, room, level - 1)?;
+            found.push(Term {
+                operator,
+                offset,
+                operand: operand.into_inner(),
+            })?;
         }
         Ok(found)
     }
@@ -589,29 +403,8 @@ impl<F: Fn(Global, &mut Cursor<'_>, usize, Part) -> Result<Boxed<Expression>, Fa
         Ok((conditions, value))
     }
 
-    /// `:`, and what stands behind it.
+    /// The choices, and behind them that of the condition: `:`, and what stands behind it.
     #[tactic(auto, unfolding(c_reading::specs::Expressions::read_choice))]
-    fn choice(
-        &self,
-        cursor: &mut Cursor<'_>,
-        room: usize,
-        asked: (Boxed<Expression>, usize),
-    ) -> Result<Boxed<Choice>, Fault>
-        requires { Nests room (F.pre self.now.read) (F.post self.now.read) }
-        ensures { Steps (spec.read_choice (spec.read_cast room) (spec.read_expr room) (spec.read_argument room) room asked cursor.old) result cursor.new }
-    {
-        cursor.mark(Punctuator::Colon)?;
-        let otherwise = self.whole_inside(cursor, room)?;
-        let (condition, offset) = asked;
-        let choice = Choice {
-            condition: condition.into_inner(),
-            offset,
-            otherwise: otherwise.into_inner(),
-        };
-        Ok(Boxed::new(self.alloc, choice)?)
-    }
-
-    /// The choices, and behind them that of the condition.
     fn with_choice(
         &self,
         cursor: &mut Cursor<'_>,
@@ -623,8 +416,14 @@ impl<F: Fn(Global, &mut Cursor<'_>, usize, Part) -> Result<Boxed<Expression>, Fa
         ensures { Steps (and_then (spec.read_choice (spec.read_cast room) (spec.read_expr room) (spec.read_argument room) room asked cursor.old)
             (λ c. reads_pure (appended found c))) result cursor.new }
     {
-        let choice = self.choice(cursor, room, asked)?;
-        found.push(choice.into_inner())?;
+        cursor.mark(Punctuator::Colon)?;
+        let otherwise = self.inside(cursor, room, Part::Whole)?;
+        let (condition, offset) = asked;
+        found.push(Choice {
+            condition: condition.into_inner(),
+            offset,
+            otherwise: otherwise.into_inner(),
+        })?;
         Ok(found)
     }
 
@@ -662,7 +461,7 @@ impl<F: Fn(Global, &mut Cursor<'_>, usize, Part) -> Result<Boxed<Expression>, Fa
         let (question, value) = self.question(cursor, room)?;
         let (conditions, value) = self.questions(cursor, room, value)?;
         let choices = self.choices(cursor, room, (first, question), conditions)?;
-        Ok(conditional(self.alloc, offset, value, choices)?)
+        Ok(boxed(self.alloc, offset, Form::Conditional(value, choices))?)
     }
 
     #[tactic(auto, unfolding(c_reading::specs::Expressions::read_whole))]

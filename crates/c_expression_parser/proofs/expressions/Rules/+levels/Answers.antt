@@ -47,15 +47,22 @@ terms-returns-then-not-binds_at g t c =
     (read_binary (c.args.level - 1) (operand_within c.args.room))) n c.loop-turn.found c.loop-turn.cursor) _ c.loop-turn._turn c.loop-turn-test.true c.loop-turn.invariant in
     first_of (search rules, grind (arith, common_steps))
 
-pub terms-returns-in_err-term : goal.terms-returns-in_err-term
-unfolding reads_while
-terms-returns-in_err-term g t c =
+pub terms-returns-in_err-operator : goal.terms-returns-in_err-operator
+unfolding reads_while read_term
+terms-returns-in_err-operator g t c =
+    let e = one_more (λ n. reads_while (sees (binds_at c.args.level)) appended (read_term c.args.level
+    (read_binary (c.args.level - 1) (operand_within c.args.room))) n c.loop-turn.found c.loop-turn.cursor) _ c.loop-turn._turn c.loop-turn-test.true c.loop-turn.invariant in
+    first_of (search rules, grind (arith, common_steps))
+
+pub terms-returns-in_err-operand : goal.terms-returns-in_err-operand
+unfolding reads_while read_term
+terms-returns-in_err-operand g t c =
     let e = one_more (λ n. reads_while (sees (binds_at c.args.level)) appended (read_term c.args.level
     (read_binary (c.args.level - 1) (operand_within c.args.room))) n c.loop-turn.found c.loop-turn.cursor) _ c.loop-turn._turn c.loop-turn-test.true c.loop-turn.invariant in
     first_of (search rules, grind (arith, common_steps))
 
 pub terms-loop-turn-preserved : goal.terms-loop-turn-preserved
-unfolding reads_while
+unfolding reads_while read_term
 terms-loop-turn-preserved g t c =
     let e = one_more (λ n. reads_while (sees (binds_at c.args.level)) appended (read_term c.args.level
     (read_binary (c.args.level - 1) (operand_within c.args.room))) n c.loop-turn.found c.loop-turn.cursor) _ c.loop-turn._turn c.loop-turn-test.true c.loop-turn.invariant in

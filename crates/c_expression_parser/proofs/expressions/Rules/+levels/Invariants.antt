@@ -5,13 +5,10 @@ use Rattle.c_reading.specs.Expressions.{read_terms, read_term, read_binary, oper
 use Rattle.c_expression_parser.proofs.expressions.Rules.+levels.Given as goal
 
 abbrev pub decreases-binary : goal.decreases-binary
-decreases-binary g l = 3 * l.level
-
-abbrev pub decreases-term : goal.decreases-term
-decreases-term g l = 3 * (l.level - 1) + 1
+decreases-binary g l = 2 * l.level
 
 abbrev pub decreases-terms : goal.decreases-terms
-decreases-terms g l = 3 * (l.level - 1) + 2
+decreases-terms g l = 2 * (l.level - 1) + 1
 
 abbrev pub invariant-terms-loop-turn : goal.invariant-terms-loop-turn
 invariant-terms-loop-turn g l =
