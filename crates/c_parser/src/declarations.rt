@@ -5,8 +5,7 @@ ghost use Rattle.std.specs.Prelude.{◌≡◌};
 ghost use Rattle.grammar.specs.Steps.{Steps};
 ghost use Rattle.c_tree.specs.Tokens.{is_type_word};
 ghost use Rattle.c_reading.specs.Tokens as tokens_of;
-ghost use Rattle.c_reading.specs.Expressions.{read_expr};
-ghost use Rattle.c_reading.specs.Statements.{below, read_block, read_statement};
+ghost use Rattle.c_reading.specs.Statements.{below};
 ghost use Rattle.c_reading.specs.Declarations as spec;
 
 use c_cursor::Cursor;
@@ -36,67 +35,44 @@ fn star(cursor: &mut Cursor<'_>) -> Result<bool, Fault>
     Ok(true)
 }
 
-#[tactic(auto, unfolding(c_reading::specs::Declarations::read_optional_name))]
-fn optional_name(alloc: Global, cursor: &mut Cursor<'_>) -> Result<Option<Name>, Fault>
-    ensures { Steps (spec.read_optional_name cursor.old) result cursor.new }
-{
-    if !cursor.sees_name() {
-        return Ok(None);
-    }
-    Ok(Some(cursor.name(alloc)?))
-}
-
-#[tactic(auto, unfolding(c_reading::specs::Declarations::read_parameter))]
+#[tactic(auto, unfolding(c_reading::specs::Declarations::read_parameter, c_reading::specs::Declarations::read_optional_name))]
 fn parameter(alloc: Global, cursor: &mut Cursor<'_>) -> Result<Parameter, Fault>
     ensures { Steps (spec.read_parameter cursor.old) result cursor.new }
 {
     let specifiers = specifiers(alloc, cursor)?;
     let is_pointer = star(cursor)?;
-    let name = optional_name(alloc, cursor)?;
+    if !cursor.sees_name() {
+        return Ok(Parameter {
+            specifiers,
+            is_pointer,
+            name: None,
+        });
+    }
+    let name = cursor.name(alloc)?;
     Ok(Parameter {
         specifiers,
         is_pointer,
-        name,
+        name: Some(name),
     })
 }
 
-/// A comma and one more parameter.
-#[tactic(auto, unfolding(c_reading::specs::Tokens::read_next))]
-fn next_parameter(alloc: Global, cursor: &mut Cursor<'_>) -> Result<Parameter, Fault>
-    ensures { Steps (tokens_of.read_next spec.read_parameter cursor.old) result cursor.new }
-{
-    cursor.mark(Punctuator::Comma)?;
-    parameter(alloc, cursor)
-}
-
-/// The parameters behind the first one.
-fn more_parameters(
-    alloc: Global,
-    cursor: &mut Cursor<'_>,
-    first: Parameter,
-) -> Result<Items<Parameter>, Fault>
-    ensures { Steps (tokens_of.read_more spec.read_parameter first cursor.old) result cursor.new }
+/// No parameter, or one or more with commas between them.
+fn any_parameters(alloc: Global, cursor: &mut Cursor<'_>) -> Result<Items<Parameter>, Fault>
+    ensures { Steps (tokens_of.read_any is_type_word spec.read_parameter cursor.old) result cursor.new }
 {
     let mut found = Items::new(alloc);
-    found.push(first)?;
+    if !cursor.sees_type_word() {
+        return Ok(found);
+    }
+    found.push(parameter(alloc, cursor)?)?;
     for _turn in 0..cursor.left() {
         if !cursor.sees(Sign::Mark(Punctuator::Comma)) {
             return Ok(found);
         }
-        found.push(next_parameter(alloc, cursor)?)?;
+        cursor.mark(Punctuator::Comma)?;
+        found.push(parameter(alloc, cursor)?)?;
     }
     Ok(found)
-}
-
-#[tactic(auto, unfolding(c_reading::specs::Tokens::read_any, c_reading::specs::Tokens::read_listed))]
-fn any_parameters(alloc: Global, cursor: &mut Cursor<'_>) -> Result<Items<Parameter>, Fault>
-    ensures { Steps (tokens_of.read_any is_type_word spec.read_parameter cursor.old) result cursor.new }
-{
-    if !cursor.sees_type_word() {
-        return Ok(Items::new(alloc));
-    }
-    let first = parameter(alloc, cursor)?;
-    more_parameters(alloc, cursor, first)
 }
 
 /// Parameters in parentheses.
@@ -119,19 +95,6 @@ fn parameters(
 
 // ---- variables at file scope
 
-/// A comma and one more value.
-#[tactic(auto, unfolding(c_reading::specs::Tokens::read_next))]
-fn next_value(
-    alloc: Global,
-    cursor: &mut Cursor<'_>,
-    room: usize,
-) -> Result<Boxed<Expression>, Fault>
-    ensures { Steps (tokens_of.read_next (read_expr room) cursor.old) result cursor.new }
-{
-    cursor.mark(Punctuator::Comma)?;
-    value(alloc, cursor, room)
-}
-
 /// The values behind the first one. A comma behind the last one is left.
 fn values(
     alloc: Global,
@@ -147,7 +110,8 @@ fn values(
         if !cursor.begins_next_value() {
             return Ok(found);
         }
-        found.push(next_value(alloc, cursor, room)?.into_inner())?;
+        cursor.mark(Punctuator::Comma)?;
+        found.push(value(alloc, cursor, room)?.into_inner())?;
     }
     Ok(found)
 }
@@ -178,48 +142,23 @@ fn list(alloc: Global, cursor: &mut Cursor<'_>, room: usize) -> Result<Initializ
     Ok(Initializer::List(values))
 }
 
-#[tactic(auto, unfolding(c_reading::specs::Declarations::read_mutex))]
-fn mutex(cursor: &mut Cursor<'_>) -> Result<Initializer, Fault>
-    ensures { Steps (spec.read_mutex cursor.old) result cursor.new }
-{
-    cursor.word(Keyword::MutexInitializer)?;
-    Ok(Initializer::Mutex)
-}
-
-#[tactic(auto, unfolding(c_reading::specs::Declarations::read_initial_value))]
-fn initial_expression(
-    alloc: Global,
-    cursor: &mut Cursor<'_>,
-    room: usize,
-) -> Result<Initializer, Fault>
-    ensures { Steps (spec.read_initial_value room (below room) cursor.old) result cursor.new }
-{
-    Ok(Initializer::Value(value(alloc, cursor, room)?))
-}
-
 /// What an object begins with.
-#[tactic(auto, unfolding(c_reading::specs::Declarations::read_initial))]
+#[tactic(auto, unfolding(c_reading::specs::Declarations::read_initial, c_reading::specs::Declarations::read_mutex, c_reading::specs::Declarations::read_initial_value))]
 fn initial(alloc: Global, cursor: &mut Cursor<'_>, room: usize) -> Result<Initializer, Fault>
     ensures { Steps (spec.read_initial room (below room) cursor.old) result cursor.new }
 {
     if cursor.sees(Sign::Mark(Punctuator::OpenCurly)) {
         list(alloc, cursor, inside(room))
     } else if cursor.sees(Sign::Word(Keyword::MutexInitializer)) {
-        mutex(cursor)
+        cursor.word(Keyword::MutexInitializer)?;
+        Ok(Initializer::Mutex)
     } else {
-        initial_expression(alloc, cursor, room)
+        Ok(Initializer::Value(value(alloc, cursor, room)?))
     }
 }
 
-#[tactic(auto, unfolding(c_reading::specs::Declarations::read_initializer))]
-fn initializer(alloc: Global, cursor: &mut Cursor<'_>, room: usize) -> Result<Initializer, Fault>
-    ensures { Steps (spec.read_initializer room (below room) cursor.old) result cursor.new }
-{
-    cursor.mark(Punctuator::Assign)?;
-    initial(alloc, cursor, room)
-}
-
-#[tactic(auto, unfolding(c_reading::specs::Declarations::read_optional_initializer))]
+/// `=` and what an object begins with, if there is one.
+#[tactic(auto, unfolding(c_reading::specs::Declarations::read_optional_initializer, c_reading::specs::Declarations::read_initializer))]
 fn optional_initializer(
     alloc: Global,
     cursor: &mut Cursor<'_>,
@@ -230,7 +169,8 @@ fn optional_initializer(
     if !cursor.sees(Sign::Mark(Punctuator::Assign)) {
         return Ok(None);
     }
-    Ok(Some(initializer(alloc, cursor, room)?))
+    cursor.mark(Punctuator::Assign)?;
+    Ok(Some(initial(alloc, cursor, room)?))
 }
 
 /// The variable whose name was read.
@@ -252,20 +192,6 @@ fn global(
     })
 }
 
-/// A comma and one more variable.
-#[tactic(auto, unfolding(c_reading::specs::Declarations::read_next_global))]
-fn next_global(
-    alloc: Global,
-    cursor: &mut Cursor<'_>,
-    room: usize,
-) -> Result<GlobalDeclarator, Fault>
-    ensures { Steps (spec.read_next_global room (below room) cursor.old) result cursor.new }
-{
-    cursor.mark(Punctuator::Comma)?;
-    let name = cursor.name(alloc)?;
-    global(alloc, cursor, room, name)
-}
-
 /// The variables behind the first one.
 fn globals(
     alloc: Global,
@@ -281,7 +207,9 @@ fn globals(
         if !cursor.sees(Sign::Mark(Punctuator::Comma)) {
             return Ok(found);
         }
-        found.push(next_global(alloc, cursor, room)?)?;
+        cursor.mark(Punctuator::Comma)?;
+        let name = cursor.name(alloc)?;
+        found.push(global(alloc, cursor, room, name)?)?;
     }
     Ok(found)
 }
@@ -310,40 +238,20 @@ fn objects(
 
 // ---- functions, and the text as a whole
 
-fn block(alloc: Global, cursor: &mut Cursor<'_>, room: usize) -> Result<Block, Fault>
-    ensures { Steps (read_block (read_statement room) room cursor.old) result cursor.new }
-{
-    let bodies = Bodies {
-        alloc,
-        read: statement,
-    };
-    bodies.block(cursor, room)
-}
-
-#[tactic(auto, unfolding(c_reading::specs::Declarations::read_defined))]
-fn defined(alloc: Global, cursor: &mut Cursor<'_>, room: usize) -> Result<Option<Block>, Fault>
-    ensures { Steps (spec.read_defined room (below room) cursor.old) result cursor.new }
-{
-    Ok(Some(block(alloc, cursor, inside(room))?))
-}
-
-#[tactic(auto, unfolding(c_reading::specs::Declarations::read_prototype))]
-fn prototype(cursor: &mut Cursor<'_>, room: usize) -> Result<Option<Block>, Fault>
-    ensures { Steps (spec.read_prototype room (below room) cursor.old) result cursor.new }
-{
-    cursor.mark(Punctuator::Semicolon)?;
-    Ok(None)
-}
-
 /// A body, or the `;` of a prototype.
-#[tactic(auto, unfolding(c_reading::specs::Declarations::read_body))]
+#[tactic(auto, unfolding(c_reading::specs::Declarations::read_body, c_reading::specs::Declarations::read_defined, c_reading::specs::Declarations::read_prototype))]
 fn body(alloc: Global, cursor: &mut Cursor<'_>, room: usize) -> Result<Option<Block>, Fault>
     ensures { Steps (spec.read_body room (below room) cursor.old) result cursor.new }
 {
     if cursor.sees(Sign::Mark(Punctuator::OpenCurly)) {
-        defined(alloc, cursor, room)
+        let bodies = Bodies {
+            alloc,
+            read: statement,
+        };
+        Ok(Some(bodies.block(cursor, inside(room))?))
     } else {
-        prototype(cursor, room)
+        cursor.mark(Punctuator::Semicolon)?;
+        Ok(None)
     }
 }
 

@@ -27,15 +27,29 @@ returns-then-not-sees c =
     (below c.args.room)) n c.loop-turn.found c.loop-turn.cursor) _ c.loop-turn._turn c.loop-turn-test.true c.loop-turn.invariant in
     first_of (search rules, grind (arith, common_steps))
 
-pub returns-in_err-next_global : goal.returns-in_err-next_global
-unfolding reads_while
-returns-in_err-next_global c =
+pub returns-in_err-mark : goal.returns-in_err-mark
+unfolding reads_while read_next_global
+returns-in_err-mark c =
+    let e = one_more (λ n. reads_while (sees (is (Mark Comma))) appended (read_next_global c.args.room
+    (below c.args.room)) n c.loop-turn.found c.loop-turn.cursor) _ c.loop-turn._turn c.loop-turn-test.true c.loop-turn.invariant in
+    first_of (search rules, grind (arith, common_steps))
+
+pub returns-in_err-name : goal.returns-in_err-name
+unfolding reads_while read_next_global
+returns-in_err-name c =
+    let e = one_more (λ n. reads_while (sees (is (Mark Comma))) appended (read_next_global c.args.room
+    (below c.args.room)) n c.loop-turn.found c.loop-turn.cursor) _ c.loop-turn._turn c.loop-turn-test.true c.loop-turn.invariant in
+    first_of (search rules, grind (arith, common_steps))
+
+pub returns-in_err-global : goal.returns-in_err-global
+unfolding reads_while read_next_global
+returns-in_err-global c =
     let e = one_more (λ n. reads_while (sees (is (Mark Comma))) appended (read_next_global c.args.room
     (below c.args.room)) n c.loop-turn.found c.loop-turn.cursor) _ c.loop-turn._turn c.loop-turn-test.true c.loop-turn.invariant in
     first_of (search rules, grind (arith, common_steps))
 
 pub loop-turn-preserved : goal.loop-turn-preserved
-unfolding reads_while
+unfolding reads_while read_next_global
 loop-turn-preserved c =
     let e = one_more (λ n. reads_while (sees (is (Mark Comma))) appended (read_next_global c.args.room
     (below c.args.room)) n c.loop-turn.found c.loop-turn.cursor) _ c.loop-turn._turn c.loop-turn-test.true c.loop-turn.invariant in

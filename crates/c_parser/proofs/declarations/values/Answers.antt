@@ -28,15 +28,22 @@ returns-then-not-begins_next_value c =
     (read_next (read_expr c.args.room)) n c.loop-turn.found c.loop-turn.cursor) _ c.loop-turn._turn c.loop-turn-test.true c.loop-turn.invariant in
     first_of (search rules, grind (arith, common_steps))
 
-pub returns-in_err-next_value : goal.returns-in_err-next_value
-unfolding reads_while
-returns-in_err-next_value c =
+pub returns-in_err-mark : goal.returns-in_err-mark
+unfolding reads_while read_next
+returns-in_err-mark c =
+    let e = one_more (λ n. reads_while (sees_all (is (Mark Comma) ∷ begins_cast ∷ [])) appended
+    (read_next (read_expr c.args.room)) n c.loop-turn.found c.loop-turn.cursor) _ c.loop-turn._turn c.loop-turn-test.true c.loop-turn.invariant in
+    first_of (search rules, grind (arith, common_steps))
+
+pub returns-in_err-value : goal.returns-in_err-value
+unfolding reads_while read_next
+returns-in_err-value c =
     let e = one_more (λ n. reads_while (sees_all (is (Mark Comma) ∷ begins_cast ∷ [])) appended
     (read_next (read_expr c.args.room)) n c.loop-turn.found c.loop-turn.cursor) _ c.loop-turn._turn c.loop-turn-test.true c.loop-turn.invariant in
     first_of (search rules, grind (arith, common_steps))
 
 pub loop-turn-preserved : goal.loop-turn-preserved
-unfolding reads_while
+unfolding reads_while read_next
 loop-turn-preserved c =
     let e = one_more (λ n. reads_while (sees_all (is (Mark Comma) ∷ begins_cast ∷ [])) appended
     (read_next (read_expr c.args.room)) n c.loop-turn.found c.loop-turn.cursor) _ c.loop-turn._turn c.loop-turn-test.true c.loop-turn.invariant in
