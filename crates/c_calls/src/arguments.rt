@@ -1,9 +1,9 @@
 // Arguments by the form that a call has at their place (C99 6.5.2.2, POSIX pthread.h).
 
-ghost use Rattle.std.specs.Prelude.{◌≡◌, map, option_map};
+ghost use Rattle.std.specs.Prelude.{◌≡◌, option_map};
 ghost use Rattle.std.specs.Option.{option_copied};
 ghost use Rattle.c_program.specs.Plain.{expression_of, expressions_of, object_place_of};
-ghost use Rattle.c_rules.specs.Walks.{Outcome, Walks};
+ghost use Rattle.c_rules.specs.Walks.{Walks};
 ghost use Rattle.c_calls.specs.Arguments as spec;
 
 use c_expressions::expressions::{argument as look_through, expression, index};
@@ -48,32 +48,6 @@ fn refuse(
     look_through(alloc, scope, found, argument)
 }
 
-#[tactic(auto, unfolding(crate::specs::Arguments::refused_value))]
-fn refused_value(
-    alloc: Global,
-    scope: &Scope<'_>,
-    found: &mut Findings,
-    argument: &Argument,
-) -> Result<resolved::Expression, AllocError>
-    ensures { Walks expression_of (spec.refused_value scope.now argument.now found.old) result found.new }
-{
-    refuse(alloc, scope, found, argument)?;
-    Ok(null())
-}
-
-#[tactic(auto, unfolding(crate::specs::Arguments::refused_object))]
-fn refused_object(
-    alloc: Global,
-    scope: &Scope<'_>,
-    found: &mut Findings,
-    argument: &Argument,
-) -> Result<resolved::ObjectPlace, AllocError>
-    ensures { Walks object_place_of (spec.refused_object scope.now argument.now found.old) result found.new }
-{
-    refuse(alloc, scope, found, argument)?;
-    Ok(resolved::ObjectPlace::Single(u32::MAX))
-}
-
 /// An argument that is no start routine, and is of another form than the call has, or not.
 #[tactic(auto, unfolding(crate::specs::Arguments::refused_routine))]
 fn refused_routine(
@@ -91,7 +65,7 @@ fn refused_routine(
 }
 
 /// An argument that is an integer.
-#[tactic(auto, unfolding(crate::specs::Arguments::value_argument))]
+#[tactic(auto, unfolding(crate::specs::Arguments::value_argument, crate::specs::Arguments::refused_value))]
 pub fn value_argument(
     alloc: Global,
     scope: &Scope<'_>,
@@ -102,8 +76,9 @@ pub fn value_argument(
 {
     match argument {
         Argument::Value(value) => expression(alloc, scope, found, value.get()),
-        Argument::Text(_, _) | Argument::Address(_, _) | Argument::Pointer(_) => {
-            refused_value(alloc, scope, found, argument)
+        _ => {
+            refuse(alloc, scope, found, argument)?;
+            Ok(null())
         }
     }
 }
@@ -126,16 +101,6 @@ pub fn value_arguments(
     Ok(values)
 }
 
-/// Whether the argument is `NULL`.
-fn is_null(argument: &Argument) -> bool
-    ensures { result ≡ spec.is_null argument.now }
-{
-    match argument {
-        Argument::Pointer(pointer) => pointer.operand.is_none(),
-        Argument::Value(_) | Argument::Text(_, _) | Argument::Address(_, _) => false,
-    }
-}
-
 /// `NULL`.
 #[tactic(auto, unfolding(crate::specs::Arguments::null_argument))]
 pub fn null_argument(
@@ -146,10 +111,9 @@ pub fn null_argument(
 ) -> Result<(), AllocError>
     ensures { Walks (λ x. x) (spec.null_argument scope.now argument.now found.old) result found.new }
 {
-    if is_null(argument) {
-        Ok(())
-    } else {
-        refuse(alloc, scope, found, argument)
+    match argument {
+        Argument::Pointer(pointer) if pointer.operand.is_none() => Ok(()),
+        _ => refuse(alloc, scope, found, argument),
     }
 }
 
@@ -170,7 +134,7 @@ pub fn pointer_value(
 }
 
 /// `NULL` or `(void *)` and a value.
-#[tactic(auto, unfolding(crate::specs::Arguments::pointer_argument))]
+#[tactic(auto, unfolding(crate::specs::Arguments::pointer_argument, crate::specs::Arguments::refused_value))]
 pub fn pointer_argument(
     alloc: Global,
     scope: &Scope<'_>,
@@ -181,8 +145,9 @@ pub fn pointer_argument(
 {
     match argument {
         Argument::Pointer(pointer) => pointer_value(alloc, scope, found, pointer),
-        Argument::Value(_) | Argument::Text(_, _) | Argument::Address(_, _) => {
-            refused_value(alloc, scope, found, argument)
+        _ => {
+            refuse(alloc, scope, found, argument)?;
+            Ok(null())
         }
     }
 }
@@ -244,42 +209,8 @@ fn object_at(
     }
 }
 
-/// A name of no object of the kind.
-#[tactic(auto, unfolding(crate::specs::Arguments::misused_object))]
-fn misused_object(
-    found: &mut Findings,
-    known: Known,
-    name_offset: usize,
-    offset: usize,
-) -> resolved::ObjectPlace
-    ensures { spec.misused_object known name_offset offset found.old ≡ Outcome.Gives (object_place_of result) found.new }
-{
-    found.add_if(is_unknown(known), Rule::Unknown, name_offset);
-    found.add_if(is_usable(known), Rule::Kind, offset);
-    resolved::ObjectPlace::Single(u32::MAX)
-}
-
-/// What a name stands for, as an object of the kind.
-#[tactic(auto, unfolding(crate::specs::Arguments::object_named))]
-fn object_named(
-    alloc: Global,
-    found: &mut Findings,
-    kind: ObjectKind,
-    known: Known,
-    name_offset: usize,
-    offset: usize,
-    index: Option<resolved::Expression>,
-) -> Result<resolved::ObjectPlace, AllocError>
-    ensures { Walks object_place_of (spec.object_named kind known name_offset offset (option_map expression_of index) found.old) result found.new }
-{
-    match object_of(kind, known) {
-        Some(object) => object_at(alloc, found, name_offset, object, index),
-        None => Ok(misused_object(found, known, name_offset, offset)),
-    }
-}
-
 /// A place of an object of the kind; the argument's first byte is at the offset.
-#[tactic(auto, unfolding(crate::specs::Arguments::object_place))]
+#[tactic(auto, unfolding(crate::specs::Arguments::object_place, crate::specs::Arguments::object_named, crate::specs::Arguments::misused_object))]
 fn object_place(
     alloc: Global,
     scope: &Scope<'_>,
@@ -292,11 +223,18 @@ fn object_place(
 {
     let index = index(alloc, scope, found, place)?;
     let known = scope.look_up(place.name.bytes.as_slice());
-    object_named(alloc, found, kind, known, place.name.offset, offset, index)
+    match object_of(kind, known) {
+        Some(object) => object_at(alloc, found, place.name.offset, object, index),
+        None => {
+            found.add_if(is_unknown(known), Rule::Unknown, place.name.offset);
+            found.add_if(is_usable(known), Rule::Kind, offset);
+            Ok(resolved::ObjectPlace::Single(u32::MAX))
+        }
+    }
 }
 
 /// `&` and an object of the kind.
-#[tactic(auto, unfolding(crate::specs::Arguments::address_argument))]
+#[tactic(auto, unfolding(crate::specs::Arguments::address_argument, crate::specs::Arguments::refused_object))]
 pub fn address_argument(
     alloc: Global,
     scope: &Scope<'_>,
@@ -308,8 +246,9 @@ pub fn address_argument(
 {
     match argument {
         Argument::Address(place, offset) => object_place(alloc, scope, found, kind, place, *offset),
-        Argument::Value(_) | Argument::Text(_, _) | Argument::Pointer(_) => {
-            refused_object(alloc, scope, found, argument)
+        _ => {
+            refuse(alloc, scope, found, argument)?;
+            Ok(resolved::ObjectPlace::Single(u32::MAX))
         }
     }
 }
@@ -329,7 +268,7 @@ fn place_in(argument: &Argument) -> Option<(&Place, usize)>
 }
 
 /// A thread by its name.
-#[tactic(auto, unfolding(crate::specs::Arguments::thread_argument))]
+#[tactic(auto, unfolding(crate::specs::Arguments::thread_argument, crate::specs::Arguments::refused_object))]
 pub fn thread_argument(
     alloc: Global,
     scope: &Scope<'_>,
@@ -342,15 +281,11 @@ pub fn thread_argument(
         Some((place, offset)) => {
             object_place(alloc, scope, found, ObjectKind::Thread, place, offset)
         }
-        None => refused_object(alloc, scope, found, argument),
+        None => {
+            refuse(alloc, scope, found, argument)?;
+            Ok(resolved::ObjectPlace::Single(u32::MAX))
+        }
     }
-}
-
-/// Whether a place without index has a name that is not declared.
-fn is_unnamed(scope: &Scope<'_>, place: &Place) -> bool
-    ensures { result ≡ spec.is_unnamed scope.now place.now }
-{
-    place.index.is_none() && is_unknown(scope.look_up(place.name.bytes.as_slice()))
 }
 
 /// The header of the function that a place without index names.
@@ -366,23 +301,8 @@ fn header_at<'s>(scope: &'s Scope<'_>, place: &Place) -> Option<&'s Header>
     }
 }
 
-/// The number of the definition of the start routine with that header, and the place of its name.
-#[tactic(auto, unfolding(crate::specs::Arguments::routine))]
-fn routine(
-    found: &mut Findings,
-    header: &Header,
-    name_offset: usize,
-    offset: usize,
-) -> Option<(u32, usize)>
-    ensures { spec.routine header.now name_offset offset found.old ≡ Outcome.Gives result found.new }
-{
-    found.add_if(!header.is_start_routine(), Rule::Kind, offset);
-    found.add_if(header.definition.is_none(), Rule::Unknown, name_offset);
-    header.definition.map(|number| (number, name_offset))
-}
-
 /// The name of a start routine: the number of its definition, and the name's place.
-#[tactic(auto, unfolding(crate::specs::Arguments::routine_argument))]
+#[tactic(auto, unfolding(crate::specs::Arguments::routine_argument, crate::specs::Arguments::routine))]
 pub fn routine_argument(
     alloc: Global,
     scope: &Scope<'_>,
@@ -394,11 +314,16 @@ pub fn routine_argument(
     let Some((place, offset)) = place_in(argument) else {
         return refused_routine(alloc, scope, found, true, argument);
     };
-    match header_at(scope, place) {
-        Some(header) => Ok(routine(found, header, place.name.offset, offset)),
-        None => {
-            let is_other = !is_unnamed(scope, place);
-            refused_routine(alloc, scope, found, is_other, argument)
-        }
+    let Some(header) = header_at(scope, place) else {
+        let is_unnamed = place.index.is_none()
+            && is_unknown(scope.look_up(place.name.bytes.as_slice()));
+        return refused_routine(alloc, scope, found, !is_unnamed, argument);
+    };
+    let name_offset = place.name.offset;
+    found.add_if(!header.is_start_routine(), Rule::Kind, offset);
+    found.add_if(header.definition.is_none(), Rule::Unknown, name_offset);
+    match header.definition {
+        Some(number) => Ok(Some((number, name_offset))),
+        None => Ok(None),
     }
 }

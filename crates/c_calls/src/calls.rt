@@ -1,8 +1,7 @@
 // Calls of functions of the text, of printf and of POSIX threads, as statements and as right sides (C99 6.5.2.2).
 
 ghost use Rattle.std.specs.Prelude.{◌≡◌, option_map, IfOk};
-ghost use Rattle.std.specs.Option.{option_copied};
-ghost use Rattle.c_program.specs.Plain.{expression_of, expressions_of, object_place_of, pieces_of, boxed_statement_of, thread_call_of, right_side_of};
+ghost use Rattle.c_program.specs.Plain.{expressions_of, object_place_of, pieces_of, boxed_statement_of, thread_call_of, right_side_of};
 ghost use Rattle.c_program.specs.Tree.{Statement};
 ghost use Rattle.c_program.specs.Resolved.{object_of};
 ghost use Rattle.c_rules.specs.Walks.{Walks};
@@ -24,53 +23,6 @@ use c_rules::library::LibraryFunction;
 use c_rules::names::{Known, Meaning, ObjectKind, Scope};
 use c_tree::{Argument, Call, Expression, Form};
 use std::alloc::{AllocError, Global};
-
-/// The first argument and the rest.
-fn front(arguments: &[Argument]) -> Option<(&Argument, &[Argument])>
-    ensures { option_map (λ r. (r.0.now, r.1.now)) result ≡ spec.front arguments.now }
-{
-    match arguments {
-        [] => None,
-        [first, rest @ ..] => Some((first, rest)),
-    }
-}
-
-/// An argument that stands alone.
-fn one(arguments: &[Argument]) -> Option<&Argument>
-    ensures { option_copied result ≡ spec.one arguments.now }
-{
-    match arguments {
-        [a] => Some(a),
-        _ => None,
-    }
-}
-
-fn two(arguments: &[Argument]) -> Option<(&Argument, &Argument)>
-    ensures { option_map (λ r. (r.0.now, r.1.now)) result ≡ spec.two arguments.now }
-{
-    match arguments {
-        [a, b] => Some((a, b)),
-        _ => None,
-    }
-}
-
-fn three(arguments: &[Argument]) -> Option<(&Argument, &Argument, &Argument)>
-    ensures { option_map (λ r. (r.0.now, r.1.now, r.2.now)) result ≡ spec.three arguments.now }
-{
-    match arguments {
-        [a, b, c] => Some((a, b, c)),
-        _ => None,
-    }
-}
-
-fn four(arguments: &[Argument]) -> Option<(&Argument, &Argument, &Argument, &Argument)>
-    ensures { option_map (λ r. (r.0.now, r.1.now, r.2.now, r.3.now)) result ≡ spec.four arguments.now }
-{
-    match arguments {
-        [a, b, c, d] => Some((a, b, c, d)),
-        _ => None,
-    }
-}
 
 /// The kind of object that a call with one object has.
 fn object_kind(function: LibraryFunction) -> ObjectKind
@@ -105,24 +57,13 @@ fn object_number(place: &resolved::ObjectPlace) -> u32
     }
 }
 
-/// The pieces of the format that the text is; none where it is none of the profile.
-fn text_pieces(alloc: Global, text: &[u8]) -> Result<Option<Vec<resolved::Piece>>, AllocError>
-    ensures { IfOk result (λ r. option_map (λ v. pieces_of v.items) r ≡ spec.text_pieces text.now) }
-{
-    if text.is_empty() {
-        Ok(None)
-    } else {
-        pieces(alloc, text)
-    }
-}
-
 /// The pieces of the format that the argument is; none where it is none of the profile.
 fn format(alloc: Global, argument: &Argument) -> Result<Option<Vec<resolved::Piece>>, AllocError>
     ensures { IfOk result (λ r. option_map (λ v. pieces_of v.items) r ≡ spec.format argument.now) }
 {
     match argument {
-        Argument::Text(bytes, _) => text_pieces(alloc, bytes.as_slice()),
-        Argument::Value(_) | Argument::Address(_, _) | Argument::Pointer(_) => Ok(None),
+        Argument::Text(bytes, _) if !bytes.is_empty() => pieces(alloc, bytes.as_slice()),
+        _ => Ok(None),
     }
 }
 
@@ -136,20 +77,6 @@ fn takes(format: &Option<Vec<resolved::Piece>>, values: usize) -> bool
     }
 }
 
-fn printed(
-    alloc: Global,
-    at: u32,
-    format: Option<Vec<resolved::Piece>>,
-    values: Vec<resolved::Expression>,
-) -> Result<Box<resolved::Statement>, AllocError>
-    ensures { IfOk result (λ s. boxed_statement_of s ≡ spec.printed at (option_map (λ v. pieces_of v.items) format) (expressions_of values.items)) }
-{
-    match format {
-        Some(pieces) => resolved::Statement::Print(at, pieces, values).boxed(alloc),
-        None => resolved::Statement::Empty.boxed(alloc),
-    }
-}
-
 /// A pthread call as a statement.
 fn thread_statement(
     alloc: Global,
@@ -160,57 +87,6 @@ fn thread_statement(
 {
     let call = Box::new(alloc, call)?;
     resolved::Statement::Thread(at, call).boxed(alloc)
-}
-
-/// A create, if it names a routine.
-#[tactic(auto, unfolding(crate::specs::Calls::created))]
-fn created(
-    alloc: Global,
-    found: &mut Findings,
-    at: u32,
-    thread: resolved::ObjectPlace,
-    argument: resolved::Expression,
-    routine: Option<(u32, usize)>,
-) -> Result<Box<resolved::Statement>, AllocError>
-    ensures { Walks boxed_statement_of (spec.created at (object_place_of thread) (expression_of argument) routine found.old) result found.new }
-{
-    let Some((number, offset)) = routine else {
-        return resolved::Statement::Empty.boxed(alloc);
-    };
-    found.add_creation(object_number(&thread), number, offset)?;
-    let argument = Box::new(alloc, argument)?;
-    thread_statement(
-        alloc,
-        at,
-        resolved::ThreadCall::Create(thread, number, argument),
-    )
-}
-
-fn called(
-    alloc: Global,
-    at: u32,
-    function: Option<u32>,
-    values: Vec<resolved::Expression>,
-) -> Result<Box<resolved::Statement>, AllocError>
-    ensures { IfOk result (λ s. boxed_statement_of s ≡ spec.called at function (expressions_of values.items)) }
-{
-    match function {
-        Some(function) => resolved::Statement::Call(at, function, values).boxed(alloc),
-        None => resolved::Statement::Empty.boxed(alloc),
-    }
-}
-
-fn right_called(
-    alloc: Global,
-    function: Option<u32>,
-    values: Vec<resolved::Expression>,
-) -> Result<resolved::RightSide, AllocError>
-    ensures { IfOk result (λ r. right_side_of r ≡ spec.right_called function (expressions_of values.items)) }
-{
-    match function {
-        Some(function) => Ok(resolved::RightSide::Call(function, values)),
-        None => Ok(resolved::RightSide::Value(Box::new(alloc, null())?)),
-    }
 }
 
 /// A call with the wrong number of arguments.
@@ -227,28 +103,8 @@ fn looked_call(
     resolved::Statement::Empty.boxed(alloc)
 }
 
-/// `pthread_create`
-#[tactic(auto, unfolding(crate::specs::Calls::create))]
-fn create(
-    alloc: Global,
-    scope: &Scope<'_>,
-    found: &mut Findings,
-    at: u32,
-    thread: &Argument,
-    attributes: &Argument,
-    routine: &Argument,
-    value: &Argument,
-) -> Result<Box<resolved::Statement>, AllocError>
-    ensures { Walks boxed_statement_of (spec.create scope.now at thread.now attributes.now routine.now value.now found.old) result found.new }
-{
-    let thread = address_argument(alloc, scope, found, ObjectKind::Thread, thread)?;
-    null_argument(alloc, scope, found, attributes)?;
-    let routine = routine_argument(alloc, scope, found, routine)?;
-    let value = pointer_argument(alloc, scope, found, value)?;
-    created(alloc, found, at, thread, value, routine)
-}
-
-#[tactic(auto, unfolding(crate::specs::Calls::create_call))]
+/// `pthread_create`; one that names no routine is no statement.
+#[tactic(auto, unfolding(crate::specs::Calls::create_call, crate::specs::Calls::create, crate::specs::Calls::created))]
 fn create_call(
     alloc: Global,
     scope: &Scope<'_>,
@@ -258,32 +114,26 @@ fn create_call(
 ) -> Result<Box<resolved::Statement>, AllocError>
     ensures { Walks boxed_statement_of (spec.create_call scope.now at arguments.now found.old) result found.new }
 {
-    match four(arguments) {
-        Some((thread, attributes, routine, value)) => {
-            create(alloc, scope, found, at, thread, attributes, routine, value)
-        }
-        None => looked_call(alloc, scope, found, arguments),
-    }
+    let [thread, attributes, routine, value] = arguments else {
+        return looked_call(alloc, scope, found, arguments);
+    };
+    let thread = address_argument(alloc, scope, found, ObjectKind::Thread, thread)?;
+    null_argument(alloc, scope, found, attributes)?;
+    let routine = routine_argument(alloc, scope, found, routine)?;
+    let value = Box::new(alloc, pointer_argument(alloc, scope, found, value)?)?;
+    let Some((number, offset)) = routine else {
+        return resolved::Statement::Empty.boxed(alloc);
+    };
+    found.add_creation(object_number(&thread), number, offset)?;
+    thread_statement(
+        alloc,
+        at,
+        resolved::ThreadCall::Create(thread, number, value),
+    )
 }
 
 /// `pthread_join`
-#[tactic(auto, unfolding(crate::specs::Calls::join))]
-fn join(
-    alloc: Global,
-    scope: &Scope<'_>,
-    found: &mut Findings,
-    at: u32,
-    thread: &Argument,
-    outcome: &Argument,
-) -> Result<Box<resolved::Statement>, AllocError>
-    ensures { Walks boxed_statement_of (spec.join scope.now at thread.now outcome.now found.old) result found.new }
-{
-    let thread = thread_argument(alloc, scope, found, thread)?;
-    null_argument(alloc, scope, found, outcome)?;
-    thread_statement(alloc, at, resolved::ThreadCall::Join(thread))
-}
-
-#[tactic(auto, unfolding(crate::specs::Calls::join_call))]
+#[tactic(auto, unfolding(crate::specs::Calls::join_call, crate::specs::Calls::join))]
 fn join_call(
     alloc: Global,
     scope: &Scope<'_>,
@@ -293,29 +143,16 @@ fn join_call(
 ) -> Result<Box<resolved::Statement>, AllocError>
     ensures { Walks boxed_statement_of (spec.join_call scope.now at arguments.now found.old) result found.new }
 {
-    match two(arguments) {
-        Some((thread, outcome)) => join(alloc, scope, found, at, thread, outcome),
-        None => looked_call(alloc, scope, found, arguments),
-    }
+    let [thread, outcome] = arguments else {
+        return looked_call(alloc, scope, found, arguments);
+    };
+    let thread = thread_argument(alloc, scope, found, thread)?;
+    null_argument(alloc, scope, found, outcome)?;
+    thread_statement(alloc, at, resolved::ThreadCall::Join(thread))
 }
 
 /// `pthread_exit`, which is a return
-#[tactic(auto, unfolding(crate::specs::Calls::exit))]
-fn exit(
-    alloc: Global,
-    scope: &Scope<'_>,
-    found: &mut Findings,
-    at: u32,
-    value: &Argument,
-) -> Result<Box<resolved::Statement>, AllocError>
-    ensures { Walks boxed_statement_of (spec.exit scope.now at value.now found.old) result found.new }
-{
-    let value = Box::new(alloc, pointer_argument(alloc, scope, found, value)?)?;
-    let right = resolved::RightSide::Value(value);
-    resolved::Statement::Return(at, Some(right)).boxed(alloc)
-}
-
-#[tactic(auto, unfolding(crate::specs::Calls::exit_call))]
+#[tactic(auto, unfolding(crate::specs::Calls::exit_call, crate::specs::Calls::exit))]
 fn exit_call(
     alloc: Global,
     scope: &Scope<'_>,
@@ -325,30 +162,16 @@ fn exit_call(
 ) -> Result<Box<resolved::Statement>, AllocError>
     ensures { Walks boxed_statement_of (spec.exit_call scope.now at arguments.now found.old) result found.new }
 {
-    match one(arguments) {
-        Some(value) => exit(alloc, scope, found, at, value),
-        None => looked_call(alloc, scope, found, arguments),
-    }
+    let [value] = arguments else {
+        return looked_call(alloc, scope, found, arguments);
+    };
+    let value = Box::new(alloc, pointer_argument(alloc, scope, found, value)?)?;
+    let right = resolved::RightSide::Value(value);
+    resolved::Statement::Return(at, Some(right)).boxed(alloc)
 }
 
 /// `pthread_mutex_init`
-#[tactic(auto, unfolding(crate::specs::Calls::mutex_init))]
-fn mutex_init(
-    alloc: Global,
-    scope: &Scope<'_>,
-    found: &mut Findings,
-    at: u32,
-    mutex: &Argument,
-    attributes: &Argument,
-) -> Result<Box<resolved::Statement>, AllocError>
-    ensures { Walks boxed_statement_of (spec.mutex_init scope.now at mutex.now attributes.now found.old) result found.new }
-{
-    let mutex = address_argument(alloc, scope, found, ObjectKind::Mutex, mutex)?;
-    null_argument(alloc, scope, found, attributes)?;
-    thread_statement(alloc, at, resolved::ThreadCall::MutexInit(mutex))
-}
-
-#[tactic(auto, unfolding(crate::specs::Calls::mutex_init_call))]
+#[tactic(auto, unfolding(crate::specs::Calls::mutex_init_call, crate::specs::Calls::mutex_init))]
 fn mutex_init_call(
     alloc: Global,
     scope: &Scope<'_>,
@@ -358,32 +181,16 @@ fn mutex_init_call(
 ) -> Result<Box<resolved::Statement>, AllocError>
     ensures { Walks boxed_statement_of (spec.mutex_init_call scope.now at arguments.now found.old) result found.new }
 {
-    match two(arguments) {
-        Some((mutex, attributes)) => mutex_init(alloc, scope, found, at, mutex, attributes),
-        None => looked_call(alloc, scope, found, arguments),
-    }
+    let [mutex, attributes] = arguments else {
+        return looked_call(alloc, scope, found, arguments);
+    };
+    let mutex = address_argument(alloc, scope, found, ObjectKind::Mutex, mutex)?;
+    null_argument(alloc, scope, found, attributes)?;
+    thread_statement(alloc, at, resolved::ThreadCall::MutexInit(mutex))
 }
 
 /// `pthread_barrier_init`
-#[tactic(auto, unfolding(crate::specs::Calls::barrier_init))]
-fn barrier_init(
-    alloc: Global,
-    scope: &Scope<'_>,
-    found: &mut Findings,
-    at: u32,
-    barrier: &Argument,
-    attributes: &Argument,
-    count: &Argument,
-) -> Result<Box<resolved::Statement>, AllocError>
-    ensures { Walks boxed_statement_of (spec.barrier_init scope.now at barrier.now attributes.now count.now found.old) result found.new }
-{
-    let barrier = address_argument(alloc, scope, found, ObjectKind::Barrier, barrier)?;
-    null_argument(alloc, scope, found, attributes)?;
-    let count = Box::new(alloc, value_argument(alloc, scope, found, count)?)?;
-    thread_statement(alloc, at, resolved::ThreadCall::BarrierInit(barrier, count))
-}
-
-#[tactic(auto, unfolding(crate::specs::Calls::barrier_init_call))]
+#[tactic(auto, unfolding(crate::specs::Calls::barrier_init_call, crate::specs::Calls::barrier_init))]
 fn barrier_init_call(
     alloc: Global,
     scope: &Scope<'_>,
@@ -393,31 +200,17 @@ fn barrier_init_call(
 ) -> Result<Box<resolved::Statement>, AllocError>
     ensures { Walks boxed_statement_of (spec.barrier_init_call scope.now at arguments.now found.old) result found.new }
 {
-    match three(arguments) {
-        Some((barrier, attributes, count)) => {
-            barrier_init(alloc, scope, found, at, barrier, attributes, count)
-        }
-        None => looked_call(alloc, scope, found, arguments),
-    }
+    let [barrier, attributes, count] = arguments else {
+        return looked_call(alloc, scope, found, arguments);
+    };
+    let barrier = address_argument(alloc, scope, found, ObjectKind::Barrier, barrier)?;
+    null_argument(alloc, scope, found, attributes)?;
+    let count = Box::new(alloc, value_argument(alloc, scope, found, count)?)?;
+    thread_statement(alloc, at, resolved::ThreadCall::BarrierInit(barrier, count))
 }
 
 /// A call with one object.
-#[tactic(auto, unfolding(crate::specs::Calls::object_statement))]
-fn object_statement(
-    alloc: Global,
-    scope: &Scope<'_>,
-    found: &mut Findings,
-    function: LibraryFunction,
-    at: u32,
-    object: &Argument,
-) -> Result<Box<resolved::Statement>, AllocError>
-    ensures { Walks boxed_statement_of (spec.object_statement scope.now function at object.now found.old) result found.new }
-{
-    let place = address_argument(alloc, scope, found, object_kind(function), object)?;
-    thread_statement(alloc, at, on_object(function, place))
-}
-
-#[tactic(auto, unfolding(crate::specs::Calls::object_call))]
+#[tactic(auto, unfolding(crate::specs::Calls::object_call, crate::specs::Calls::object_statement))]
 fn object_call(
     alloc: Global,
     scope: &Scope<'_>,
@@ -428,34 +221,15 @@ fn object_call(
 ) -> Result<Box<resolved::Statement>, AllocError>
     ensures { Walks boxed_statement_of (spec.object_call scope.now function at arguments.now found.old) result found.new }
 {
-    match one(arguments) {
-        Some(object) => object_statement(alloc, scope, found, function, at, object),
-        None => looked_call(alloc, scope, found, arguments),
-    }
-}
-
-/// A printf by its first argument and its values.
-#[tactic(auto, unfolding(crate::specs::Calls::print_arguments))]
-fn print_arguments(
-    alloc: Global,
-    scope: &Scope<'_>,
-    found: &mut Findings,
-    at: u32,
-    first: &Argument,
-    values: &[Argument],
-) -> Result<Box<resolved::Statement>, AllocError>
-    ensures { Walks boxed_statement_of (spec.print_arguments scope.now at first.now values.now found.old) result found.new }
-{
-    let format = format(alloc, first)?;
-    let is_taken = takes(&format, values.len());
-    found.add_if(!is_taken, Rule::Format, argument_offset(first));
-    look_through(alloc, scope, found, first)?;
-    let values = value_arguments(alloc, scope, found, values)?;
-    printed(alloc, at, format, values)
+    let [object] = arguments else {
+        return looked_call(alloc, scope, found, arguments);
+    };
+    let place = address_argument(alloc, scope, found, object_kind(function), object)?;
+    thread_statement(alloc, at, on_object(function, place))
 }
 
 /// A printf whose name stands at the offset.
-#[tactic(auto, unfolding(crate::specs::Calls::print_call))]
+#[tactic(auto, unfolding(crate::specs::Calls::print_call, crate::specs::Calls::print_arguments))]
 fn print_call(
     alloc: Global,
     scope: &Scope<'_>,
@@ -466,18 +240,24 @@ fn print_call(
 ) -> Result<Box<resolved::Statement>, AllocError>
     ensures { Walks boxed_statement_of (spec.print_call scope.now at offset arguments.now found.old) result found.new }
 {
-    match front(arguments) {
-        Some((first, values)) => print_arguments(alloc, scope, found, at, first, values),
-        None => {
-            found.add(Rule::Format, offset);
-            resolved::Statement::Empty.boxed(alloc)
-        }
+    let [first, values @ ..] = arguments else {
+        found.add(Rule::Format, offset);
+        return resolved::Statement::Empty.boxed(alloc);
+    };
+    let format = format(alloc, first)?;
+    let is_taken = takes(&format, values.len());
+    found.add_if(!is_taken, Rule::Format, argument_offset(first));
+    look_through(alloc, scope, found, first)?;
+    let values = value_arguments(alloc, scope, found, values)?;
+    match format {
+        Some(pieces) => resolved::Statement::Print(at, pieces, values).boxed(alloc),
+        None => resolved::Statement::Empty.boxed(alloc),
     }
 }
 
 /// A call of a function of the library as a statement.
-#[tactic(auto, unfolding(crate::specs::Calls::library_statement))]
-fn library_statement(
+#[tactic(auto, unfolding(crate::specs::Calls::library_call, crate::specs::Calls::library_statement))]
+fn library_call(
     alloc: Global,
     scope: &Scope<'_>,
     found: &mut Findings,
@@ -486,8 +266,9 @@ fn library_statement(
     offset: usize,
     arguments: &[Argument],
 ) -> Result<Box<resolved::Statement>, AllocError>
-    ensures { Walks boxed_statement_of (spec.library_statement scope.now function at offset arguments.now found.old) result found.new }
+    ensures { Walks boxed_statement_of (spec.library_call scope.now function at offset arguments.now found.old) result found.new }
 {
+    library_name(scope, found, function, arguments.len(), offset);
     match function {
         LibraryFunction::Print => print_call(alloc, scope, found, at, offset, arguments),
         LibraryFunction::Create => create_call(alloc, scope, found, at, arguments),
@@ -503,22 +284,6 @@ fn library_statement(
             object_call(alloc, scope, found, function, at, arguments)
         }
     }
-}
-
-#[tactic(auto, unfolding(crate::specs::Calls::library_call))]
-fn library_call(
-    alloc: Global,
-    scope: &Scope<'_>,
-    found: &mut Findings,
-    function: LibraryFunction,
-    at: u32,
-    offset: usize,
-    arguments: &[Argument],
-) -> Result<Box<resolved::Statement>, AllocError>
-    ensures { Walks boxed_statement_of (spec.library_call scope.now function at offset arguments.now found.old) result found.new }
-{
-    library_name(scope, found, function, arguments.len(), offset);
-    library_statement(alloc, scope, found, function, at, offset, arguments)
 }
 
 /// A call of a function of the text: the number of its definition, and the arguments.
@@ -539,6 +304,7 @@ fn function_call(
     Ok((definition, values))
 }
 
+/// A call of a function of the text as a statement.
 #[tactic(auto, unfolding(crate::specs::Calls::function_statement))]
 fn function_statement(
     alloc: Global,
@@ -554,55 +320,14 @@ fn function_statement(
     let (definition, values) = function_call(
         alloc, scope, found, number, false, offset, arguments,
     )?;
-    called(alloc, at, definition, values)
-}
-
-/// A call of a name that stands for no function.
-#[tactic(auto, unfolding(crate::specs::Calls::no_function))]
-fn no_function(
-    alloc: Global,
-    scope: &Scope<'_>,
-    found: &mut Findings,
-    known: Known,
-    offset: usize,
-    arguments: &[Argument],
-) -> Result<Box<resolved::Statement>, AllocError>
-    ensures { Walks boxed_statement_of (spec.no_function scope.now known offset arguments.now found.old) result found.new }
-{
-    found.add_if(is_unknown(known), Rule::Unknown, offset);
-    found.add_if(is_usable(known), Rule::Kind, offset);
-    looked_call(alloc, scope, found, arguments)
-}
-
-/// A call by what its name stands for.
-#[tactic(auto, unfolding(crate::specs::Calls::call_of))]
-fn call_of(
-    alloc: Global,
-    scope: &Scope<'_>,
-    found: &mut Findings,
-    known: Known,
-    at: u32,
-    offset: usize,
-    arguments: &[Argument],
-) -> Result<Box<resolved::Statement>, AllocError>
-    ensures { Walks boxed_statement_of (spec.call_of scope.now known at offset arguments.now found.old) result found.new }
-{
-    match known {
-        Known::Library(function) => {
-            library_call(alloc, scope, found, function, at, offset, arguments)
-        }
-        Known::Declared(Meaning::Function(number)) => {
-            function_statement(alloc, scope, found, number, at, offset, arguments)
-        }
-        Known::Declared(
-            Meaning::Variable(_) | Meaning::Argument | Meaning::Object(_) | Meaning::Unusable,
-        )
-        | Known::Unknown => no_function(alloc, scope, found, known, offset, arguments),
+    match definition {
+        Some(function) => resolved::Statement::Call(at, function, values).boxed(alloc),
+        None => resolved::Statement::Empty.boxed(alloc),
     }
 }
 
 /// A call as a statement at the place.
-#[tactic(auto, unfolding(crate::specs::Calls::call))]
+#[tactic(auto, unfolding(crate::specs::Calls::call, crate::specs::Calls::call_of, crate::specs::Calls::no_function))]
 pub fn call(
     alloc: Global,
     scope: &Scope<'_>,
@@ -613,24 +338,20 @@ pub fn call(
     ensures { Walks boxed_statement_of (spec.call scope.now at call.now found.old) result found.new }
 {
     let known = scope.look_up(call.name.bytes.as_slice());
-    call_of(
-        alloc,
-        scope,
-        found,
-        known,
-        at,
-        call.name.offset,
-        call.arguments.as_slice(),
-    )
-}
-
-/// The number of the header of the function that a name stands for.
-fn number_of(known: Known) -> Option<usize>
-    ensures { result ≡ spec.number_of known }
-{
+    let offset = call.name.offset;
+    let arguments = call.arguments.as_slice();
     match known {
-        Known::Declared(Meaning::Function(number)) => Some(number),
-        _ => None,
+        Known::Library(function) => {
+            library_call(alloc, scope, found, function, at, offset, arguments)
+        }
+        Known::Declared(Meaning::Function(number)) => {
+            function_statement(alloc, scope, found, number, at, offset, arguments)
+        }
+        _ => {
+            found.add_if(is_unknown(known), Rule::Unknown, offset);
+            found.add_if(is_usable(known), Rule::Kind, offset);
+            looked_call(alloc, scope, found, arguments)
+        }
     }
 }
 
@@ -638,11 +359,11 @@ fn number_of(known: Known) -> Option<usize>
 fn function_called<'e>(scope: &Scope<'_>, e: &'e Expression) -> Option<(usize, &'e Call)>
     ensures { option_map (λ r. (r.0, r.1.now)) result ≡ spec.function_called scope.now e.now }
 {
-    match &e.form {
-        Form::Call(call) => {
-            let known = scope.look_up(call.name.bytes.as_slice());
-            number_of(known).map(|number| (number, call))
-        }
+    let Form::Call(call) = &e.form else {
+        return None;
+    };
+    match scope.look_up(call.name.bytes.as_slice()) {
+        Known::Declared(Meaning::Function(number)) => Some((number, call)),
         _ => None,
     }
 }
@@ -667,24 +388,14 @@ fn right_call(
         call.name.offset,
         call.arguments.as_slice(),
     )?;
-    right_called(alloc, definition, values)
-}
-
-#[tactic(auto, unfolding(crate::specs::Calls::right_value))]
-fn right_value(
-    alloc: Global,
-    scope: &Scope<'_>,
-    found: &mut Findings,
-    e: &Expression,
-) -> Result<resolved::RightSide, AllocError>
-    ensures { Walks right_side_of (spec.right_value scope.now e.now found.old) result found.new }
-{
-    let value = Box::new(alloc, expression(alloc, scope, found, e)?)?;
-    Ok(resolved::RightSide::Value(value))
+    match definition {
+        Some(function) => Ok(resolved::RightSide::Call(function, values)),
+        None => Ok(resolved::RightSide::Value(Box::new(alloc, null())?)),
+    }
 }
 
 /// A value that may be the value of a call: the right side of an assignment, an initialiser or the operand of a return.
-#[tactic(auto, unfolding(crate::specs::Calls::right_side))]
+#[tactic(auto, unfolding(crate::specs::Calls::right_side, crate::specs::Calls::right_value))]
 pub fn right_side(
     alloc: Global,
     scope: &Scope<'_>,
@@ -695,6 +406,9 @@ pub fn right_side(
 {
     match function_called(scope, e) {
         Some((number, call)) => right_call(alloc, scope, found, number, call),
-        None => right_value(alloc, scope, found, e),
+        None => {
+            let value = Box::new(alloc, expression(alloc, scope, found, e)?)?;
+            Ok(resolved::RightSide::Value(value))
+        }
     }
 }
