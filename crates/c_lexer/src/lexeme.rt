@@ -1,13 +1,13 @@
 // Lexemes: tokens, blanks, comments and the parts of a directive, each with its length.
 
-ghost use Rattle.std.specs.Prelude.{◌≡◌, ◌≤◌, ◌<◌, length, take, drop, false, IfSome};
+ghost use Rattle.std.specs.Prelude.{◌≡◌, ◌≤◌, ◌+◌, length, take, drop, false, option_map};
 ghost use Rattle.c_lexer.specs.Lexemes as spec;
 ghost use Rattle.c_lexer.specs.Finding as finding;
 
 use c_token::{Constant, Punctuator};
 
 /// What a lexeme is, by its first byte, or by two where it begins with a slash.
-#[derive(Clone, Copy, PartialEq, Eq)]
+#[derive(Clone, Copy)]
 pub enum Class {
     /// A space, tab or carriage return.
     Blank,
@@ -32,7 +32,7 @@ pub enum Class {
 }
 
 /// Which bytes go on.
-#[derive(Clone, Copy, PartialEq, Eq)]
+#[derive(Clone, Copy)]
 pub enum Run {
     Word,
     Number,
@@ -108,16 +108,6 @@ fn comment_or_mark(z: &[u8]) -> Option<Class>
     }
 }
 
-fn header_or_mark(awaits_header: bool, z: &[u8]) -> Option<Class>
-    ensures { result ≡ spec.header_or_mark awaits_header z.now }
-{
-    if awaits_header {
-        Some(Class::Header(b'>'))
-    } else {
-        Punctuator::longest_at(z).map(Class::Mark)
-    }
-}
-
 /// What the text begins with, where an include directive awaits what it names, or doesn't.
 #[tactic(auto, unfolding(crate::specs::Lexemes::class_at))]
 fn class_at(awaits_header: bool, z: &[u8]) -> Option<Class>
@@ -134,7 +124,8 @@ fn class_at(awaits_header: bool, z: &[u8]) -> Option<Class>
         b'\'' => Some(Class::Character),
         b'"' if awaits_header => Some(Class::Header(b'"')),
         b'"' => Some(Class::Text),
-        b'<' => header_or_mark(awaits_header, z),
+        b'<' if awaits_header => Some(Class::Header(b'>')),
+        b'<' => Punctuator::longest_at(z).map(Class::Mark),
         b'#' => Some(Class::Hash),
         _ => comment_or_mark(z),
     }
@@ -148,14 +139,14 @@ fn line_comment_len(z: &[u8]) -> Option<usize>
     if is_splice(rest) { None } else { Some(len) }
 }
 
-/// What stands behind `/*`, with its `*/`.
-fn block_len(z: &[u8]) -> Option<usize>
-    ensures { result ≡ finding.block_len z.now }
+fn block_comment_len(z: &[u8]) -> Option<usize>
+    ensures { result ≡ option_map (λ n. n + 2) (finding.block_len (drop 2 z.now)) }
 {
-    let len = run_len(Run::Block, z);
-    let (_, rest) = z.split_at(len);
+    let inside = behind(z, 2);
+    let len = run_len(Run::Block, inside);
+    let (_, rest) = inside.split_at(len);
     if rest.starts_with(b"*/") {
-        Some(len + 2)
+        Some(len + 4)
     } else {
         None
     }
@@ -198,14 +189,15 @@ fn text_len(z: &[u8]) -> Option<usize>
     None
 }
 
-/// What stands behind the byte that opens a header, with the byte that closes it.
+/// What an include directive names, with the bytes that open and close it.
 fn header_len(close: u8, z: &[u8]) -> Option<usize>
-    ensures { result ≡ finding.header_len close z.now }
+    ensures { result ≡ option_map (λ n. n + 1) (finding.header_len close (drop 1 z.now)) }
 {
-    let len = run_len(Run::Header(close), z);
-    let (_, rest) = z.split_at(len);
+    let inside = behind(z, 1);
+    let len = run_len(Run::Header(close), inside);
+    let (_, rest) = inside.split_at(len);
     if len > 0 && rest.first() == Some(&close) {
-        Some(len + 1)
+        Some(len + 2)
     } else {
         None
     }
@@ -227,10 +219,10 @@ fn len_of(class: Class, z: &[u8]) -> Option<usize>
         Class::Word => Some(run_len(Run::Word, z)),
         Class::Number => Some(run_len(Run::Number, z)),
         Class::LineComment => line_comment_len(z),
-        Class::BlockComment => block_len(behind(z, 2)).map(|len| len + 2),
+        Class::BlockComment => block_comment_len(z),
         Class::Character => character_len(z),
         Class::Text => text_len(behind(z, 1)),
-        Class::Header(close) => header_len(close, behind(z, 1)).map(|len| len + 1),
+        Class::Header(close) => header_len(close, z),
         Class::Mark(mark) => Some(mark.spelling().len()),
     }
 }

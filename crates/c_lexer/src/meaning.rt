@@ -13,7 +13,7 @@ use sqlite_items::Items;
 use std::alloc::{AllocError, Global};
 
 /// What a directive awaits next, besides blanks and comments.
-#[derive(Clone, Copy, PartialEq, Eq)]
+#[derive(Clone, Copy)]
 pub enum Awaits {
     /// `include` or `define`.
     Word,
@@ -28,7 +28,7 @@ pub enum Awaits {
 }
 
 /// Where a lexeme stands.
-#[derive(Clone, Copy, PartialEq, Eq)]
+#[derive(Clone, Copy)]
 pub enum Mode {
     /// In a line that has only blanks and comments so far: a directive may begin.
     LineStart,
@@ -76,12 +76,6 @@ fn only(mode: Mode) -> Option<Effect>
     })
 }
 
-fn is_reserved(word: &[u8]) -> bool
-    ensures { result ≡ spec.is_reserved word.now }
-{
-    Keyword::from_spelling(word).is_some()
-}
-
 fn directive_word(hash: usize, word: &[u8]) -> Option<Effect>
     ensures { result ≡ spec.directive_word hash word.now }
 {
@@ -94,23 +88,11 @@ fn directive_word(hash: usize, word: &[u8]) -> Option<Effect>
     }
 }
 
-/// The name of a definition, which may not be taken.
-fn definition_name(hash: usize, is_taken: bool) -> Option<Effect>
-    ensures { result ≡ spec.definition_name hash is_taken }
-{
-    if is_taken {
-        return None;
-    }
-    Some(Effect {
-        mode: Mode::Directive(hash, Awaits::Value),
-        action: Action::Name,
-    })
-}
-
 fn definition_value(hash: usize, word: &[u8]) -> Option<Effect>
     ensures { result ≡ spec.definition_value hash word.now }
 {
-    Constant::from_integer(word).map(|constant| Effect {
+    let constant = Constant::from_integer(word)?;
+    Some(Effect {
         mode: Mode::Directive(hash, Awaits::LineEnd),
         action: Action::Value(constant),
     })
@@ -218,8 +200,10 @@ impl<'t> Context<'t> {
         if let Class::LineFeed = class {
             return Ok(only(Mode::LineStart));
         }
-        let token = self.token_of(alloc, class, word)?;
-        Ok(token.map(|kind| Effect {
+        let Some(kind) = self.token_of(alloc, class, word)? else {
+            return Ok(None);
+        };
+        Ok(Some(Effect {
             mode: Mode::InLine,
             action: Action::Token(kind),
         }))
@@ -232,10 +216,15 @@ impl<'t> Context<'t> {
         match (awaits, class) {
             (Awaits::Word, Class::Word) => directive_word(hash, word),
             (Awaits::Header, Class::Header(_)) => only(Mode::Directive(hash, Awaits::LineEnd)),
-            (Awaits::Name, Class::Word) => definition_name(
-                hash,
-                is_reserved(word) || self.is_defined(word),
-            ),
+            (Awaits::Name, Class::Word) => {
+                if Keyword::from_spelling(word).is_some() || self.is_defined(word) {
+                    return None;
+                }
+                Some(Effect {
+                    mode: Mode::Directive(hash, Awaits::Value),
+                    action: Action::Name,
+                })
+            }
             (Awaits::Value, Class::Number) => definition_value(hash, word),
             (Awaits::LineEnd, Class::LineFeed) => only(Mode::LineStart),
             _ => None,

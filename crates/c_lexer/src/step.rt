@@ -31,22 +31,10 @@ pub(crate) fn fault_place(mode: Mode, at: usize, rest: &[u8]) -> usize
 pub(crate) fn may_end(mode: Mode) -> bool
     ensures { result ≡ texts.may_end mode }
 {
-    match mode {
-        Mode::LineStart | Mode::InLine => true,
-        Mode::Directive(_, awaits) => awaits == Awaits::LineEnd,
-    }
-}
-
-/// The length of a name above its limit.
-fn name_limit(class: Class, word: &[u8]) -> Option<(TextLimit, usize)>
-    ensures { result ≡ texts.name_limit class word.now }
-{
-    match class {
-        Class::Word if word.len() > MAX_NAME_LENGTH && Keyword::from_spelling(word).is_none() => {
-            Some((TextLimit::NameLength, word.len()))
-        }
-        _ => None,
-    }
+    matches!(
+        mode,
+        Mode::LineStart | Mode::InLine | Mode::Directive(_, Awaits::LineEnd)
+    )
 }
 
 /// The limit that a token behind these is the first to pass, and its count.
@@ -56,7 +44,12 @@ fn token_limit(tokens: &[Token], class: Class, word: &[u8]) -> Option<(TextLimit
     if tokens.len() >= MAX_TOKENS {
         return Some((TextLimit::Tokens, tokens.len() + 1));
     }
-    name_limit(class, word)
+    match class {
+        Class::Word if word.len() > MAX_NAME_LENGTH && Keyword::from_spelling(word).is_none() => {
+            Some((TextLimit::NameLength, word.len()))
+        }
+        _ => None,
+    }
 }
 
 /// Adds the token, unless it passes a limit.
