@@ -11,7 +11,7 @@ use Rattle.c_rules.specs.declared.names.Header.{Header}
 use Rattle.c_rules.specs.declared.names.Scope.{Scope}
 use Rattle.c_rules.specs.Library.{takes}
 use Rattle.c_rules.specs.Names.{is_void_type, is_start_routine, gives_pointer, look_up}
-use Rattle.c_rules.specs.Walks.{Finds, pure, finds, finds_if, calls, ◌>>=◌, ◌>>◌}
+use Rattle.c_rules.specs.Walks.{Finds, pure, finds, finds_if, calls, ◌>>◌}
 
 -- a function that is declared with the header, called with so many arguments, as a value or not
 unfoldable pub header_rules : Header → ℕ → Bool → ℕ → Finds (Unit {0})

@@ -21,7 +21,7 @@ use Rattle.c_program.specs.declared.tree.UnaryOperator.{UnaryOperator as Resolve
 use Rattle.c_program.specs.declared.tree.UnaryOperator.TheVariants as ru
 use Rattle.c_program.specs.declared.tree.BinaryOperator.{BinaryOperator as ResolvedBinary}
 use Rattle.c_program.specs.declared.tree.BinaryOperator.TheVariants as rb
-use Rattle.c_program.specs.Tree.{Expression, Condition, Place}
+use Rattle.c_program.specs.Tree.{Expression, Condition}
 use Rattle.c_program.specs.Types.{type_of, working_type}
 use Rattle.c_rules.specs.declared.fault.Rule.{Rule}
 use Rattle.c_rules.specs.declared.fault.Rule.TheVariants as rule

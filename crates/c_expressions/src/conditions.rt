@@ -23,12 +23,6 @@ fn is_short_circuit(operator: BinaryOperator) -> bool
     )
 }
 
-fn is_not(operator: UnaryOperator) -> bool
-    ensures { result ≡ spec.is_not operator }
-{
-    matches!(operator, UnaryOperator::Not)
-}
-
 fn are_short_circuits(terms: &[Term]) -> bool
     ensures { result ≡ list_all (λ t. spec.is_short_circuit (out-Term t).operator) terms.now }
 {
@@ -50,12 +44,6 @@ fn joined(
         BinaryOperator::LogicalOr => Ok(resolved::Condition::Either(first, second)),
         _ => Ok(resolved::Condition::Both(first, second)),
     }
-}
-
-fn opposite(alloc: Global, inner: resolved::Condition) -> Result<resolved::Condition, AllocError>
-    ensures { IfOk result (λ c. condition_of c ≡ spec.opposite_of (condition_of inner)) }
-{
-    Ok(resolved::Condition::Opposite(Box::new(alloc, inner)?))
 }
 
 /// Short circuits and their right operands behind a condition.
@@ -102,11 +90,11 @@ pub fn condition(
 {
     match &e.form {
         Form::Unary(operator, inner) => {
-            if !is_not(*operator) {
+            if !matches!(operator, UnaryOperator::Not) {
                 return operand(alloc, scope, found, e);
             }
             let inner = condition(alloc, scope, found, inner.get())?;
-            opposite(alloc, inner)
+            Ok(resolved::Condition::Opposite(Box::new(alloc, inner)?))
         }
         Form::Binary(first, more) => {
             if !are_short_circuits(more.as_slice()) {

@@ -3,7 +3,6 @@
 ghost use Rattle.std.specs.Prelude.{◌≡◌, map, option_map, IfOk};
 ghost use Rattle.c_program.specs.Plain.{expression_of};
 ghost use Rattle.c_program.specs.Types.{working_type as working_type_of};
-ghost use Rattle.c_tree.specs.declared.expression.Term.{out-Term};
 ghost use Rattle.c_rules.specs.Walks.{Outcome, Walks};
 ghost use Rattle.c_expressions.specs.Expressions as spec;
 
@@ -81,20 +80,6 @@ fn misuse(known: Known, has_index: bool) -> Option<Rule>
     }
 }
 
-/// A name that stands for no variable, used as a value.
-#[tactic(auto, unfolding(crate::specs::Expressions::misused))]
-fn misused(
-    found: &mut Findings,
-    known: Known,
-    has_index: bool,
-    offset: usize,
-) -> resolved::Expression
-    ensures { spec.misused known has_index offset found.old ≡ Outcome.Gives (expression_of result) found.new }
-{
-    found.add_any(misuse(known, has_index), offset);
-    nothing()
-}
-
 /// The integer object that a name stands for, if it is one.
 pub fn variable_of(known: Known) -> Option<Variable>
     ensures { result ≡ spec.variable_of known }
@@ -102,23 +87,6 @@ pub fn variable_of(known: Known) -> Option<Variable>
     match known {
         Known::Declared(Meaning::Variable(variable)) => Some(variable),
         _ => None,
-    }
-}
-
-/// The value of what a name stands for.
-#[tactic(auto, unfolding(crate::specs::Expressions::named_value))]
-fn named_value(
-    alloc: Global,
-    found: &mut Findings,
-    known: Known,
-    offset: usize,
-    index: Option<resolved::Expression>,
-) -> Result<resolved::Expression, AllocError>
-    ensures { Walks expression_of (spec.named_value known offset (option_map expression_of index) found.old) result found.new }
-{
-    match variable_of(known) {
-        Some(variable) => object_value(alloc, found, offset, variable, index),
-        None => Ok(misused(found, known, index.is_some(), offset)),
     }
 }
 
@@ -138,7 +106,8 @@ pub fn index(
     }
 }
 
-/// The value of a place with its index.
+/// The value of what a name stands for, with its index.
+#[tactic(auto, unfolding(crate::specs::Expressions::named_value, crate::specs::Expressions::misused))]
 fn place_value(
     alloc: Global,
     scope: &Scope<'_>,
@@ -149,7 +118,13 @@ fn place_value(
     ensures { Walks expression_of (spec.name_value scope.now name.now (option_map expression_of index) found.old) result found.new }
 {
     let known = scope.look_up(name.bytes.as_slice());
-    named_value(alloc, found, known, name.offset, index)
+    match variable_of(known) {
+        Some(variable) => object_value(alloc, found, name.offset, variable, index),
+        None => {
+            found.add_any(misuse(known, index.is_some()), name.offset);
+            Ok(nothing())
+        }
+    }
 }
 
 /// Whether the expression is the parameter of the start routine at hand.
@@ -264,37 +239,25 @@ pub fn working_type(operator: resolved::BinaryOperator, left: CType, right: CTyp
     }
 }
 
-fn binary(
-    alloc: Global,
-    operator: resolved::BinaryOperator,
-    left: resolved::Expression,
-    right: resolved::Expression,
-) -> Result<resolved::Expression, AllocError>
-    ensures { IfOk result (λ e. expression_of e ≡ spec.binary operator (expression_of left) (expression_of right)) }
-{
-    let ty = working_type(operator, expression_type(&left), expression_type(&right));
-    let left = Box::new(alloc, left)?;
-    let right = Box::new(alloc, right)?;
-    Ok(resolved::Expression::Binary(operator, ty, left, right))
-}
-
 /// An operator between two values; a short circuit is out of place.
 #[tactic(auto, unfolding(crate::specs::Expressions::operated))]
 fn operated(
     alloc: Global,
     found: &mut Findings,
-    term: &Term,
+    operator: BinaryOperator,
+    offset: usize,
     left: resolved::Expression,
     right: resolved::Expression,
 ) -> Result<resolved::Expression, AllocError>
-    ensures { Walks expression_of
-        (spec.operated (out-Term term.now).operator (out-Term term.now).offset (expression_of left) (expression_of right) found.old)
-        result found.new }
+    ensures { Walks expression_of (spec.operated operator offset (expression_of left) (expression_of right) found.old) result found.new }
 {
-    match binary_operator(term.operator) {
-        Some(operator) => binary(alloc, operator, left, right),
-        None => Ok(refused(found, Rule::Place, term.offset)),
-    }
+    let Some(operator) = binary_operator(operator) else {
+        return Ok(refused(found, Rule::Place, offset));
+    };
+    let ty = working_type(operator, expression_type(&left), expression_type(&right));
+    let left = Box::new(alloc, left)?;
+    let right = Box::new(alloc, right)?;
+    Ok(resolved::Expression::Binary(operator, ty, left, right))
 }
 
 /// Operators and their right operands behind a value.
@@ -312,7 +275,7 @@ fn terms(
     let mut value = first;
     for term in terms {
         let right = expression(alloc, scope, found, &term.operand)?;
-        value = operated(alloc, found, term, value, right)?;
+        value = operated(alloc, found, term.operator, term.offset, value, right)?;
     }
     Ok(value)
 }

@@ -3,7 +3,6 @@
 ghost use Rattle.std.specs.Prelude.{◌≡◌, box_value, option_map, IfOk};
 ghost use Rattle.c_program.specs.Plain.{expression_of, place_of};
 ghost use Rattle.c_rules.specs.Walks.{Walks};
-ghost use Rattle.c_expressions.specs.Expressions as spec_value;
 ghost use Rattle.c_expressions.specs.Targets as spec;
 
 use crate::expressions::{index, variable_of};
@@ -15,23 +14,18 @@ use c_tree::Place;
 use hls_ints::CType;
 use std::alloc::{AllocError, Global};
 
-/// The rule that is broken where a variable may not be assigned to, or has the wrong number of indices.
-fn variable_fault(variable: Variable, has_index: bool) -> Option<Rule>
-    ensures { result ≡ spec.variable_fault variable has_index }
-{
-    if variable.is_const || variable.length.is_some() != has_index {
-        Some(Rule::Kind)
-    } else {
-        None
-    }
-}
-
-/// The same of a name.
+/// The rule that is broken where a name may not be assigned to, or has the wrong number of indices.
 fn target_fault(known: Known, has_index: bool) -> Option<Rule>
     ensures { result ≡ spec.target_fault known has_index }
 {
     match known {
-        Known::Declared(Meaning::Variable(variable)) => variable_fault(variable, has_index),
+        Known::Declared(Meaning::Variable(variable)) => {
+            if variable.is_const || variable.length.is_some() != has_index {
+                Some(Rule::Kind)
+            } else {
+                None
+            }
+        }
         Known::Declared(Meaning::Unusable) => None,
         Known::Unknown => Some(Rule::Unknown),
         _ => Some(Rule::Kind),
@@ -65,23 +59,6 @@ fn variable_place(
     }
 }
 
-/// What a name stands for, as a place that is assigned to.
-fn named_place(
-    alloc: Global,
-    known: Known,
-    index: Option<resolved::Expression>,
-) -> Result<Box<resolved::Place>, AllocError>
-    ensures { IfOk result (λ p. place_of (box_value p) ≡ spec.named_place (spec_value.variable_of known) (option_map expression_of index)) }
-{
-    match variable_of(known) {
-        Some(variable) => variable_place(alloc, variable, index),
-        None => {
-            let nothing = resolved::Place::Scalar(resolved::Storage::Automatic, 0, CType::INT);
-            Ok(Box::new(alloc, nothing)?)
-        }
-    }
-}
-
 /// A place that is assigned to.
 #[tactic(auto, unfolding(crate::specs::Targets::target))]
 pub fn target(
@@ -95,5 +72,11 @@ pub fn target(
     let index = index(alloc, scope, found, place)?;
     let known = scope.look_up(place.name.bytes.as_slice());
     found.add_any(target_fault(known, index.is_some()), place.name.offset);
-    named_place(alloc, known, index)
+    match variable_of(known) {
+        Some(variable) => variable_place(alloc, variable, index),
+        None => {
+            let nothing = resolved::Place::Scalar(resolved::Storage::Automatic, 0, CType::INT);
+            Ok(Box::new(alloc, nothing)?)
+        }
+    }
 }
