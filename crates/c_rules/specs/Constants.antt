@@ -1,6 +1,6 @@
 -- Constants and constant expressions (C99 6.4.4, 6.6): constants and operators, without short circuits and without an
 -- undefined step.
-use Rattle.std.specs.Prelude.{ℕ, ◌+◌, min, Bool, true, false, if◌then◌else◌, Option, Some, None, option_map, ℤ, pos, List, fold}
+use Rattle.std.specs.Prelude.{ℕ, ◌+◌, min, Bool, true, false, if◌then◌else◌, Option, Some, None, option_map, ℤ, pos, fold}
 use Rattle.std.specs.Result.{result_ok}
 use Rattle.hls_ints.specs.Types.{IntegerType, int_type, unsigned_int, long_int, unsigned_long, promoted, usual_type, wrapped}
 use Rattle.hls_ints.specs.Operators.{negation_of, sum_of, difference_of, product_of, quotient_of, remainder_of, left_shift_of}
@@ -16,7 +16,7 @@ use Rattle.c_tree.specs.declared.expression.BinaryOperator.{BinaryOperator}
 use Rattle.c_tree.specs.declared.expression.BinaryOperator.TheVariants as b
 use Rattle.c_tree.specs.declared.expression.Expression.{Expression}
 use Rattle.c_tree.specs.declared.expression.Term.{Term}
-use Rattle.c_tree.specs.declared.expression.Argument.TheOpen.{Form-F, Expression-F, Term-F}
+use Rattle.c_tree.specs.declared.expression.Argument.TheOpen.{Form-F}
 use Rattle.c_tree.specs.declared.expression.Argument.TheFolds.{fold-Expression, fold-Term}
 use Rattle.c_rules.specs.Specifiers.{c_type, plain_integer}
 use Rattle.c_rules.specs.declared.constants.Typed.{Typed}

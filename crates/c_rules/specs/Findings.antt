@@ -1,8 +1,7 @@
 -- What is found in a part of a text: the first fault so far, and the calls that are judged once the whole text is seen.
-use Rattle.std.specs.Prelude.{ℕ, Bool, true, false, Option, Some, None, List, [], ◌∷◌, ◌++◌}
+use Rattle.std.specs.Prelude.{ℕ, Bool, true, false, Option, Some, None, [], ◌∷◌, ◌++◌}
 use Rattle.c_rules.specs.declared.fault.Rule.{Rule}
 use Rattle.c_rules.specs.declared.findings.Findings.{Findings}
-use Rattle.c_rules.specs.declared.findings.CallSite.{CallSite}
 use Rattle.c_rules.specs.Faults.{first}
 
 abbrev pub nothing : Findings

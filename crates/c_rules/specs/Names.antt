@@ -13,7 +13,6 @@ use Rattle.c_rules.specs.declared.names.Header.{Header}
 use Rattle.c_rules.specs.declared.names.Gives.{Gives}
 use Rattle.c_rules.specs.declared.names.Gives.TheVariants as gives
 use Rattle.c_rules.specs.declared.names.Scope.{Scope}
-use Rattle.c_rules.specs.declared.specifiers.BasicType.{BasicType}
 use Rattle.c_rules.specs.declared.specifiers.BasicType.TheVariants.{Int}
 use Rattle.c_rules.specs.declared.specifiers.BaseType.{BaseType}
 use Rattle.c_rules.specs.declared.specifiers.BaseType.TheVariants as base

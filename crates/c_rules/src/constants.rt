@@ -1,8 +1,9 @@
 // Constants, and the values of constant expressions (C99 6.6).
 
-ghost use Rattle.std.specs.Prelude.{◌≡◌, map, fold};
+ghost use Rattle.std.specs.Prelude.{◌≡◌, map, fold, option_map};
 ghost use Rattle.hls_ints.specs.Types.{HasType};
 ghost use Rattle.c_rules.specs.Constants as spec;
+ghost use Rattle.c_rules.specs.Specifiers.{c_type};
 
 use crate::specifiers::{BasicType, plain_integer};
 use c_token::{Constant, ConstantType};
@@ -13,14 +14,14 @@ use hls_ints::{
 };
 
 /// A value of a type.
-#[derive(Clone, Copy, PartialEq, Eq)]
+#[derive(Clone, Copy)]
 pub struct Typed {
     pub ty: CType,
     pub number: i128,
 }
 
 /// What an expression is as a constant expression.
-#[derive(Clone, Copy, PartialEq, Eq)]
+#[derive(Clone, Copy)]
 pub enum Constancy {
     Constant(Typed),
     /// A constant or a type in it breaks a rule of its own, so that it has no value.
@@ -54,15 +55,6 @@ pub fn constant_value(constant: Constant) -> Option<Typed>
     }
 }
 
-fn from_value(value: Option<Typed>) -> Constancy
-    ensures { result ≡ spec.from_value value }
-{
-    match value {
-        Some(value) => Constancy::Constant(value),
-        None => Constancy::NotConstant,
-    }
-}
-
 /// 1 for 0, else 0.
 fn opposite(number: i128) -> i128
     ensures { result ≡ spec.opposite number }
@@ -93,23 +85,14 @@ fn unary_type(operator: UnaryOperator, ty: CType) -> CType
     }
 }
 
-fn typed_if(ty: CType, number: Option<i128>) -> Option<Typed>
-    ensures { result ≡ spec.typed_if ty number }
+/// The number as a constant of the type; none where a step was undefined.
+fn constant_of(ty: CType, number: Option<i128>) -> Constancy
+    ensures { result ≡ spec.from_value (spec.typed_if ty number) }
 {
     match number {
-        Some(number) => Some(Typed { ty, number }),
-        None => None,
+        Some(number) => Constancy::Constant(Typed { ty, number }),
+        None => Constancy::NotConstant,
     }
-}
-
-fn unary(operator: UnaryOperator, operand: Typed) -> Option<Typed>
-    ensures { result ≡ spec.unary operator operand }
-{
-    let ty = promote(operand.ty);
-    typed_if(
-        unary_type(operator, ty),
-        unary_value(operator, ty, wrap(ty, operand.number)),
-    )
 }
 
 /// The type of what an operator gives that works in the type.
@@ -127,15 +110,6 @@ fn binary_type(operator: BinaryOperator, ty: CType) -> CType
     }
 }
 
-fn is_shift(operator: BinaryOperator) -> bool
-    ensures { result ≡ spec.is_shift operator }
-{
-    matches!(
-        operator,
-        BinaryOperator::ShiftLeft | BinaryOperator::ShiftRight
-    )
-}
-
 /// A shift of a value of the type by the count.
 fn shift_value(operator: BinaryOperator, ty: CType, a: i128, count: i128) -> Option<i128>
     requires { HasType ty a }
@@ -147,12 +121,12 @@ fn shift_value(operator: BinaryOperator, ty: CType, a: i128, count: i128) -> Opt
     }
 }
 
-fn shift(operator: BinaryOperator, left: Typed, right: Typed) -> Option<Typed>
-    ensures { result ≡ spec.shift operator left right }
+fn shift(operator: BinaryOperator, left: Typed, right: Typed) -> Constancy
+    ensures { result ≡ spec.from_value (spec.shift operator left right) }
 {
     let ty = promote(left.ty);
     let count = wrap(promote(right.ty), right.number);
-    typed_if(ty, shift_value(operator, ty, wrap(ty, left.number), count))
+    constant_of(ty, shift_value(operator, ty, wrap(ty, left.number), count))
 }
 
 /// An operator on two values of the type.
@@ -184,32 +158,22 @@ fn binary_value(operator: BinaryOperator, ty: CType, a: i128, b: i128) -> Option
 }
 
 /// An operator on two values that are converted to their common type.
-fn common(operator: BinaryOperator, left: Typed, right: Typed) -> Option<Typed>
-    ensures { result ≡ spec.common operator left right }
+fn common(operator: BinaryOperator, left: Typed, right: Typed) -> Constancy
+    ensures { result ≡ spec.from_value (spec.common operator left right) }
 {
     let ty = usual(left.ty, right.ty);
     let a = wrap(ty, left.number);
     let b = wrap(ty, right.number);
-    typed_if(binary_type(operator, ty), binary_value(operator, ty, a, b))
+    constant_of(binary_type(operator, ty), binary_value(operator, ty, a, b))
 }
 
-fn binary(operator: BinaryOperator, left: Typed, right: Typed) -> Option<Typed>
-    ensures { result ≡ spec.binary operator left right }
+fn binary(operator: BinaryOperator, left: Typed, right: Typed) -> Constancy
+    ensures { result ≡ spec.from_value (spec.binary operator left right) }
 {
-    if is_shift(operator) {
-        shift(operator, left, right)
-    } else {
-        common(operator, left, right)
+    match operator {
+        BinaryOperator::ShiftLeft | BinaryOperator::ShiftRight => shift(operator, left, right),
+        _ => common(operator, left, right),
     }
-}
-
-fn is_short_circuit(operator: BinaryOperator) -> bool
-    ensures { result ≡ spec.is_short_circuit operator }
-{
-    matches!(
-        operator,
-        BinaryOperator::LogicalOr | BinaryOperator::LogicalAnd
-    )
 }
 
 /// A unary operator on an operand.
@@ -217,7 +181,11 @@ fn operated(operator: UnaryOperator, operand: Constancy) -> Constancy
     ensures { result ≡ spec.operated operator operand }
 {
     match operand {
-        Constancy::Constant(value) => from_value(unary(operator, value)),
+        Constancy::Constant(value) => {
+            let ty = promote(value.ty);
+            let number = unary_value(operator, ty, wrap(ty, value.number));
+            constant_of(unary_type(operator, ty), number)
+        }
         Constancy::Unknown => Constancy::Unknown,
         Constancy::NotConstant => Constancy::NotConstant,
     }
@@ -227,28 +195,32 @@ fn operated(operator: UnaryOperator, operand: Constancy) -> Constancy
 fn joined(operator: BinaryOperator, left: Constancy, right: Constancy) -> Constancy
     ensures { result ≡ spec.joined operator left right }
 {
-    if is_short_circuit(operator) {
+    if matches!(
+        operator,
+        BinaryOperator::LogicalOr | BinaryOperator::LogicalAnd
+    ) {
         return Constancy::NotConstant;
     }
     match (left, right) {
         (Constancy::NotConstant, _) | (_, Constancy::NotConstant) => Constancy::NotConstant,
-        (Constancy::Constant(left), Constancy::Constant(right)) => from_value(binary(
-            operator, left, right,
-        )),
+        (Constancy::Constant(left), Constancy::Constant(right)) => binary(operator, left, right),
         _ => Constancy::Unknown,
     }
 }
 
 /// A cast of an operand; the type is none where its words spell none.
-fn cast(ty: Option<CType>, operand: Constancy) -> Constancy
-    ensures { result ≡ spec.cast ty operand }
+fn cast(ty: Option<BasicType>, operand: Constancy) -> Constancy
+    ensures { result ≡ spec.cast (option_map c_type ty) operand }
 {
     match (ty, operand) {
         (_, Constancy::NotConstant) => Constancy::NotConstant,
-        (Some(ty), Constancy::Constant(value)) => Constancy::Constant(Typed {
-            ty,
-            number: wrap(ty, value.number),
-        }),
+        (Some(ty), Constancy::Constant(value)) => {
+            let ty = ty.c_type();
+            Constancy::Constant(Typed {
+                ty,
+                number: wrap(ty, value.number),
+            })
+        }
         _ => Constancy::Unknown,
     }
 }
@@ -270,25 +242,17 @@ pub fn constancy_of(expression: &Expression) -> Constancy
     ensures { result ≡ spec.constancy expression.now }
 {
     match &expression.form {
-        Form::Constant(constant, _) => constant_value(*constant).map_or(
-            Constancy::Unknown,
-            Constancy::Constant,
-        ),
+        Form::Constant(constant, _) => match constant_value(*constant) {
+            Some(value) => Constancy::Constant(value),
+            None => Constancy::Unknown,
+        },
         Form::Place(_) | Form::Call(_) | Form::Conditional(_, _) => Constancy::NotConstant,
         Form::Unary(operator, operand) => operated(*operator, constancy_of(operand.get())),
         Form::Cast(specifiers, operand) => {
-            let ty = plain_integer(specifiers).map(BasicType::c_type);
-            cast(ty, constancy_of(operand.get()))
+            cast(plain_integer(specifiers), constancy_of(operand.get()))
         }
         Form::Binary(first, more) => terms(more.as_slice(), constancy_of(first.get())),
     }
-}
-
-/// The sum, as far as it goes.
-fn plus(a: u32, b: u32) -> u32
-    ensures { result ≡ spec.plus a b }
-{
-    a.saturating_add(b)
 }
 
 #[cycle(operators)]
@@ -297,7 +261,9 @@ fn term_operators(terms: &[Term], first: u32) -> u32
 {
     let mut count = first;
     for term in terms {
-        count = plus(plus(count, operator_count(&term.operand)), 1);
+        count = count
+            .saturating_add(operator_count(&term.operand))
+            .saturating_add(1);
     }
     count
 }
@@ -309,8 +275,8 @@ pub fn operator_count(expression: &Expression) -> u32
 {
     match &expression.form {
         Form::Constant(_, _) | Form::Place(_) | Form::Call(_) | Form::Conditional(_, _) => 0,
-        Form::Unary(_, operand) => plus(operator_count(operand.get()), 1),
-        Form::Cast(_, operand) => plus(operator_count(operand.get()), 1),
+        Form::Unary(_, operand) => operator_count(operand.get()).saturating_add(1),
+        Form::Cast(_, operand) => operator_count(operand.get()).saturating_add(1),
         Form::Binary(first, more) => {
             let first = operator_count(first.get());
             term_operators(more.as_slice(), first)

@@ -8,34 +8,25 @@ use thiserror::Error;
 
 /// A rule on names, kinds and types that a text can break, in the order in which rules that are broken at one place
 /// are reported.
-#[derive(Clone, Copy, PartialEq, Eq, Debug, Error)]
+#[derive(Clone, Copy, PartialEq, Eq, Debug)]
 pub enum Rule {
     /// A name that is not declared before, or a function that is called or started and never defined.
-    #[error("unknown name")]
     Unknown,
     /// A second declaration of a name in one scope, or one of a function of the library.
-    #[error("declared twice")]
     Twice,
     /// A name, a type, an argument or a return of another kind than its place takes.
-    #[error("wrong kind")]
     Kind,
     /// Another number of arguments than the function takes.
-    #[error("argument count")]
     Arguments,
     /// A call that leads back to its caller.
-    #[error("recursion")]
     Recursive,
     /// A rule on threads and their objects.
-    #[error("thread rule")]
     Threads,
     /// A call, an operator or a jump where none may stand.
-    #[error("out of place")]
     Place,
     /// A constant, a length or an initial value that is out of range.
-    #[error("constant out of range")]
     Constant,
     /// The format of a printf.
-    #[error("format")]
     Format,
 }
 

@@ -8,7 +8,7 @@ use sqlite_items::Items;
 use std::alloc::{AllocError, Global};
 
 /// A call in a defined function: the numbers of both definitions, and the place of the called name.
-#[derive(Clone, Copy, PartialEq, Eq)]
+#[derive(Clone, Copy)]
 pub struct CallSite {
     pub caller: u32,
     pub callee: u32,
@@ -16,7 +16,7 @@ pub struct CallSite {
 }
 
 /// A create: the number of the thread object, that of the start routine's definition, and the place of its name.
-#[derive(Clone, Copy, PartialEq, Eq)]
+#[derive(Clone, Copy)]
 pub struct Creation {
     pub thread: u32,
     pub routine: u32,

@@ -11,41 +11,20 @@ use std::alloc::{AllocError, Global};
 use std::mem;
 
 /// What stands at the front of a format as it is written.
-#[derive(Clone, Copy, PartialEq, Eq)]
+#[derive(Clone, Copy)]
 pub enum Part {
     Byte(u8),
     Conversion(BasicType),
-}
-
-/// The first byte of a text, and the rest.
-fn front(text: &[u8]) -> Option<(u8, &[u8])>
-    ensures { option_map (λ r. (r.0, r.1.now)) result ≡ spec.front text.now }
-{
-    match text {
-        [] => None,
-        [byte, rest @ ..] => Some((*byte, rest)),
-    }
-}
-
-/// The byte that the escape with this byte stands for.
-fn escaped(byte: u8) -> Option<u8>
-    ensures { result ≡ spec.escaped byte }
-{
-    match byte {
-        b'n' => Some(b'\n'),
-        b't' => Some(b'\t'),
-        b'\\' => Some(b'\\'),
-        b'"' => Some(b'"'),
-        _ => None,
-    }
 }
 
 /// A conversion by its letter to one of two types, and the rest.
 fn lettered(signed: BasicType, unsigned: BasicType, text: &[u8]) -> Option<(Part, &[u8])>
     ensures { option_map (λ r. (r.0, r.1.now)) result ≡ spec.lettered signed unsigned text.now }
 {
-    let (byte, rest) = front(text)?;
-    match byte {
+    let [byte, rest @ ..] = text else {
+        return None;
+    };
+    match *byte {
         b'd' => Some((Part::Conversion(signed), rest)),
         b'u' => Some((Part::Conversion(unsigned), rest)),
         _ => None,
@@ -56,8 +35,10 @@ fn lettered(signed: BasicType, unsigned: BasicType, text: &[u8]) -> Option<(Part
 fn long(text: &[u8]) -> Option<(Part, &[u8])>
     ensures { option_map (λ r. (r.0, r.1.now)) result ≡ spec.long text.now }
 {
-    let (byte, rest) = front(text)?;
-    if byte == b'l' {
+    let [byte, rest @ ..] = text else {
+        return None;
+    };
+    if *byte == b'l' {
         lettered(BasicType::Long, BasicType::UnsignedLong, rest)
     } else {
         lettered(BasicType::Long, BasicType::UnsignedLong, text)
@@ -68,8 +49,10 @@ fn long(text: &[u8]) -> Option<(Part, &[u8])>
 fn conversion(text: &[u8]) -> Option<(Part, &[u8])>
     ensures { option_map (λ r. (r.0, r.1.now)) result ≡ spec.conversion text.now }
 {
-    let (byte, rest) = front(text)?;
-    match byte {
+    let [byte, rest @ ..] = text else {
+        return None;
+    };
+    match *byte {
         b'%' => Some((Part::Byte(b'%'), rest)),
         b'l' => long(rest),
         _ => lettered(BasicType::Int, BasicType::UnsignedInt, text),
@@ -80,20 +63,29 @@ fn conversion(text: &[u8]) -> Option<(Part, &[u8])>
 fn escape(text: &[u8]) -> Option<(Part, &[u8])>
     ensures { option_map (λ r. (r.0, r.1.now)) result ≡ spec.escape text.now }
 {
-    let (byte, rest) = front(text)?;
-    let byte = escaped(byte)?;
-    Some((Part::Byte(byte), rest))
+    let [byte, rest @ ..] = text else {
+        return None;
+    };
+    match *byte {
+        b'n' => Some((Part::Byte(b'\n'), rest)),
+        b't' => Some((Part::Byte(b'\t'), rest)),
+        b'\\' => Some((Part::Byte(b'\\'), rest)),
+        b'"' => Some((Part::Byte(b'"'), rest)),
+        _ => None,
+    }
 }
 
 /// The first part of a format, and the rest; none where it is no part of a format of the profile.
 fn first_part(text: &[u8]) -> Option<(Part, &[u8])>
     ensures { option_map (λ r. (r.0, r.1.now)) result ≡ spec.first_part text.now }
 {
-    let (byte, rest) = front(text)?;
-    match byte {
+    let [byte, rest @ ..] = text else {
+        return None;
+    };
+    match *byte {
         b'\\' => escape(rest),
         b'%' => conversion(rest),
-        _ => Some((Part::Byte(byte), rest)),
+        _ => Some((Part::Byte(*byte), rest)),
     }
 }
 
@@ -107,20 +99,6 @@ fn flush(alloc: Global, pieces: &mut Vec<Piece>, text: &mut Vec<u8>) -> Result<(
     }
     let whole = mem::replace(text, Vec::new(alloc));
     pieces.push(Piece::Text(whole))?;
-    Ok(())
-}
-
-/// Adds the conversion behind the pieces and the text.
-fn add_conversion(
-    alloc: Global,
-    pieces: &mut Vec<Piece>,
-    text: &mut Vec<u8>,
-    ty: BasicType,
-) -> Result<(), AllocError>
-    ensures { OnOk result ((pieces_of pieces.new.items, text.new.items) ≡ spec.with_conversion (pieces_of pieces.old.items) text.old.items ty) }
-{
-    flush(alloc, pieces, text)?;
-    pieces.push(Piece::Conversion(ty.c_type()))?;
     Ok(())
 }
 
@@ -138,7 +116,11 @@ fn add(
             text.push(byte)?;
             Ok(())
         }
-        Part::Conversion(ty) => add_conversion(alloc, pieces, text, ty),
+        Part::Conversion(ty) => {
+            flush(alloc, pieces, text)?;
+            pieces.push(Piece::Conversion(ty.c_type()))?;
+            Ok(())
+        }
     }
 }
 

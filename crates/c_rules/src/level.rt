@@ -95,22 +95,15 @@ impl<'t> Definitions<'t> {
         }
     }
 
-    /// Notes the number of a definition.
-    #[tactic(auto, using(crate::proofs::LevelLemmas::insert_numbered))]
-    fn insert(&mut self, name: &'t [u8], number: u32) -> Result<(), AllocError>
-        ensures { OnOk result (self.new ≡ spec.inserted self.old name.now number) }
-    {
-        self.level.insert(name, Meaning::Function(number as usize))
-    }
-
     /// Notes the number of a definition, unless it is a second one of the function.
+    #[tactic(auto, using(crate::proofs::LevelLemmas::insert_numbered))]
     pub fn note(&mut self, name: &'t [u8], number: u32) -> Result<(), AllocError>
         ensures { OnOk result (self.new ≡ spec.noted self.old name.now number) }
     {
         if self.get(name).is_some() {
             return Ok(());
         }
-        self.insert(name, number)
+        self.level.insert(name, Meaning::Function(number as usize))
     }
 }
 

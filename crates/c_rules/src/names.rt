@@ -13,7 +13,7 @@ use std::alloc::{AllocError, Global};
 use std::mem;
 
 /// An integer object: its number among those of its storage, and its length where it is an array.
-#[derive(Clone, Copy, PartialEq, Eq)]
+#[derive(Clone, Copy)]
 pub struct Variable {
     pub storage: Storage,
     pub number: u32,
@@ -23,7 +23,7 @@ pub struct Variable {
 }
 
 /// A kind of objects of POSIX threads.
-#[derive(Clone, Copy, PartialEq, Eq)]
+#[derive(Clone, Copy)]
 pub enum ObjectKind {
     Thread,
     Mutex,
@@ -45,7 +45,7 @@ impl ObjectKind {
 }
 
 /// An object of POSIX threads: its number among those of its kind, and its length where it is an array.
-#[derive(Clone, Copy, PartialEq, Eq)]
+#[derive(Clone, Copy)]
 pub struct Object {
     pub kind: ObjectKind,
     pub number: u32,
@@ -53,7 +53,7 @@ pub struct Object {
 }
 
 /// What a declared name stands for.
-#[derive(Clone, Copy, PartialEq, Eq)]
+#[derive(Clone, Copy)]
 pub enum Meaning {
     Variable(Variable),
     /// The parameter of a start routine.
@@ -82,7 +82,7 @@ impl Meaning {
 }
 
 /// What a name stands for at a place of the text.
-#[derive(Clone, Copy, PartialEq, Eq)]
+#[derive(Clone, Copy)]
 pub enum Known {
     Library(LibraryFunction),
     Declared(Meaning),
@@ -99,7 +99,7 @@ impl Known {
 }
 
 /// A type with the `*` that may stand behind it.
-#[derive(Clone, Copy, PartialEq, Eq)]
+#[derive(Clone, Copy)]
 pub struct DeclaredType {
     pub base: BaseType,
     pub is_pointer: bool,
@@ -177,7 +177,7 @@ fn either(first: Option<Meaning>, other: Option<Meaning>) -> Option<Meaning>
 }
 
 /// What a function gives back, as its returns see it.
-#[derive(Clone, Copy, PartialEq, Eq)]
+#[derive(Clone, Copy)]
 pub enum Gives {
     Nothing,
     Integer,
@@ -243,13 +243,6 @@ impl<'t> Scope<'t> {
         found
     }
 
-    /// What the innermost declaration of the name says.
-    fn declared(&self, name: &[u8]) -> Option<Meaning>
-        ensures { result ≡ spec.declared self.now name.now }
-    {
-        either(self.inner.get(name), self.declared_outside(name))
-    }
-
     /// What the name stands for.
     #[tactic(auto, unfolding(crate::specs::Names::look_up))]
     pub fn look_up(&self, name: &[u8]) -> Known
@@ -258,7 +251,7 @@ impl<'t> Scope<'t> {
         if let Some(function) = LibraryFunction::from_name(name) {
             return Known::Library(function);
         }
-        match self.declared(name) {
+        match either(self.inner.get(name), self.declared_outside(name)) {
             Some(meaning) => Known::Declared(meaning),
             None => Known::Unknown,
         }

@@ -66,7 +66,7 @@ impl BasicType {
 }
 
 /// What a list of words spells.
-#[derive(Clone, Copy, PartialEq, Eq)]
+#[derive(Clone, Copy)]
 pub enum BaseType {
     Void,
     Integer(BasicType),
@@ -81,7 +81,7 @@ pub enum BaseType {
 }
 
 /// A list of words: the type, and whether `static` and `const` are among them.
-#[derive(Clone, Copy, PartialEq, Eq)]
+#[derive(Clone, Copy)]
 pub struct Spelled {
     pub base: BaseType,
     pub is_static: bool,
@@ -110,18 +110,6 @@ fn signed_integer(words: &[TypeWord], has_sign: bool) -> Option<BasicType>
     let shorts = count(words, TypeWord::Short);
     let ints = count(words, TypeWord::Int);
     let longs = count(words, TypeWord::Long);
-    signed_by(has_sign, chars, shorts, ints, longs)
-}
-
-fn signed_by(
-    has_sign: bool,
-    chars: usize,
-    shorts: usize,
-    ints: usize,
-    longs: usize,
-) -> Option<BasicType>
-    ensures { result ≡ spec.signed_by has_sign chars shorts ints longs }
-{
     if chars == 1 && shorts == 0 && ints == 0 && longs == 0 {
         Some(BasicType::Char)
     } else if chars == 0 && shorts == 1 && ints <= 1 && longs == 0 {
@@ -146,7 +134,7 @@ fn integer(words: &[TypeWord]) -> Option<BasicType>
     } else if signs == 1 && unsigneds == 0 {
         signed_integer(words, true)
     } else if signs == 0 && unsigneds == 1 {
-        signed_integer(words, true).map(|ty| ty.unsigned())
+        signed_integer(words, true).map(BasicType::unsigned)
     } else {
         None
     }
@@ -174,9 +162,14 @@ fn has_lone_word(words: &[TypeWord]) -> bool
         || has(words, TypeWord::Barrier)
 }
 
-fn lone_by(voids: usize, threads: usize, mutexes: usize, barriers: usize) -> BaseType
-    ensures { result ≡ spec.lone_by voids threads mutexes barriers }
+/// The type that stands alone: `void`, or one of the three of POSIX threads.
+fn lone(words: &[TypeWord]) -> BaseType
+    ensures { result ≡ spec.lone words.now }
 {
+    let voids = count(words, TypeWord::Void);
+    let threads = count(words, TypeWord::ThreadId);
+    let mutexes = count(words, TypeWord::Mutex);
+    let barriers = count(words, TypeWord::Barrier);
     if voids == 1 && threads == 0 && mutexes == 0 && barriers == 0 {
         BaseType::Void
     } else if voids == 0 && threads == 1 && mutexes == 0 && barriers == 0 {
@@ -187,26 +180,6 @@ fn lone_by(voids: usize, threads: usize, mutexes: usize, barriers: usize) -> Bas
         BaseType::Barrier
     } else {
         BaseType::Unlisted
-    }
-}
-
-/// The type that stands alone: `void`, or one of the three of POSIX threads.
-fn lone(words: &[TypeWord]) -> BaseType
-    ensures { result ≡ spec.lone words.now }
-{
-    let voids = count(words, TypeWord::Void);
-    let threads = count(words, TypeWord::ThreadId);
-    let mutexes = count(words, TypeWord::Mutex);
-    let barriers = count(words, TypeWord::Barrier);
-    lone_by(voids, threads, mutexes, barriers)
-}
-
-fn integer_base(ty: Option<BasicType>) -> BaseType
-    ensures { result ≡ spec.integer_base ty }
-{
-    match ty {
-        Some(ty) => BaseType::Integer(ty),
-        None => BaseType::Unlisted,
     }
 }
 
@@ -224,7 +197,10 @@ fn base_of(words: &[TypeWord]) -> BaseType
             lone(words)
         }
     } else {
-        integer_base(integer(words))
+        match integer(words) {
+            Some(ty) => BaseType::Integer(ty),
+            None => BaseType::Unlisted,
+        }
     }
 }
 

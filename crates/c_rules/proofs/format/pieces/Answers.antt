@@ -1,4 +1,4 @@
-use Rattle.std.proofs.Common.{◌≡◌, ◌≢◌, Some, length, arith, rules}
+use Rattle.std.proofs.Common.{◌≡◌, ◌≢◌, length, arith}
 use Rattle.std.proofs.lemmas.Grind.{common_steps}
 use Rattle.c_program.specs.Plain.{pieces_of}
 use Rattle.c_rules.specs.Formats.{Draft, pieces_in}
