@@ -1,10 +1,8 @@
 // The assigns of a module, found by their targets.
 
-ghost use Rattle.std.specs.Prelude.{◌≡◌, ◌++◌, option_map, option_copied, map, OnOk, IfOk};
+ghost use Rattle.std.specs.Prelude.{◌≡◌, option_map, option_copied, IfOk};
 ghost use Rattle.std.specs.List.{flat_map};
 ghost use Rattle.netlist.specs.NetlistOf as spec;
-ghost use Rattle.net_names.specs.Found.{behind, targets_of};
-ghost use Rattle.net_names.specs.Tables.{names_of};
 
 use crate::names::add_name;
 use crate::places::Places;
@@ -33,35 +31,6 @@ impl<'n> Model for Assigns<'n> {
     ghost invariant = { λ a. a.targets ≡ targets_of (behind a.list) };
 }
 
-fn add_assign<'n>(assigns: &mut Items<&'n Assign>, item: &'n Item) -> Result<(), AllocError>
-    ensures { OnOk result (behind assigns.new ≡ behind assigns.old ++ spec.some (spec.assign_item item.now)) }
-{
-    match item {
-        Item::Assign(assign) => assigns.push(assign),
-        _ => Ok(()),
-    }
-}
-
-fn all_assigns<'n>(alloc: Global, items: &'n [Item]) -> Result<Items<&'n Assign>, AllocError>
-    ensures { IfOk result (λ assigns. behind assigns ≡ flat_map (λ x. spec.some (spec.assign_item x)) items.now) }
-{
-    let mut assigns = Items::new(alloc);
-    for item in items {
-        add_assign(&mut assigns, item)?;
-    }
-    Ok(assigns)
-}
-
-fn targets<'n>(alloc: Global, assigns: &[&'n Assign]) -> Result<Places<'n>, AllocError>
-    ensures { IfOk result (λ places. places ≡ targets_of (behind assigns.now)) }
-{
-    let mut names = Items::new(alloc);
-    for assign in assigns {
-        add_name(&mut names, &assign.target)?;
-    }
-    Places::of(alloc, names)
-}
-
 fn value_of<'n>(assign: Option<&'n Assign>) -> Option<&'n Expression>
     ensures { option_copied result ≡ option_map (λ a. a.value) (option_copied assign.entry) }
 {
@@ -76,8 +45,15 @@ impl<'n> Assigns<'n> {
     pub fn of(alloc: Global, items: &'n [Item]) -> Result<Assigns<'n>, AllocError>
         ensures { IfOk result (λ a. a ≡ flat_map (λ x. spec.some (spec.assign_item x)) items.now) }
     {
-        let list = all_assigns(alloc, items)?;
-        let targets = targets(alloc, list.as_slice())?;
+        let mut names = Items::new(alloc);
+        let mut list = Items::new(alloc);
+        for item in items {
+            if let Item::Assign(assign) = item {
+                add_name(&mut names, &assign.target)?;
+                list.push(assign)?;
+            }
+        }
+        let targets = Places::of(alloc, names)?;
         Ok(Assigns { targets, list })
     }
 

@@ -1,8 +1,7 @@
 // The connections of an instance, found by their ports.
 
-ghost use Rattle.std.specs.Prelude.{◌≡◌, [], IfOk};
+ghost use Rattle.std.specs.Prelude.{◌≡◌, IfOk};
 ghost use Rattle.netlist.specs.NetlistOf as spec;
-ghost use Rattle.net_names.specs.Found.{ports_of};
 
 use crate::names::add_name;
 use crate::places::Places;
@@ -31,22 +30,16 @@ impl<'n> Model for Connections<'n> {
     ghost invariant = { λ c. c.ports ≡ ports_of c.list.now };
 }
 
-fn ports<'n>(alloc: Global, connections: &'n [Connection]) -> Result<Places<'n>, AllocError>
-    ensures { IfOk result (λ places. places ≡ ports_of connections.now) }
-{
-    let mut names = Items::new(alloc);
-    for connection in connections {
-        add_name(&mut names, &connection.port)?;
-    }
-    Places::of(alloc, names)
-}
-
 impl<'n> Connections<'n> {
     /// These connections.
     pub fn of(alloc: Global, list: &'n [Connection]) -> Result<Connections<'n>, AllocError>
         ensures { IfOk result (λ c. c ≡ list.now) }
     {
-        let ports = ports(alloc, list)?;
+        let mut names = Items::new(alloc);
+        for connection in list {
+            add_name(&mut names, &connection.port)?;
+        }
+        let ports = Places::of(alloc, names)?;
         Ok(Connections { ports, list })
     }
 

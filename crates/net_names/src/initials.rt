@@ -36,15 +36,6 @@ impl<'n> Model for Initials<'n> {
     ghost invariant = { λ c. AreConstants c.words.entries (behind c.list) };
 }
 
-fn constants_of(item: &Item) -> &[InitialConstant]
-    ensures { result.now ≡ spec.initial_constants item.now }
-{
-    match item {
-        Item::Initial(x) => x.constants.as_slice(),
-        _ => &[],
-    }
-}
-
 fn add_constants<'n>(
     list: &mut Items<&'n InitialConstant>,
     constants: &'n [InitialConstant],
@@ -65,7 +56,9 @@ fn all_constants<'n>(
 {
     let mut list = Items::new(alloc);
     for item in items {
-        add_constants(&mut list, constants_of(item))?;
+        if let Item::Initial(initial) = item {
+            add_constants(&mut list, initial.constants.as_slice())?;
+        }
     }
     Ok(list)
 }

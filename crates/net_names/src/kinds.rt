@@ -1,6 +1,6 @@
 // The modules of a net, found by their names.
 
-ghost use Rattle.std.specs.Prelude.{◌≡◌, ◌≤◌, true, take, map, unwrap_or, option_map, slice_get, IfOk, length};
+ghost use Rattle.std.specs.Prelude.{◌≡◌, ◌≤◌, true, take, unwrap_or, option_map, slice_get, IfOk, length};
 ghost use Rattle.netlist.specs.NetlistOf as spec;
 ghost use Rattle.net_names.specs.Names as declared;
 ghost use Rattle.net_names.specs.Kinds.{IsKind};
@@ -45,16 +45,6 @@ impl<'n> Model for Kinds<'n> {
     ghost invariant = { λ k. (k.names ≡ module_names k.modules.now) × (k.first_outputs ≡ map first_output k.modules.now) };
 }
 
-fn names<'n>(alloc: Global, modules: &'n [Module]) -> Result<Places<'n>, AllocError>
-    ensures { IfOk result (λ places. places ≡ spec.module_names modules.now) }
-{
-    let mut names = Items::new(alloc);
-    for module in modules {
-        add_name(&mut names, &module.name)?;
-    }
-    Places::of(alloc, names)
-}
-
 fn input_count(ports: &[Port]) -> usize
     ensures { result ≡ length (declared.side_names true ports.now) }
 {
@@ -67,18 +57,12 @@ fn input_count(ports: &[Port]) -> usize
     count
 }
 
-fn is_signal(item: &Item) -> bool
-    ensures { result ≡ declared.is_signal item.now }
-{
-    matches!(item, Item::Wire(_) | Item::Register(_))
-}
-
 fn signal_count(items: &[Item]) -> usize
     ensures { result ≡ length (declared.item_names items.now) }
 {
     let mut count = 0;
     for item in items {
-        if is_signal(item) {
+        if matches!(item, Item::Wire(_) | Item::Register(_)) {
             count += 1;
         }
     }
@@ -93,23 +77,18 @@ fn first_output(module: &Module) -> Result<usize, AllocError>
     inputs.checked_add(signals).ok_or(AllocError)
 }
 
-fn first_outputs(alloc: Global, modules: &[Module]) -> Result<Items<usize>, AllocError>
-    ensures { IfOk result (λ firsts. firsts ≡ map declared.first_output modules.now) }
-{
-    let mut firsts = Items::new(alloc);
-    for module in modules {
-        firsts.push(first_output(module)?)?;
-    }
-    Ok(firsts)
-}
-
 impl<'n> Kinds<'n> {
     /// These modules.
     pub fn of(alloc: Global, modules: &'n [Module]) -> Result<Kinds<'n>, AllocError>
         ensures { IfOk result (λ k. k ≡ modules.now) }
     {
-        let names = names(alloc, modules)?;
-        let first_outputs = first_outputs(alloc, modules)?;
+        let mut names = Items::new(alloc);
+        let mut first_outputs = Items::new(alloc);
+        for module in modules {
+            add_name(&mut names, &module.name)?;
+            first_outputs.push(first_output(module)?)?;
+        }
+        let names = Places::of(alloc, names)?;
         Ok(Kinds {
             names,
             modules,

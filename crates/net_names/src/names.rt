@@ -31,15 +31,6 @@ pub fn is_side(port: &Port, inputs: bool) -> bool
     }
 }
 
-fn add_port<'n>(names: &mut Items<&'n [u8]>, port: &'n Port, inputs: bool) -> Result<(), AllocError>
-    ensures { OnOk result (names_of names.new ≡ names_of names.old ++ declared.side_name inputs port.now) }
-{
-    if is_side(port, inputs) {
-        return add_name(names, &port.name);
-    }
-    Ok(())
-}
-
 fn add_ports<'n>(
     names: &mut Items<&'n [u8]>,
     ports: &'n [Port],
@@ -48,37 +39,24 @@ fn add_ports<'n>(
     ensures { OnOk result (names_of names.new ≡ names_of names.old ++ declared.side_names inputs ports.now) }
 {
     for port in ports {
-        add_port(names, port, inputs)?;
+        if is_side(port, inputs) {
+            add_name(names, &port.name)?;
+        }
     }
     Ok(())
-}
-
-fn add_item<'n>(names: &mut Items<&'n [u8]>, item: &'n Item) -> Result<(), AllocError>
-    ensures { OnOk result (names_of names.new ≡ names_of names.old ++ declared.item_name item.now) }
-{
-    match item {
-        Item::Wire(x) => add_name(names, &x.name),
-        Item::Register(x) => add_name(names, &x.name),
-        _ => Ok(()),
-    }
 }
 
 fn add_items<'n>(names: &mut Items<&'n [u8]>, items: &'n [Item]) -> Result<(), AllocError>
     ensures { OnOk result (names_of names.new ≡ names_of names.old ++ declared.item_names items.now) }
 {
     for item in items {
-        add_item(names, item)?;
+        match item {
+            Item::Wire(x) => add_name(names, &x.name)?,
+            Item::Register(x) => add_name(names, &x.name)?,
+            _ => {}
+        }
     }
     Ok(())
-}
-
-fn add_memory<'n>(names: &mut Items<&'n [u8]>, item: &'n Item) -> Result<(), AllocError>
-    ensures { OnOk result (names_of names.new ≡ names_of names.old ++ declared.memory_name item.now) }
-{
-    match item {
-        Item::Memory(x) => add_name(names, &x.name),
-        _ => Ok(()),
-    }
 }
 
 /// The places of a module's signals by their names.
@@ -99,7 +77,9 @@ pub(crate) fn memory_places<'n>(alloc: Global, items: &'n [Item]) -> Result<Plac
 {
     let mut names = Items::new(alloc);
     for item in items {
-        add_memory(&mut names, item)?;
+        if let Item::Memory(x) = item {
+            add_name(&mut names, &x.name)?;
+        }
     }
     Places::of(alloc, names)
 }

@@ -10,7 +10,6 @@ use std::marker::Model;
 use verilog_tree::name::Identifier;
 
 /// A list of names, each of which is found at its first place without a search. Contracts see the list.
-#[derive(Drop)]
 pub struct Places<'n> {
     names: Items<&'n [u8]>,
     places: HashMap<&'n [u8], usize>,
@@ -53,5 +52,16 @@ impl<'n> Places<'n> {
         ensures { result ≡ place self.now name.now }
     {
         self.at(name.as_str().as_bytes())
+    }
+}
+
+// A drop that is written here is proved here; a derived one is proved again in each crate that drops the type.
+
+impl<'n> Drop for Places<'n> {
+    fn drop(self) {
+        let Places {
+            names: _,
+            places: _,
+        } = self;
     }
 }

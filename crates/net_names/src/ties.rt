@@ -1,6 +1,6 @@
 // The signals of a module that outputs of its instances drive.
 
-ghost use Rattle.std.specs.Prelude.{◌≡◌, ◌≤◌, ◌+◌, ◌++◌, ◌∷◌, [], false, length, OnOk, IfOk};
+ghost use Rattle.std.specs.Prelude.{◌≡◌, ◌≤◌, ◌++◌, length, OnOk, IfOk};
 ghost use Rattle.std.specs.List.{flat_map};
 ghost use Rattle.netlist.specs.NetlistOf as spec;
 ghost use Rattle.net_names.specs.Found.{behind};
@@ -43,13 +43,6 @@ impl<'n> Model for Ties<'n> {
     ghost invariant = { λ t. t.names ≡ tied_names (ties_of t.list) };
 }
 
-/// The number behind one.
-fn next(number: usize) -> Result<usize, AllocError>
-    ensures { IfOk result (λ n. n ≡ number + 1) }
-{
-    number.checked_add(1).ok_or(AllocError)
-}
-
 /// Adds what is tied to the outputs among the ports of an instance, of which the first has a number.
 fn add_ports<'n>(
     ties: &mut Items<Tie<'n>>,
@@ -69,7 +62,7 @@ fn add_ports<'n>(
                 instance,
                 port: number,
             })?;
-            number = next(number)?;
+            number = number.checked_add(1).ok_or(AllocError)?;
         }
     }
     Ok(())
@@ -92,19 +85,8 @@ fn add_instance<'n>(
         Some(kind) => {
             let connections = Connections::of(alloc, instance.connections.as_slice())?;
             let ports = kind.module.ports.as_slice();
-            add_ports(ties, &connections, number, ports, kind.first_output)?;
-            Ok(())
+            add_ports(ties, &connections, number, ports, kind.first_output)
         }
-    }
-}
-
-/// Adds the item, where it is an instance.
-fn add_item<'n>(instances: &mut Items<&'n Instance>, item: &'n Item) -> Result<(), AllocError>
-    ensures { OnOk result (behind instances.new ≡ behind instances.old ++ spec.some (spec.instance_item item.now)) }
-{
-    match item {
-        Item::Instance(instance) => instances.push(instance),
-        _ => Ok(()),
     }
 }
 
@@ -113,7 +95,9 @@ fn instances_of<'n>(alloc: Global, items: &'n [Item]) -> Result<Items<&'n Instan
 {
     let mut instances = Items::new(alloc);
     for item in items {
-        add_item(&mut instances, item)?;
+        if let Item::Instance(instance) = item {
+            instances.push(instance)?;
+        }
     }
     Ok(instances)
 }
@@ -134,16 +118,6 @@ fn all_ties<'n>(
     Ok(ties)
 }
 
-fn names<'n>(alloc: Global, ties: &[Tie<'n>]) -> Result<Places<'n>, AllocError>
-    ensures { IfOk result (λ places. places ≡ tied.tied_names (tied.ties_of ties.now)) }
-{
-    let mut names = Items::new(alloc);
-    for tie in ties {
-        names.push(tie.name)?;
-    }
-    Places::of(alloc, names)
-}
-
 impl<'n> Ties<'n> {
     /// What is tied to the outputs of the instances among these items, of the modules before one.
     pub fn of(
@@ -157,7 +131,12 @@ impl<'n> Ties<'n> {
     {
         let instances = instances_of(alloc, items)?;
         let list = all_ties(alloc, kinds, before, instances.as_slice())?;
-        let names = names(alloc, list.as_slice())?;
+        let mut names = Items::new(alloc);
+        let ties = list.as_slice();
+        for tie in ties {
+            names.push(tie.name)?;
+        }
+        let names = Places::of(alloc, names)?;
         Ok(Ties { names, list })
     }
 

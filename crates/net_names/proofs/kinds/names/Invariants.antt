@@ -1,7 +1,0 @@
-use Rattle.std.proofs.Common.{◌≡◌, take}
-use Rattle.netlist.specs.NetlistOf.{module_names}
-use Rattle.net_names.specs.Tables.{names_of}
-use Rattle.net_names.proofs.kinds.names.Given as goal
-
-abbrev pub invariant-loop-module : goal.invariant-loop-module
-invariant-loop-module l = names_of l.names ≡ module_names (take l.module-index l.modules)
