@@ -1,9 +1,7 @@
 // The rules of expressions.
 
 ghost use Rattle.std.specs.Prelude.{◌≡◌, ◌^◌, ◌*◌, ◌==◌, ◌&&◌, nat_lt};
-ghost use Rattle.std.specs.Str.{bytes_eq};
 ghost use Rattle.verilog_tree.specs.Rules as rule;
-ghost use Rattle.verilog_tree.specs.Scope.{kind_of, ranged_width};
 
 use crate::kinds::{driven_width, has_words, memory_width, ranged_width, read_width};
 use crate::names::Scope;
@@ -32,12 +30,6 @@ pub fn has_width(scope: &Scope, name: &Identifier, wanted: u64) -> bool
     width > 0 && width == wanted
 }
 
-fn have_one_width(scope: &Scope, left: &Identifier, right: &Identifier) -> bool
-    ensures { result ≡ rule.have_one_width scope.now left.now right.now }
-{
-    has_width(scope, left, width(scope, right))
-}
-
 fn is_below(value: u64, width: u64) -> bool
     ensures { result ≡ nat_lt value (2 ^ width) }
 {
@@ -57,12 +49,6 @@ fn is_zero(constant: Constant, width: u64) -> bool
     constant.width == width && constant.value == 0
 }
 
-fn is_same(left: &Identifier, right: &Identifier) -> bool
-    ensures { result ≡ bytes_eq left.now right.now }
-{
-    left.as_str() == right.as_str()
-}
-
 fn binary_right(
     scope: &Scope,
     operator: BinaryOperator,
@@ -74,7 +60,7 @@ fn binary_right(
 {
     match operator {
         BinaryOperator::Equal | BinaryOperator::Less => {
-            wide == 1 && have_one_width(scope, left, right)
+            wide == 1 && has_width(scope, left, width(scope, right))
         }
         BinaryOperator::ShiftLeft | BinaryOperator::ShiftRight => {
             has_width(scope, left, wide) && is_signal(scope, right)
@@ -99,7 +85,7 @@ fn division_right(
 ) -> bool
     ensures { result ≡ rule.division_right scope.now tested.now zero guarded left.now right.now wide }
 {
-    is_same(tested, right)
+    tested.as_str() == right.as_str()
         && is_zero(zero, wide)
         && is_zero(guarded, wide)
         && has_width(scope, left, wide)
@@ -118,7 +104,7 @@ fn memory_read_right(
     ensures { result ≡ rule.memory_read_right scope.now tested.now bound memory.now address.now guarded wide }
 {
     let kind = scope.kind(memory);
-    is_same(tested, address)
+    tested.as_str() == address.as_str()
         && is_signal(scope, address)
         && is_constant(bound, width(scope, address))
         && has_words(kind, bound.value)
@@ -126,16 +112,10 @@ fn memory_read_right(
         && is_zero(guarded, wide)
 }
 
-fn bit_select_right(scope: &Scope, of: &Identifier, bit: u64) -> bool
-    ensures { result ≡ nat_lt bit (ranged_width (kind_of scope.now of.now)) }
-{
-    bit < ranged_width(scope.kind(of))
-}
-
 fn part_select_right(scope: &Scope, of: &Identifier, high: u64, low: u64, wide: u64) -> bool
     ensures { result ≡ rule.part_select_right scope.now of.now high low wide }
 {
-    low <= high && bit_select_right(scope, of, high) && wide > 0 && wide - 1 == high - low
+    low <= high && high < ranged_width(scope.kind(of)) && wide > 0 && wide - 1 == high - low
 }
 
 /// Whether the parts are signals and have this width together.
@@ -175,7 +155,9 @@ pub fn expression_right(scope: &Scope, value: &Expression, wide: u64) -> bool
             left,
             right,
         } => binary_right(scope, *operator, left, right, wide),
-        Expression::SignedLess { left, right } => wide == 1 && have_one_width(scope, left, right),
+        Expression::SignedLess { left, right } => {
+            wide == 1 && has_width(scope, left, width(scope, right))
+        }
         Expression::ArithmeticShiftRight { left, right } => {
             has_width(scope, left, wide) && is_signal(scope, right)
         }
@@ -211,7 +193,7 @@ pub fn expression_right(scope: &Scope, value: &Expression, wide: u64) -> bool
             address,
             guarded,
         } => memory_read_right(scope, tested, *bound, memory, address, *guarded, wide),
-        Expression::BitSelect { of, bit } => wide == 1 && bit_select_right(scope, of, *bit),
+        Expression::BitSelect { of, bit } => wide == 1 && *bit < ranged_width(scope.kind(of)),
         Expression::PartSelect { of, high, low } => part_select_right(scope, of, *high, *low, wide),
         Expression::Concatenation(parts) => concatenation_right(scope, parts.as_slice(), wide),
         Expression::Replication { count, of } => replication_right(scope, *count, of, wide),

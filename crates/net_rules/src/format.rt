@@ -6,7 +6,7 @@ ghost use Rattle.net_rules.specs.Format.{formatting};
 
 /// Where a string stands: between characters and values, behind `%`, behind `%0`, behind `\`, right behind a value,
 /// or at what it may not have.
-#[derive(Clone, Copy, PartialEq, Eq)]
+#[derive(Clone, Copy)]
 pub enum Formatting {
     Between,
     Percent,
@@ -16,53 +16,29 @@ pub enum Formatting {
     Wrong,
 }
 
-fn next_plain(byte: u8) -> Formatting
-    ensures { formatting result ≡ rule.next_plain byte }
-{
-    match byte {
-        b'%' => Formatting::Percent,
-        b'\\' => Formatting::Backslash,
-        _ => Formatting::Between,
-    }
-}
-
-fn after_percent(byte: u8) -> Formatting
-    ensures { formatting result ≡ rule.next rule.Percent byte }
-{
-    match byte {
-        b'%' => Formatting::Between,
-        b'0' => Formatting::Zero,
-        _ => Formatting::Wrong,
-    }
-}
-
-fn after_zero(byte: u8) -> Formatting
-    ensures { formatting result ≡ rule.next rule.Zero byte }
-{
-    match byte {
-        b'd' => Formatting::Value,
-        _ => Formatting::Wrong,
-    }
-}
-
-fn after_backslash(byte: u8) -> Formatting
-    ensures { formatting result ≡ rule.next rule.Backslash byte }
-{
-    match byte {
-        b'n' | b't' | b'\\' | b'"' => Formatting::Between,
-        _ => Formatting::Wrong,
-    }
-}
-
 /// Where the string stands after the byte.
 fn next(at: Formatting, byte: u8) -> Formatting
     ensures { formatting result ≡ rule.next (formatting at) byte }
 {
     match at {
-        Formatting::Between | Formatting::Value => next_plain(byte),
-        Formatting::Percent => after_percent(byte),
-        Formatting::Zero => after_zero(byte),
-        Formatting::Backslash => after_backslash(byte),
+        Formatting::Between | Formatting::Value => match byte {
+            b'%' => Formatting::Percent,
+            b'\\' => Formatting::Backslash,
+            _ => Formatting::Between,
+        },
+        Formatting::Percent => match byte {
+            b'%' => Formatting::Between,
+            b'0' => Formatting::Zero,
+            _ => Formatting::Wrong,
+        },
+        Formatting::Zero => match byte {
+            b'd' => Formatting::Value,
+            _ => Formatting::Wrong,
+        },
+        Formatting::Backslash => match byte {
+            b'n' | b't' | b'\\' | b'"' => Formatting::Between,
+            _ => Formatting::Wrong,
+        },
         Formatting::Wrong => Formatting::Wrong,
     }
 }

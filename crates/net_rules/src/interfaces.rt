@@ -13,7 +13,6 @@ use verilog_tree::name::Identifier;
 use verilog_tree::tree::Port;
 
 /// The ports of a module, found by their names.
-#[derive(Drop)]
 pub struct Ports<'t> {
     list: &'t [Port],
     named: IndexMap<&'t [u8], &'t Port>,
@@ -31,24 +30,7 @@ impl<'t> Model for Ports<'t> {
     ghost invariant = { λ p. map plain_port p.named.entries ≡ table_of p.list.now };
 }
 
-/// Whether the table has the name.
-fn is_named(named: &IndexMap<&[u8], &Port>, name: &Identifier) -> bool
-    ensures { result ≡ table.is_named (map table.plain_port named.now.entries) name.now }
-{
-    named.get(&name.as_str().as_bytes()).is_some()
-}
-
-/// Adds a port, unless its name is there.
-fn add_port<'t>(named: &mut IndexMap<&'t [u8], &'t Port>, port: &'t Port) -> Result<(), AllocError>
-    ensures { OnOk result (map table.plain_port named.new.entries ≡ table.with_port (map table.plain_port named.old.entries) port.now) }
-{
-    if is_named(named, &port.name) {
-        return Ok(());
-    }
-    named.insert(port.name.as_str().as_bytes(), port)?;
-    Ok(())
-}
-
+/// Adds each port, unless its name is there.
 fn add_ports<'t>(
     named: &mut IndexMap<&'t [u8], &'t Port>,
     ports: &'t [Port],
@@ -56,7 +38,11 @@ fn add_ports<'t>(
     ensures { OnOk result (map table.plain_port named.new.entries ≡ table.with_ports (map table.plain_port named.old.entries) ports.now) }
 {
     for port in ports {
-        add_port(named, port)?;
+        let name = port.name.as_str().as_bytes();
+        if named.get(&name).is_some() {
+            continue;
+        }
+        named.insert(name, port)?;
     }
     Ok(())
 }
@@ -87,7 +73,6 @@ impl<'t> Ports<'t> {
 }
 
 /// What an instance sees of its module.
-#[derive(Drop)]
 pub struct Interface<'t> {
     pub ports: Ports<'t>,
     /// Whether a `$write` stands in it or below it.
@@ -95,7 +80,6 @@ pub struct Interface<'t> {
 }
 
 /// The modules that stand earlier, found by their names.
-#[derive(Drop)]
 pub struct Interfaces<'t> {
     named: IndexMap<&'t [u8], Interface<'t>>,
 }
@@ -136,5 +120,28 @@ impl<'t> Interfaces<'t> {
     {
         self.named.insert(name.as_str().as_bytes(), interface)?;
         Ok(())
+    }
+}
+
+// A drop that is written here is proved here; a derived one is proved again in each crate that drops the type.
+
+impl<'t> Drop for Ports<'t> {
+    fn drop(self) {
+        let Ports { list: _, named: _ } = self;
+    }
+}
+
+impl<'t> Drop for Interface<'t> {
+    fn drop(self) {
+        let Interface {
+            ports: _,
+            prints: _,
+        } = self;
+    }
+}
+
+impl<'t> Drop for Interfaces<'t> {
+    fn drop(self) {
+        let Interfaces { named: _ } = self;
     }
 }

@@ -46,15 +46,6 @@ pub fn signal(class: SignalClass, high: Option<u64>) -> Kind
     }
 }
 
-fn port_class(direction: Direction) -> SignalClass
-    ensures { result ≡ declared.port_class direction }
-{
-    match direction {
-        Direction::Input => SignalClass::Input,
-        Direction::Output => SignalClass::Output,
-    }
-}
-
 /// What a port is declared as.
 pub fn port_kind(port: &Port) -> Kind
     ensures { (port.now.name, result) ≡ declared.port_declaration port.now }
@@ -62,7 +53,10 @@ pub fn port_kind(port: &Port) -> Kind
     if is_clk(&port.name) {
         return Kind::Clock;
     }
-    signal(port_class(port.direction), port.high)
+    match port.direction {
+        Direction::Input => signal(SignalClass::Input, port.high),
+        Direction::Output => signal(SignalClass::Output, port.high),
+    }
 }
 
 // Of a name that is not declared, or is of another kind, a width is 0.

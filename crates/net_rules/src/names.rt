@@ -11,7 +11,6 @@ use verilog_tree::kind::Kind;
 use verilog_tree::name::Identifier;
 
 /// A set of names, in the order in which they came.
-#[derive(Drop)]
 pub struct NameSet<'t> {
     names: IndexSet<&'t [u8]>,
 }
@@ -55,7 +54,6 @@ impl<'t> NameSet<'t> {
 }
 
 /// A set of registers and words of memories, in the order in which they came.
-#[derive(Drop)]
 pub struct PlaceSet<'t> {
     places: IndexSet<(&'t [u8], Option<u64>)>,
 }
@@ -99,7 +97,6 @@ impl<'t> PlaceSet<'t> {
 }
 
 /// The names that a module declares, in the text's order, and what each is declared as first.
-#[derive(Drop)]
 pub struct Scope<'t> {
     kinds: IndexMap<&'t [u8], Kind>,
 }
@@ -141,5 +138,25 @@ impl<'t> Scope<'t> {
         }
         self.kinds.insert(name.as_str().as_bytes(), kind)?;
         Ok(true)
+    }
+}
+
+// A drop that is written here is proved here; a derived one is proved again in each crate that drops the type.
+
+impl<'t> Drop for NameSet<'t> {
+    fn drop(self) {
+        let NameSet { names: _ } = self;
+    }
+}
+
+impl<'t> Drop for PlaceSet<'t> {
+    fn drop(self) {
+        let PlaceSet { places: _ } = self;
+    }
+}
+
+impl<'t> Drop for Scope<'t> {
+    fn drop(self) {
+        let Scope { kinds: _ } = self;
     }
 }

@@ -1,15 +1,13 @@
 // What statements write and print.
 
-ghost use Rattle.std.specs.Prelude.{◌≡◌, not, OnOk};
+ghost use Rattle.std.specs.Prelude.{◌≡◌, OnOk};
 ghost use Rattle.std.specs.List.{list_any};
 ghost use Rattle.verilog_tree.specs.Facts as fact;
 ghost use Rattle.verilog_tree.specs.Rules.{all_right};
 ghost use Rattle.verilog_tree.specs.WellFormed.{none_known};
-ghost use Rattle.verilog_tree.specs.Scope.{is_known};
 
 use crate::names::NameSet;
 use std::alloc::AllocError;
-use verilog_tree::name::Identifier;
 use verilog_tree::tree::{Item, Statement};
 
 /// The statements of an always block.
@@ -22,20 +20,15 @@ pub fn body_of(item: &Item) -> &[Statement]
     }
 }
 
-fn is_unknown(written: &NameSet, name: &Identifier) -> bool
-    ensures { result ≡ not (is_known written.now name.now) }
-{
-    !written.contains(name)
-}
-
 #[cycle(none)]
 #[tactic(auto, using(crate::proofs::Cases::none_set, crate::proofs::Cases::none_store, crate::proofs::Cases::none_write, crate::proofs::Cases::none_if))]
 fn writes_none(written: &NameSet, statement: &Statement) -> bool
     ensures { result ≡ none_known written.now (fact.written_by statement.now) }
 {
     match statement {
-        Statement::Set { register, .. } => is_unknown(written, register),
-        Statement::Store { memory, .. } => is_unknown(written, memory),
+        Statement::Set { register: name, .. } | Statement::Store { memory: name, .. } => {
+            !written.contains(name)
+        }
         Statement::If { body, .. } => all_write_none(written, body.as_slice()),
         Statement::Write { .. } => true,
     }
@@ -54,21 +47,16 @@ pub fn all_write_none(written: &NameSet, statements: &[Statement]) -> bool
     true
 }
 
-fn note<'t>(written: &mut NameSet<'t>, name: &'t Identifier) -> Result<(), AllocError>
-    ensures { OnOk result (written.new ≡ fact.with_name written.old name.now) }
-{
-    written.add(name)?;
-    Ok(())
-}
-
 #[cycle(note)]
 #[tactic(auto, using(crate::proofs::Cases::after_set, crate::proofs::Cases::after_store, crate::proofs::Cases::after_write, crate::proofs::Cases::after_if))]
 fn note_writes<'t>(written: &mut NameSet<'t>, statement: &'t Statement) -> Result<(), AllocError>
     ensures { OnOk result (written.new ≡ fact.after_statement written.old statement.now) }
 {
     match statement {
-        Statement::Set { register, .. } => note(written, register),
-        Statement::Store { memory, .. } => note(written, memory),
+        Statement::Set { register: name, .. } | Statement::Store { memory: name, .. } => {
+            written.add(name)?;
+            Ok(())
+        }
         Statement::If { body, .. } => note_all_writes(written, body.as_slice()),
         Statement::Write { .. } => Ok(()),
     }
