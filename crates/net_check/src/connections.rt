@@ -1,7 +1,6 @@
 // The rules of instances.
 
 ghost use Rattle.std.specs.Prelude.{◌≡◌, ◌&&◌, OnOk, IfOk};
-ghost use Rattle.std.specs.Option.{option_copied};
 ghost use Rattle.verilog_tree.specs.Facts.{after, with_name, is_output};
 ghost use Rattle.verilog_tree.specs.Rules as rule;
 ghost use Rattle.verilog_tree.specs.WellFormed.{are_new};
@@ -15,39 +14,26 @@ use std::alloc::{AllocError, Global};
 use verilog_tree::name::Identifier;
 use verilog_tree::tree::{Connection, Direction, Instance, Port};
 
-fn signal_right(scope: &Scope, direction: Direction, signal: &Identifier, wide: u64) -> bool
-    ensures { result ≡ rule.signal_right scope.now direction signal.now wide }
-{
-    match direction {
-        Direction::Input => has_width(scope, signal, wide),
-        Direction::Output => wide > 0 && driven_width(scope.kind(signal)) == wide,
-    }
-}
-
 fn connects(scope: &Scope, port: &Port, signal: &Identifier) -> bool
     ensures { result ≡ rule.connects scope.now port.now signal.now }
 {
     if is_clk(&port.name) {
-        is_clk(signal) && is_clock(scope.kind(signal))
-    } else {
-        signal_right(scope, port.direction, signal, width_of(port.high))
+        return is_clk(signal) && is_clock(scope.kind(signal));
     }
-}
-
-fn takes(scope: &Scope, port: Option<&Port>, signal: &Identifier) -> bool
-    ensures { result ≡ rule.takes scope.now (option_copied port.entry) signal.now }
-{
-    match port {
-        None => false,
-        Some(port) => connects(scope, port, signal),
+    let wide = width_of(port.high);
+    match port.direction {
+        Direction::Input => has_width(scope, signal, wide),
+        Direction::Output => wide > 0 && driven_width(scope.kind(signal)) == wide,
     }
 }
 
 fn is_taken(scope: &Scope, ports: &Ports, connection: &Connection) -> bool
     ensures { result ≡ rule.takes scope.now (rule.port_named ports.now connection.now.port) connection.now.signal }
 {
-    let port = ports.get(connection.port.as_str().as_bytes());
-    takes(scope, port, &connection.signal)
+    match ports.get(connection.port.as_str().as_bytes()) {
+        None => false,
+        Some(port) => connects(scope, port, &connection.signal),
+    }
 }
 
 /// Whether each connection is to a port that takes its signal.
@@ -136,21 +122,15 @@ pub fn instance_right(
     }
 }
 
-fn is_output(port: Option<&Port>) -> bool
-    ensures { result ≡ is_output (option_copied port.entry) }
+/// Whether the connection is to an output.
+pub fn is_driving(ports: &Ports, connection: &Connection) -> bool
+    ensures { result ≡ is_output (rule.port_named ports.now connection.now.port) }
 {
-    match port {
+    match ports.get(connection.port.as_str().as_bytes()) {
         None => false,
         Some(port) => match port.direction {
             Direction::Input => false,
             Direction::Output => true,
         },
     }
-}
-
-/// Whether the connection is to an output.
-pub fn is_driving(ports: &Ports, connection: &Connection) -> bool
-    ensures { result ≡ is_output (rule.port_named ports.now connection.now.port) }
-{
-    is_output(ports.get(connection.port.as_str().as_bytes()))
 }

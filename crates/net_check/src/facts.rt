@@ -4,7 +4,6 @@ ghost use Rattle.std.specs.Prelude.{◌≡◌, ◌&&◌, ◌||◌, OnOk, IfOk, n
 ghost use Rattle.verilog_tree.specs.Facts as fact;
 ghost use Rattle.verilog_tree.specs.Scope.{declaration, is_declared, is_known, is_clk};
 ghost use Rattle.verilog_tree.specs.WellFormed as well;
-ghost use Rattle.net_check.specs.Instances.{driven_by};
 ghost use Rattle.net_check.specs.Known as known;
 
 use crate::connections::is_driving;
@@ -15,7 +14,7 @@ use net_rules::writes::{all_write_none, body_of, note_all_writes};
 use std::alloc::{AllocError, Global};
 use verilog_tree::kind::{Kind, SignalClass};
 use verilog_tree::name::Identifier;
-use verilog_tree::tree::{Connection, Direction, InitialConstant, Instance, Item, Port};
+use verilog_tree::tree::{Connection, Direction, InitialConstant, Item, Port};
 
 /// What is known of a module up to a place in it.
 #[derive(Drop)]
@@ -86,21 +85,6 @@ fn drive_outputs<'t>(
     Ok(new)
 }
 
-/// Adds what an instance drives, and says whether each is new.
-fn drive_by_instance<'t>(
-    driven: &mut NameSet<'t>,
-    interfaces: &Interfaces,
-    instance: &'t Instance,
-) -> Result<bool, AllocError>
-    ensures new { IfOk result (λ b. b ≡ well.are_new driven.old (driven_by interfaces.now instance.now)) }
-    ensures driven { OnOk result (driven.new ≡ fact.after fact.with_name driven.old (driven_by interfaces.now instance.now)) }
-{
-    match interfaces.get(&instance.module_name) {
-        None => Ok(true),
-        Some(interface) => drive_outputs(driven, &interface.ports, instance.connections.as_slice()),
-    }
-}
-
 /// Adds what the item drives, and says whether each is new.
 fn drive<'t>(
     driven: &mut NameSet<'t>,
@@ -112,7 +96,10 @@ fn drive<'t>(
 {
     match item {
         Item::Assign(x) => driven.add(&x.target),
-        Item::Instance(x) => drive_by_instance(driven, interfaces, x),
+        Item::Instance(x) => match interfaces.get(&x.module_name) {
+            None => Ok(true),
+            Some(interface) => drive_outputs(driven, &interface.ports, x.connections.as_slice()),
+        },
         _ => Ok(true),
     }
 }

@@ -7,7 +7,7 @@ use std::alloc::AllocError;
 use thiserror::Error;
 
 /// A part of a module, in the text's order.
-#[derive(Clone, Copy, Debug, PartialEq, Eq)]
+#[derive(Clone, Copy, Debug, PartialEq)]
 pub enum ModulePart {
     /// Its name and its ports as a whole, and where it stands in the net.
     Head,
@@ -18,7 +18,7 @@ pub enum ModulePart {
 }
 
 /// A part of a net.
-#[derive(Clone, Copy, Debug, PartialEq, Eq)]
+#[derive(Clone, Copy, Debug, PartialEq)]
 pub enum NetPart {
     /// The list of modules, which is empty.
     Modules,
@@ -27,7 +27,7 @@ pub enum NetPart {
 }
 
 /// Why a net is not shown to be well formed.
-#[derive(Clone, Copy, Debug, PartialEq, Eq, Error)]
+#[derive(Clone, Copy, Debug, Error)]
 pub enum NetFault {
     /// The part breaks a rule, and no part before it breaks one.
     #[error("a part of the net breaks a rule")]

@@ -3,7 +3,6 @@
 ghost use Rattle.std.specs.Prelude.{◌≡◌, ◌&&◌, ◌||◌, OnOk, IfOk, not};
 ghost use Rattle.std.specs.List.{list_any};
 ghost use Rattle.verilog_tree.specs.Facts as fact;
-ghost use Rattle.net_check.specs.Instances.{places_again};
 ghost use Rattle.net_check.specs.Known as known;
 
 use net_rules::interfaces::Interfaces;
@@ -11,7 +10,7 @@ use net_rules::names::NameSet;
 use net_rules::writes::item_prints;
 use std::alloc::{AllocError, Global};
 use verilog_tree::name::Identifier;
-use verilog_tree::tree::{Instance, Item, Module};
+use verilog_tree::tree::{Item, Module};
 
 /// What is known of a net's prints up to a place in it.
 #[derive(Drop)]
@@ -28,38 +27,17 @@ pub fn is_top(name: &Identifier) -> bool
     name.as_str() == "top"
 }
 
-/// Whether the module of this name prints, `top` aside.
-fn prints_below_top(interfaces: &Interfaces, name: &Identifier) -> bool
-    ensures { result ≡ fact.prints_below_top (fact.interface_named interfaces.now name.now) }
-{
-    match interfaces.get(name) {
-        None => false,
-        Some(interface) => interface.prints && !is_top(name),
-    }
-}
-
 /// Whether it is an instance of a module that prints, `top` aside.
 pub fn places_printer(interfaces: &Interfaces, item: &Item) -> bool
     ensures { result ≡ fact.places_printer interfaces.now item.now }
 {
     match item {
-        Item::Instance(x) => prints_below_top(interfaces, &x.module_name),
+        Item::Instance(x) => match interfaces.get(&x.module_name) {
+            None => false,
+            Some(interface) => interface.prints && !is_top(&x.module_name),
+        },
         _ => false,
     }
-}
-
-/// Adds the module of an instance, and says whether it is no second one of a module that prints.
-fn place<'t>(
-    placed: &mut NameSet<'t>,
-    interfaces: &Interfaces,
-    instance: &'t Instance,
-) -> Result<bool, AllocError>
-    ensures alone { IfOk result (λ b. b ≡ not (places_again interfaces.now placed.old instance.now)) }
-    ensures placed { OnOk result (placed.new ≡ fact.with_name placed.old instance.now.module_name) }
-{
-    let prints = prints_below_top(interfaces, &instance.module_name);
-    let first = placed.add(&instance.module_name)?;
-    Ok(!prints || first)
 }
 
 /// Adds the module of the item where it is an instance, and says whether it is no second one of a module that prints.
@@ -72,7 +50,11 @@ fn place_item<'t>(
     ensures placed { OnOk result (placed.new ≡ fact.after_module_name placed.old (fact.module_of item.now)) }
 {
     match item {
-        Item::Instance(x) => place(placed, interfaces, x),
+        Item::Instance(x) => {
+            let prints = places_printer(interfaces, item);
+            let first = placed.add(&x.module_name)?;
+            Ok(!prints || first)
+        }
         _ => Ok(true),
     }
 }
@@ -101,25 +83,17 @@ impl<'t> Printing<'t> {
     }
 }
 
-/// Adds the module of the item where it is an instance.
-fn note_placed<'t>(placed: &mut NameSet<'t>, item: &'t Item) -> Result<(), AllocError>
-    ensures { OnOk result (placed.new ≡ known.after_placed placed.old item.now) }
-{
-    match item {
-        Item::Instance(x) => {
-            placed.add(&x.module_name)?;
-            Ok(())
-        }
-        _ => Ok(()),
-    }
-}
-
 /// Adds the modules that have instances among the items.
 fn note_all_placed<'t>(placed: &mut NameSet<'t>, items: &'t [Item]) -> Result<(), AllocError>
     ensures { OnOk result (placed.new ≡ fact.after known.after_placed placed.old items.now) }
 {
     for item in items {
-        note_placed(placed, item)?;
+        match item {
+            Item::Instance(x) => {
+                placed.add(&x.module_name)?;
+            }
+            _ => {}
+        }
     }
     Ok(())
 }

@@ -1,6 +1,6 @@
 // The search for the first part of a net that breaks a rule.
 
-ghost use Rattle.std.specs.Prelude.{◌≡◌, ◌==◌, ◌&&◌, ◌||◌, ◌∷◌, ◌++◌, [], None, IfOk, OnOk, not, is_some};
+ghost use Rattle.std.specs.Prelude.{◌≡◌, ◌&&◌, ◌||◌, ◌∷◌, ◌++◌, [], None, IfOk, OnOk, not, is_some};
 ghost use Rattle.std.specs.List.{list_any};
 ghost use Rattle.verilog_tree.specs.Facts as fact;
 ghost use Rattle.verilog_tree.specs.Grammar.{clk};
@@ -21,7 +21,7 @@ use net_rules::kinds::{is_clk, is_input, width_of};
 use net_rules::names::{NameSet, Scope};
 use net_rules::statements::{constants_right, statements_right};
 use std::alloc::{AllocError, Global};
-use verilog_tree::tree::{Expression, Instance, Item, Module, Net, Port};
+use verilog_tree::tree::{Expression, Item, Module, Net, Port};
 
 fn is_empty<T>(items: &[T]) -> bool
     ensures { result ≡ breaks.is_empty items.now }
@@ -32,21 +32,15 @@ fn is_empty<T>(items: &[T]) -> bool
     }
 }
 
-fn lacks_parts(value: &Expression) -> bool
-    ensures { result ≡ breaks.lacks_parts value.now }
-{
-    match value {
-        Expression::Concatenation(parts) => is_empty(parts.as_slice()),
-        _ => false,
-    }
-}
-
 /// Whether a list of it is empty of which the grammar asks for one.
 fn lacks(item: &Item) -> bool
     ensures { result ≡ breaks.lacks item.now }
 {
     match item {
-        Item::Assign(x) => lacks_parts(&x.value),
+        Item::Assign(x) => match &x.value {
+            Expression::Concatenation(parts) => is_empty(parts.as_slice()),
+            _ => false,
+        },
         Item::Instance(x) => is_empty(x.connections.as_slice()),
         _ => false,
     }
@@ -110,13 +104,6 @@ fn wrong_item<'t>(
     Ok(None)
 }
 
-/// Whether a port that is named `clk` is an input of one bit.
-fn is_clock_right(port: &Port) -> bool
-    ensures { result ≡ (not (declared.is_clk port.now.name) || (well.is_input port.now.direction && declared.width_of port.now.high == 1)) }
-{
-    !is_clk(&port.name) || (is_input(port.direction) && width_of(port.high) == 1)
-}
-
 /// Whether the port meets the rules; adds it to what is known.
 fn port_stands<'t>(
     all: &ModuleFacts,
@@ -127,7 +114,9 @@ fn port_stands<'t>(
     ensures facts { OnOk result (before.new ≡ known.after_port before.old port.now) }
 {
     let new = before.add_port(port)?;
-    Ok(new && width_of(port.high) > 0 && all.is_driven(port) && is_clock_right(port))
+    let wide = width_of(port.high);
+    let is_clock_right = !is_clk(&port.name) || (is_input(port.direction) && wide == 1);
+    Ok(new && wide > 0 && all.is_driven(port) && is_clock_right)
 }
 
 /// The first port that breaks a rule; adds the ports before it to what is known.
@@ -158,22 +147,15 @@ fn has_clock(ports: &[Port]) -> bool
     false
 }
 
-/// Whether the instance's module has `clk`.
-fn is_clocked_instance(interfaces: &Interfaces, instance: &Instance) -> bool
-    ensures { result ≡ has_port (fact.ports_of (fact.interface_named interfaces.now instance.now.module_name)) clk }
-{
-    match interfaces.get(&instance.module_name) {
-        None => false,
-        Some(interface) => interface.ports.get(b"clk".as_slice()).is_some(),
-    }
-}
-
 fn is_clocked(interfaces: &Interfaces, item: &Item) -> bool
     ensures { result ≡ well.is_clocked interfaces.now item.now }
 {
     match item {
         Item::Always(_) => true,
-        Item::Instance(x) => is_clocked_instance(interfaces, x),
+        Item::Instance(x) => match interfaces.get(&x.module_name) {
+            None => false,
+            Some(interface) => interface.ports.get(b"clk".as_slice()).is_some(),
+        },
         _ => false,
     }
 }
