@@ -32,22 +32,8 @@ pub fn text(alloc: Global, name: &[u8]) -> Result<String, AllocError>
     Ok(text)
 }
 
-#[tactic(auto, unfolding(c_resolution::specs::Globals::initial_from))]
-fn initial_from(found: &mut Findings, ty: CType, constancy: Constancy, offset: usize) -> i128
-    ensures { spec.initial_from ty constancy offset found.old ≡ Outcome.Gives result found.new }
-{
-    match constancy {
-        Constancy::Constant(value) => wrap(ty, value.number),
-        Constancy::Unknown => 0,
-        Constancy::NotConstant => {
-            found.add(Rule::Constant, offset);
-            0
-        }
-    }
-}
-
 /// An initial value of a type.
-#[tactic(auto, unfolding(c_resolution::specs::Globals::initial_value))]
+#[tactic(auto, unfolding(c_resolution::specs::Globals::initial_value, c_resolution::specs::Globals::initial_from))]
 fn initial_value(
     alloc: Global,
     scope: &Scope<'_>,
@@ -58,7 +44,14 @@ fn initial_value(
     ensures { Walks (λ x. x) (spec.initial_value ty e.now scope.now found.old) result found.new }
 {
     expression(alloc, scope, found, e)?;
-    Ok(initial_from(found, ty, constancy_of(e), e.offset))
+    match constancy_of(e) {
+        Constancy::Constant(value) => Ok(wrap(ty, value.number)),
+        Constancy::Unknown => Ok(0),
+        Constancy::NotConstant => {
+            found.add(Rule::Constant, e.offset);
+            Ok(0)
+        }
+    }
 }
 
 #[tactic(auto, unfolding(c_resolution::specs::Globals::initial_values))]
@@ -96,24 +89,6 @@ fn look_through_all(
     Ok(())
 }
 
-fn look_through(
-    alloc: Global,
-    scope: &Scope<'_>,
-    found: &mut Findings,
-    initializer: &Initializer,
-) -> Result<(), AllocError>
-    ensures { Walks (λ x. x) (spec.looked initializer.now scope.now found.old) result found.new }
-{
-    match initializer {
-        Initializer::Value(e) => {
-            expression(alloc, scope, found, e.get())?;
-            Ok(())
-        }
-        Initializer::List(list) => look_through_all(alloc, scope, found, list.as_slice()),
-        Initializer::Mutex => Ok(()),
-    }
-}
-
 /// An initialiser of another form than the object's.
 #[tactic(auto, unfolding(c_resolution::specs::Globals::refused))]
 fn refuse(
@@ -126,63 +101,18 @@ fn refuse(
     ensures { Walks (λ x. x) (spec.refused name.now initializer.now scope.now found.old) result found.new }
 {
     found.add(Rule::Kind, name.offset);
-    look_through(alloc, scope, found, initializer)
-}
-
-#[tactic(auto, unfolding(c_resolution::specs::Globals::refused_values))]
-fn refused_values(
-    alloc: Global,
-    scope: &Scope<'_>,
-    found: &mut Findings,
-    name: &Name,
-    initializer: &Initializer,
-) -> Result<Vec<i128>, AllocError>
-    ensures { Walks (λ v. v.items) (spec.refused_values name.now initializer.now scope.now found.old) result found.new }
-{
-    refuse(alloc, scope, found, name, initializer)?;
-    Ok(Vec::new(alloc))
-}
-
-/// The value of a scalar.
-fn one_value(
-    alloc: Global,
-    scope: &Scope<'_>,
-    found: &mut Findings,
-    ty: CType,
-    e: &Expression,
-) -> Result<Vec<i128>, AllocError>
-    ensures { Walks (λ v. v.items) (spec.one_value ty e.now scope.now found.old) result found.new }
-{
-    let value = initial_value(alloc, scope, found, ty, e)?;
-    let mut values = Vec::new(alloc);
-    values.push(value)?;
-    Ok(values)
-}
-
-/// The initial values of an integer object, by its initialiser.
-fn initial_of(
-    alloc: Global,
-    scope: &Scope<'_>,
-    found: &mut Findings,
-    name: &Name,
-    ty: CType,
-    length: Option<u64>,
-    initializer: &Initializer,
-) -> Result<Vec<i128>, AllocError>
-    ensures { Walks (λ v. v.items) (spec.initial_of name.now ty length initializer.now scope.now found.old) result found.new }
-{
-    match (length, initializer) {
-        (None, Initializer::Value(e)) => one_value(alloc, scope, found, ty, e.get()),
-        (Some(length), Initializer::List(list)) => {
-            initial_values(alloc, scope, found, ty, length, list.as_slice())
+    match initializer {
+        Initializer::Value(e) => {
+            expression(alloc, scope, found, e.get())?;
+            Ok(())
         }
-        (None, Initializer::List(_) | Initializer::Mutex)
-        | (Some(_), Initializer::Value(_) | Initializer::Mutex) => {
-            refused_values(alloc, scope, found, name, initializer)
-        }
+        Initializer::List(list) => look_through_all(alloc, scope, found, list.as_slice()),
+        Initializer::Mutex => Ok(()),
     }
 }
 
+/// The initial values of an integer object: a scalar has a value, and an array a list in braces.
+#[tactic(auto, unfolding(c_resolution::specs::Globals::refused_values))]
 fn initial(
     alloc: Global,
     scope: &Scope<'_>,
@@ -193,12 +123,22 @@ fn initial(
 ) -> Result<Vec<i128>, AllocError>
     ensures { Walks (λ v. v.items) (spec.initial name.now variable initializer.now scope.now found.old) result found.new }
 {
-    match initializer {
-        Some(initializer) => {
-            let ty = variable.ty.c_type();
-            initial_of(alloc, scope, found, name, ty, variable.length, initializer)
+    let ty = variable.ty.c_type();
+    match (variable.length, initializer) {
+        (_, None) => Ok(Vec::new(alloc)),
+        (None, Some(Initializer::Value(e))) => {
+            let value = initial_value(alloc, scope, found, ty, e.get())?;
+            let mut values = Vec::new(alloc);
+            values.push(value)?;
+            Ok(values)
         }
-        None => Ok(Vec::new(alloc)),
+        (Some(length), Some(Initializer::List(list))) => {
+            initial_values(alloc, scope, found, ty, length, list.as_slice())
+        }
+        (_, Some(initializer)) => {
+            refuse(alloc, scope, found, name, initializer)?;
+            Ok(Vec::new(alloc))
+        }
     }
 }
 
@@ -236,7 +176,7 @@ fn global_variable<'t>(
         result (file scope.new found.new (tables_of tables.new)) }
 {
     declare(scope, found, &declared.name, Meaning::Variable(variable))?;
-    let values = initial(
+    let initial = initial(
         alloc,
         scope,
         found,
@@ -244,36 +184,7 @@ fn global_variable<'t>(
         variable,
         &declared.initializer,
     )?;
-    add_global(alloc, tables, &declared.name, variable, values)
-}
-
-fn is_scalar_mutex(object: Object) -> bool
-    ensures { result ≡ spec.is_scalar_mutex object }
-{
-    object.kind.is(ObjectKind::Mutex) && object.length.is_none()
-}
-
-fn is_mutex_initializer(initializer: &Initializer) -> bool
-    ensures { result ≡ spec.is_mutex_initializer initializer.now }
-{
-    matches!(initializer, Initializer::Mutex)
-}
-
-fn initialised_by(
-    alloc: Global,
-    scope: &Scope<'_>,
-    found: &mut Findings,
-    object: Object,
-    name: &Name,
-    initializer: &Initializer,
-) -> Result<bool, AllocError>
-    ensures { Walks (λ x. x) (spec.initialised_by object name.now initializer.now scope.now found.old) result found.new }
-{
-    if is_mutex_initializer(initializer) && is_scalar_mutex(object) {
-        return Ok(true);
-    }
-    refuse(alloc, scope, found, name, initializer)?;
-    Ok(false)
+    add_global(alloc, tables, &declared.name, variable, initial)
 }
 
 /// Whether an object is initialised where it is declared; only a scalar mutex may be.
@@ -287,8 +198,13 @@ fn is_initialised(
 ) -> Result<bool, AllocError>
     ensures { Walks (λ x. x) (spec.is_initialised object name.now initializer.now scope.now found.old) result found.new }
 {
+    let is_scalar_mutex = object.kind.is(ObjectKind::Mutex) && object.length.is_none();
     match initializer {
-        Some(initializer) => initialised_by(alloc, scope, found, object, name, initializer),
+        Some(Initializer::Mutex) if is_scalar_mutex => Ok(true),
+        Some(initializer) => {
+            refuse(alloc, scope, found, name, initializer)?;
+            Ok(false)
+        }
         None => Ok(false),
     }
 }
@@ -345,21 +261,6 @@ fn global_object<'t>(
     add_object(tables, object, initialised)
 }
 
-fn refuse_any(
-    alloc: Global,
-    scope: &Scope<'_>,
-    found: &mut Findings,
-    name: &Name,
-    initializer: &Option<Initializer>,
-) -> Result<(), AllocError>
-    ensures { Walks (λ x. x) (spec.refused_initial name.now initializer.now scope.now found.old) result found.new }
-{
-    match initializer {
-        Some(initializer) => refuse(alloc, scope, found, name, initializer),
-        None => Ok(()),
-    }
-}
-
 /// An object whose type breaks a rule.
 #[tactic(auto, unfolding(c_resolution::specs::Globals::unusable))]
 fn unusable<'t>(
@@ -372,7 +273,10 @@ fn unusable<'t>(
 {
     found.add(Rule::Kind, declared.name.offset);
     declare(scope, found, &declared.name, Meaning::Unusable)?;
-    refuse_any(alloc, scope, found, &declared.name, &declared.initializer)
+    match &declared.initializer {
+        Some(initializer) => refuse(alloc, scope, found, &declared.name, initializer),
+        None => Ok(()),
+    }
 }
 
 fn object(kind: ObjectKind, count: usize, length: Option<u64>) -> Meaning
@@ -385,10 +289,13 @@ fn object(kind: ObjectKind, count: usize, length: Option<u64>) -> Meaning
     })
 }
 
-/// The object that words of a type declare: it is the next one of its kind.
-fn meaning_by(tables: &Tables, words: Spelled, length: Option<u64>) -> Meaning
-    ensures { result ≡ spec.meaning_by (tables_of tables.now) words length words.base }
+/// The object that words of a type declare, behind which a `*` may stand: it is the next one of its kind.
+fn global_meaning(tables: &Tables, words: Spelled, is_pointer: bool, length: Option<u64>) -> Meaning
+    ensures { result ≡ spec.global_meaning (tables_of tables.now) words is_pointer length }
 {
+    if is_pointer {
+        return Meaning::Unusable;
+    }
     match words.base {
         BaseType::Integer(ty) => Meaning::Variable(Variable {
             storage: resolved::Storage::Static,
@@ -400,47 +307,12 @@ fn meaning_by(tables: &Tables, words: Spelled, length: Option<u64>) -> Meaning
         BaseType::Thread => object(ObjectKind::Thread, tables.threads.len(), length),
         BaseType::Mutex => object(ObjectKind::Mutex, tables.mutexes.len(), length),
         BaseType::Barrier => object(ObjectKind::Barrier, tables.barriers.len(), length),
-        BaseType::Void => Meaning::Unusable,
-        BaseType::Unlisted => Meaning::Unusable,
-    }
-}
-
-/// The same of words behind which a `*` may stand.
-fn global_meaning(tables: &Tables, words: Spelled, is_pointer: bool, length: Option<u64>) -> Meaning
-    ensures { result ≡ spec.global_meaning (tables_of tables.now) words is_pointer length }
-{
-    if is_pointer {
-        Meaning::Unusable
-    } else {
-        meaning_by(tables, words, length)
+        BaseType::Void | BaseType::Unlisted => Meaning::Unusable,
     }
 }
 
 /// An object by what its words declare.
-#[tactic(auto, unfolding(c_resolution::specs::Globals::global_as))]
-fn global_as<'t>(
-    alloc: Global,
-    scope: &mut Scope<'t>,
-    found: &mut Findings,
-    tables: &mut Tables,
-    declared: &'t GlobalDeclarator,
-    meaning: Meaning,
-) -> Result<(), AllocError>
-    ensures { Walks (λ x. x) (spec.global_as declared.now meaning (file scope.old found.old (tables_of tables.old)))
-        result (file scope.new found.new (tables_of tables.new)) }
-{
-    match meaning {
-        Meaning::Variable(variable) => {
-            global_variable(alloc, scope, found, tables, declared, variable)
-        }
-        Meaning::Object(object) => global_object(alloc, scope, found, tables, declared, object),
-        Meaning::Argument | Meaning::Function(_) | Meaning::Unusable => {
-            unusable(alloc, scope, found, declared)
-        }
-    }
-}
-
-#[tactic(auto, unfolding(c_resolution::specs::Globals::global))]
+#[tactic(auto, unfolding(c_resolution::specs::Globals::global, c_resolution::specs::Globals::global_as))]
 fn global<'t>(
     alloc: Global,
     scope: &mut Scope<'t>,
@@ -454,8 +326,13 @@ fn global<'t>(
         result (file scope.new found.new (tables_of tables.new)) }
 {
     let length = optional_length(alloc, scope, found, &declared.length)?;
-    let meaning = global_meaning(tables, words, is_pointer, length);
-    global_as(alloc, scope, found, tables, declared, meaning)
+    match global_meaning(tables, words, is_pointer, length) {
+        Meaning::Variable(variable) => {
+            global_variable(alloc, scope, found, tables, declared, variable)
+        }
+        Meaning::Object(object) => global_object(alloc, scope, found, tables, declared, object),
+        _ => unusable(alloc, scope, found, declared),
+    }
 }
 
 /// Objects at file scope. A `*` stands before the first name alone.
