@@ -4,7 +4,7 @@ ghost use Rattle.std.specs.Prelude.{◌≡◌, map, IfOk, OnOk, string_bytes};
 ghost use Rattle.std.specs.List.{list_all, zip};
 ghost use Rattle.c_program.specs.Plain.{boxed_statement_of, function_of};
 ghost use Rattle.c_rules.specs.Levels.{pointed};
-ghost use Rattle.c_rules.specs.Walks.{Outcome, Walks};
+ghost use Rattle.c_rules.specs.Walks.{Walks};
 ghost use Rattle.c_resolution.specs.States.{state};
 ghost use Rattle.c_resolution.specs.Files.{file, with_function};
 ghost use Rattle.c_globals.specs.Tabled.{tables_of};
@@ -25,55 +25,17 @@ use c_tree::{Block, Function, Name, Parameter};
 use sqlite_items::Items;
 use std::alloc::{AllocError, Global};
 
-/// Whether the parameter is `void` alone.
-fn is_unnamed_void(parameter: &Parameter) -> bool
-    ensures { result ≡ spec.is_unnamed_void parameter.now }
-{
-    !parameter.is_pointer && (parameter.name.is_none() && is_void(&parameter.specifiers))
-}
-
-/// Whether the parameters are `void` alone.
-fn is_no_parameter(parameters: &[Parameter]) -> bool
-    ensures { result ≡ spec.is_no_parameter parameters.now }
-{
-    match parameters {
-        [only] => is_unnamed_void(only),
-        _ => false,
-    }
-}
-
 /// The parameters as they are written: none where they are `void` alone.
 fn written(function: &Function) -> &[Parameter]
     ensures { result.now ≡ spec.written function.now }
 {
-    let parameters = function.parameters.as_slice();
-    if is_no_parameter(parameters) {
-        &[]
-    } else {
-        parameters
+    match function.parameters.as_slice() {
+        [only] if !only.is_pointer && only.name.is_none() && is_void(&only.specifiers) => &[],
+        parameters => parameters,
     }
 }
 
-fn parameter_base(words: Spelled) -> BaseType
-    ensures { result ≡ spec.parameter_base words }
-{
-    if words.is_static {
-        BaseType::Unlisted
-    } else {
-        words.base
-    }
-}
-
-/// The type of a parameter; `static` may not stand in it.
-fn parameter_type(parameter: &Parameter) -> DeclaredType
-    ensures { result ≡ spec.parameter_type parameter.now }
-{
-    DeclaredType {
-        base: parameter_base(spelled_by(&parameter.specifiers)),
-        is_pointer: parameter.is_pointer,
-    }
-}
-
+/// The types of parameters; `static` may not stand in them.
 fn parameter_types(
     alloc: Global,
     parameters: &[Parameter],
@@ -82,25 +44,28 @@ fn parameter_types(
 {
     let mut types = Items::new(alloc);
     for parameter in parameters {
-        types.push(parameter_type(parameter))?;
+        let words = spelled_by(&parameter.specifiers);
+        let base = if words.is_static {
+            BaseType::Unlisted
+        } else {
+            words.base
+        };
+        types.push(DeclaredType {
+            base,
+            is_pointer: parameter.is_pointer,
+        })?;
     }
     Ok(types)
-}
-
-fn return_of(function: &Function) -> DeclaredType
-    ensures { result ≡ spec.return_of function.now }
-{
-    DeclaredType {
-        base: spelled_by(&function.specifiers).base,
-        is_pointer: function.is_pointer,
-    }
 }
 
 /// What a declaration says of its function.
 fn header(alloc: Global, scope: &Scope<'_>, function: &Function) -> Result<Header, AllocError>
     ensures { IfOk result (λ h. h ≡ spec.header scope.now function.now) }
 {
-    let returns = return_of(function);
+    let returns = DeclaredType {
+        base: spelled_by(&function.specifiers).base,
+        is_pointer: function.is_pointer,
+    };
     let parameters = parameter_types(alloc, written(function))?;
     let name = function.name.bytes.as_slice();
     let is_main = name == b"main".as_slice() && returns.is_int() && parameters.is_empty();
@@ -145,10 +110,10 @@ fn return_type(header: &Header) -> resolved::ReturnType
     }
 }
 
-fn same_base(a: BaseType, b: BaseType) -> bool
-    ensures { result ≡ spec.same_base a b }
+fn same_type(a: DeclaredType, b: DeclaredType) -> bool
+    ensures { result ≡ spec.same_type a b }
 {
-    match (a, b) {
+    let same_base = match (a.base, b.base) {
         (BaseType::Integer(x), BaseType::Integer(y)) => x == y,
         (BaseType::Void, BaseType::Void)
         | (BaseType::Thread, BaseType::Thread)
@@ -156,14 +121,8 @@ fn same_base(a: BaseType, b: BaseType) -> bool
         | (BaseType::Barrier, BaseType::Barrier)
         | (BaseType::Unlisted, BaseType::Unlisted) => true,
         _ => false,
-    }
-}
-
-fn same_type(a: DeclaredType, b: DeclaredType) -> bool
-    ensures { result ≡ spec.same_type a b }
-{
-    same_base(a.base, b.base)
-        && ((a.is_pointer && b.is_pointer) || (!a.is_pointer && !b.is_pointer))
+    };
+    same_base && ((a.is_pointer && b.is_pointer) || (!a.is_pointer && !b.is_pointer))
 }
 
 fn same_types(a: &[DeclaredType], b: &[DeclaredType]) -> bool
@@ -182,68 +141,8 @@ fn is_same_function(known: &Header, header: &Header) -> bool
         && (known_types.len() == types.len() && same_types(known_types, types))
 }
 
-fn is_unlisted(gives: Gives) -> bool
-    ensures { result ≡ spec.is_unlisted gives }
-{
-    matches!(gives, Gives::Unlisted)
-}
-
-/// Declares a function whose name is not taken at file scope.
-fn add_function<'t>(scope: &mut Scope<'t>, name: &'t Name, header: Header) -> Result<(), AllocError>
-    ensures { OnOk result (scope.new ≡ spec.with_header name.now header scope.old) }
-{
-    let number = scope.headers.len();
-    scope.headers.push(header)?;
-    scope
-        .inner
-        .insert(name.bytes.as_slice(), Meaning::Function(number))
-}
-
-/// A declaration of a function that is declared already, with a second body or not.
-#[tactic(auto, unfolding(c_resolution::specs::Functions::declare_again))]
-fn declare_again(
-    scope: &Scope<'_>,
-    found: &mut Findings,
-    number: usize,
-    header: &Header,
-    name: &Name,
-    is_second: bool,
-)
-    ensures { spec.declare_again scope.now number header.now name.now is_second found.old ≡ Outcome.Gives tt found.new }
-{
-    let Some(known) = scope.headers.get(number) else {
-        return;
-    };
-    found.add_if(is_second, Rule::Twice, name.offset);
-    found.add_if(!is_same_function(known, header), Rule::Kind, name.offset);
-}
-
-/// A declaration of a name that stands for something at file scope, or for nothing.
-fn declare_over<'t>(
-    scope: &mut Scope<'t>,
-    found: &mut Findings,
-    header: Header,
-    name: &'t Name,
-    is_second: bool,
-    over: Option<Meaning>,
-) -> Result<(), AllocError>
-    ensures { Walks (λ x. x) (spec.declare_over header name.now is_second over (state scope.old found.old)) result (state scope.new found.new) }
-{
-    match over {
-        None => add_function(scope, name, header),
-        Some(Meaning::Function(number)) => {
-            declare_again(scope, found, number, &header, name, is_second);
-            Ok(())
-        }
-        Some(Meaning::Argument | Meaning::Unusable | Meaning::Variable(_) | Meaning::Object(_)) => {
-            found.add(Rule::Twice, name.offset);
-            Ok(())
-        }
-    }
-}
-
-/// Declares a function at file scope.
-#[tactic(auto, unfolding(c_resolution::specs::Functions::declare_function))]
+/// Declares a function at file scope, with a second body or not.
+#[tactic(auto, unfolding(c_resolution::specs::Functions::declare_function, c_resolution::specs::Functions::declare_again))]
 fn declare_function<'t>(
     scope: &mut Scope<'t>,
     found: &mut Findings,
@@ -257,23 +156,26 @@ fn declare_function<'t>(
         found.add(Rule::Twice, name.offset);
         return Ok(());
     }
-    let over = scope.inner.get(name.bytes.as_slice());
-    declare_over(scope, found, header, name, is_second, over)
-}
-
-/// A parameter that is a pointer.
-fn pointer_parameter(
-    scope: &mut Scope<'_>,
-    found: &mut Findings,
-    words: Spelled,
-    is_routine: bool,
-    offset: usize,
-) -> Result<Meaning, AllocError>
-    ensures { Walks (λ m. m) (spec.pointer_parameter words is_routine offset (state scope.old found.old)) result (state scope.new found.new) }
-{
-    found.add_if(!is_routine, Rule::Kind, offset);
-    new_local(scope, words, None, BasicType::Long)?;
-    Ok(Meaning::Argument)
+    match scope.inner.get(name.bytes.as_slice()) {
+        None => {
+            let number = scope.headers.len();
+            scope.headers.push(header)?;
+            scope
+                .inner
+                .insert(name.bytes.as_slice(), Meaning::Function(number))
+        }
+        Some(Meaning::Function(number)) => {
+            if let Some(known) = scope.headers.get(number) {
+                found.add_if(is_second, Rule::Twice, name.offset);
+                found.add_if(!is_same_function(known, &header), Rule::Kind, name.offset);
+            }
+            Ok(())
+        }
+        Some(_) => {
+            found.add(Rule::Twice, name.offset);
+            Ok(())
+        }
+    }
 }
 
 /// What a parameter stands for in the body.
@@ -289,7 +191,9 @@ fn parameter_meaning(
 {
     let words = spelled_by(&parameter.specifiers);
     if parameter.is_pointer {
-        return pointer_parameter(scope, found, words, is_routine, offset);
+        found.add_if(!is_routine, Rule::Kind, offset);
+        new_local(scope, words, None, BasicType::Long)?;
+        return Ok(Meaning::Argument);
     }
     match plain_type(words) {
         Some(ty) => new_local(scope, words, None, ty),
@@ -336,28 +240,6 @@ fn parameters<'t>(
         parameter(scope, found, next, is_routine, has_body)?;
     }
     Ok(())
-}
-
-/// Whether the function has a body, and had one before.
-fn is_second(function: &Function, header: &Header, count: usize) -> bool
-    ensures { result ≡ spec.is_second function.now header.now count }
-{
-    function.body.is_some() && header.definition != Some(place(count))
-}
-
-/// Enters the body of the function of that number.
-fn enter_function(scope: &mut Scope<'_>, number: u32)
-    ensures { scope.new ≡ spec.entered number scope.old }
-{
-    scope.function = Some(number);
-    scope.loops = 0;
-}
-
-/// Leaves the body of a function.
-fn leave_function(scope: &mut Scope<'_>)
-    ensures { scope.new ≡ spec.left scope.old }
-{
-    scope.function = None;
 }
 
 /// Names as text.
@@ -433,28 +315,8 @@ fn add_definition(
     Ok(())
 }
 
-/// Adds the body of a function, whose parameters are declared.
+/// Adds the body of a function, if it has one, to the program. The parameters are declared.
 #[tactic(auto, unfolding(c_resolution::specs::Functions::definition))]
-fn definition<'t>(
-    alloc: Global,
-    scope: &mut Scope<'t>,
-    found: &mut Findings,
-    tables: &mut Tables,
-    function: &'t Function,
-    returns: resolved::ReturnType,
-    block: &'t Block,
-) -> Result<(), AllocError>
-    ensures { Walks (λ x. x) (spec.definition function.now returns block.now (file scope.old found.old (tables_of tables.old)))
-        result (file scope.new found.new (tables_of tables.new)) }
-{
-    let count = scope.locals.len();
-    enter_function(scope, place(tables.functions.len()));
-    let body = items(alloc, scope, found, block)?;
-    leave_function(scope);
-    add_definition(alloc, scope, tables, function, returns, block, count, body)
-}
-
-/// The body of a function, if it has one.
 fn body_of<'t>(
     alloc: Global,
     scope: &mut Scope<'t>,
@@ -466,10 +328,15 @@ fn body_of<'t>(
     ensures { Walks (λ x. x) (spec.body_of function.now returns function.now.body (file scope.old found.old (tables_of tables.old)))
         result (file scope.new found.new (tables_of tables.new)) }
 {
-    match &function.body {
-        Some(block) => definition(alloc, scope, found, tables, function, returns, block),
-        None => Ok(()),
-    }
+    let Some(block) = &function.body else {
+        return Ok(());
+    };
+    let count = scope.locals.len();
+    scope.function = Some(place(tables.functions.len()));
+    scope.loops = 0;
+    let body = items(alloc, scope, found, block)?;
+    scope.function = None;
+    add_definition(alloc, scope, tables, function, returns, block, count, body)
 }
 
 /// The next function has no locals yet.
@@ -494,9 +361,10 @@ fn head<'t>(
 {
     let gives = gives_of(&header);
     let is_routine = header.is_start_routine();
-    let is_second = is_second(function, &header, count);
+    let is_second = function.body.is_some() && header.definition != Some(place(count));
     scope.gives = gives;
-    found.add_if(is_unlisted(gives), Rule::Kind, function.name.offset);
+    let is_unlisted = matches!(gives, Gives::Unlisted);
+    found.add_if(is_unlisted, Rule::Kind, function.name.offset);
     declare_function(scope, found, header, &function.name, is_second)?;
     scope.open_block(alloc)?;
     let has_body = function.body.is_some();
