@@ -2,6 +2,5 @@
 //! `rt plant`: all 9 wrong bodies in 9 functions are refused.
 #![tactic(auto)]
 
-mod parts;
 mod sequences;
 pub mod statements;

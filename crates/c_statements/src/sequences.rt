@@ -7,17 +7,6 @@ ghost use Rattle.c_resolution.specs.Statements as spec;
 use c_program::tree as resolved;
 use std::alloc::{AllocError, Global};
 
-/// Two statements one after the other.
-fn neighbours(
-    alloc: Global,
-    first: Box<resolved::Statement>,
-    next: Box<resolved::Statement>,
-) -> Result<Box<resolved::Statement>, AllocError>
-    ensures { IfOk result (λ s. boxed_statement_of s ≡ spec.neighbours (boxed_statement_of first) (boxed_statement_of next)) }
-{
-    resolved::Statement::Sequence(first, next).boxed(alloc)
-}
-
 /// Some statements with one that waits for its neighbour.
 #[derive(Drop)]
 struct Joined {
@@ -39,7 +28,7 @@ impl Joined {
                 waiting: Some(next),
             }),
             Some(first) => {
-                let both = neighbours(alloc, first, next)?;
+                let both = resolved::Statement::Sequence(first, next).boxed(alloc)?;
                 done.push(both)?;
                 Ok(Joined {
                     done,
@@ -63,13 +52,16 @@ impl Joined {
     }
 }
 
-/// Each two neighbours joined.
-fn paired(
+/// Each two neighbours joined, if there are two.
+fn halved(
     alloc: Global,
     steps: Vec<Box<resolved::Statement>>,
 ) -> Result<Vec<Box<resolved::Statement>>, AllocError>
-    ensures { IfOk result (λ v. map boxed_statement_of v.items ≡ spec.paired (map boxed_statement_of steps.items)) }
+    ensures { IfOk result (λ v. map boxed_statement_of v.items ≡ spec.halved (map boxed_statement_of steps.items)) }
 {
+    if steps.len() <= 1 {
+        return Ok(steps);
+    }
     let mut joined = Joined {
         done: Vec::new(alloc),
         waiting: None,
@@ -90,27 +82,6 @@ fn only(
     match steps.pop() {
         Some(last) => Ok(last),
         None => resolved::Statement::Done.boxed(alloc),
-    }
-}
-
-/// Whether there are no two of them.
-fn is_short(steps: &[Box<resolved::Statement>]) -> bool
-    ensures { result ≡ spec.is_short (map boxed_statement_of steps.now) }
-{
-    steps.len() <= 1
-}
-
-/// Each two neighbours joined, if there are two.
-fn halved(
-    alloc: Global,
-    steps: Vec<Box<resolved::Statement>>,
-) -> Result<Vec<Box<resolved::Statement>>, AllocError>
-    ensures { IfOk result (λ v. map boxed_statement_of v.items ≡ spec.halved (map boxed_statement_of steps.items)) }
-{
-    if is_short(steps.as_slice()) {
-        Ok(steps)
-    } else {
-        paired(alloc, steps)
     }
 }
 
