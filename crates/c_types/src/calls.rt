@@ -12,49 +12,35 @@ use call_graph::{Call, Reach, reach_of};
 use sqlite_items::Items;
 use std::alloc::{AllocError, Global};
 
-fn call_of(site: CallSite) -> Call
-    ensures { result ≡ spec.call_of site }
-{
-    Call {
-        caller: site.caller,
-        callee: site.callee,
-    }
-}
-
 fn calls_of(alloc: Global, sites: &[CallSite]) -> Result<Items<Call>, AllocError>
     ensures { IfOk result (λ calls. calls ≡ map spec.call_of sites.now) }
 {
     let mut calls = Items::new(alloc);
     for site in sites {
-        calls.push(call_of(*site))?;
+        calls.push(Call {
+            caller: site.caller,
+            callee: site.callee,
+        })?;
     }
     Ok(calls)
 }
 
-fn fault_if(is_broken: bool, rule: Rule, offset: usize) -> Option<Fault>
-    ensures { result ≡ spec.fault_if is_broken rule offset }
-{
-    if is_broken {
-        Some(Fault { rule, offset })
-    } else {
-        None
-    }
-}
-
-/// The first fault, with that of a call that leads back to its caller.
-fn with_call(fault: Option<Fault>, reach: &Reach, call: CallSite) -> Option<Fault>
-    ensures { result ≡ spec.with_call (leads reach.now.rows) fault call }
-{
-    let leads_back = reach.leads(call.callee as usize, call.caller as usize);
-    first(fault, fault_if(leads_back, Rule::Recursive, call.offset))
-}
-
+/// The first fault, with those of calls that lead back to their caller.
 fn with_calls(fault: Option<Fault>, reach: &Reach, calls: &[CallSite]) -> Option<Fault>
     ensures { result ≡ fold (spec.with_call (leads reach.now.rows)) fault calls.now }
 {
     let mut fault = fault;
     for call in calls {
-        fault = with_call(fault, reach, *call);
+        let leads_back = reach.leads(call.callee as usize, call.caller as usize);
+        let broken = if leads_back {
+            Some(Fault {
+                rule: Rule::Recursive,
+                offset: call.offset,
+            })
+        } else {
+            None
+        };
+        fault = first(fault, broken);
     }
     fault
 }

@@ -19,39 +19,22 @@ fn put_routine(threads: &mut [ThreadObject], number: usize, object: ThreadObject
     }
 }
 
-/// A second create of an object: it may not name another routine.
-fn second_fault(creation: Creation, routine: u32) -> Option<Fault>
-    ensures { result ≡ spec.second_fault creation routine }
-{
-    if routine == creation.routine {
-        None
-    } else {
-        Some(Fault {
-            rule: Rule::Threads,
-            offset: creation.offset,
-        })
-    }
-}
-
-/// Gives an object its routine, unless it has one.
-fn give_to(threads: &mut [ThreadObject], creation: Creation, object: ThreadObject) -> Option<Fault>
-    ensures { (threads.new, result) ≡ spec.given_to creation object object.routine threads.old }
-{
-    match object.routine {
-        Some(routine) => second_fault(creation, routine),
-        None => {
-            put_routine(threads, creation.thread as usize, object, creation.routine);
-            None
-        }
-    }
-}
-
-/// Gives the object of a create its routine.
+/// Gives the object of a create its routine, unless it has one: a second create may not name another routine.
 fn give_routine(threads: &mut [ThreadObject], creation: Creation) -> Option<Fault>
     ensures { (threads.new, result) ≡ spec.given creation threads.old }
 {
     match threads.get(creation.thread as usize).copied() {
-        Some(object) => give_to(threads, creation, object),
+        Some(object) => match object.routine {
+            Some(routine) if routine == creation.routine => None,
+            Some(_) => Some(Fault {
+                rule: Rule::Threads,
+                offset: creation.offset,
+            }),
+            None => {
+                put_routine(threads, creation.thread as usize, object, creation.routine);
+                None
+            }
+        },
         None => None,
     }
 }
