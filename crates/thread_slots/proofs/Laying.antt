@@ -5,6 +5,7 @@ use Rattle.hls_ints.specs.Types.{IntegerType, width_of}
 use Rattle.bank_partition.specs.declared.banks.Spread.{Spread}
 use Rattle.block_ir.specs.declared.block.Operation.{Operation}
 use Rattle.block_ir.specs.declared.block.Block.{Block}
+use Rattle.block_ir.specs.declared.code.Stage.{Stage}
 use Rattle.block_ir.specs.declared.code.ThreadCode.{ThreadCode}
 use Rattle.block_ir.specs.declared.plan.BlockPlan.{BlockPlan}
 use Rattle.block_ir.specs.declared.plan.StagePlan.{StagePlan}
@@ -25,7 +26,7 @@ use Rattle.std.specs.Prelude.{false, codes, string_bytes}
 use Rattle.std.proofs.lemmas.Bool.{cases_eq}
 use Rattle.lists.proofs.Places.{get_last, get_front}
 use Rattle.thread_slots.specs.Naming.{register_name, LaysNamed, IsNamedAt, AreNamed}
-use Rattle.thread_slots.specs.Slots.{StandsAt, LaysRegister, StandFrom, LaysAll, IsHeldAt, LaysSlot, Widens, HasRoomAt, KeepsOperations}
+use Rattle.thread_slots.specs.Slots.{StandsAt, LaysRegister, StandFrom, LaysAll, IsHeldAt, LaysSlot, Widens, HasRoomAt, KeepsOperations, WidensStage, AreKeptWidths}
 
 -- ---- places
 
@@ -204,4 +205,16 @@ module _ (globals : List IntegerType) (code : ThreadCode) where
         (subst (λ (z : ℕ). HasRoomAt after x z) e (room x (ap (register_at p.registers) (sym same) ∙ register))))
         (λ (ne : k ≢ n). more.more x (width_of (value_type globals code u)) (t.room k x u (let less : k < n = omega arith in less) there register))
         (cases_eq k n);
+  }
+
+  pub stages_more : (plan : Planned) (n : ℕ) (s : Stage) (before after : List ℕ) → AreKeptWidths globals code plan n before → slice_get code.stages n ≡ Some s
+      → WidensStage globals code s (slice_get plan.stages n) before after → AreKeptWidths globals code plan (n + 1) after
+  stages_more plan n s before after t listed w = record {
+    count = w.widens.count ∙ t.count;
+    room = λ l b p k x o lt there planned_there at register. ⊎_elim
+        (λ (same : l ≡ n).
+        w.room b p k x o (let z = ap (slice_get code.stages) same in cc) (ap (slice_get plan.stages) (sym same) ∙ planned_there) at register)
+        (λ (ne : l ≢ n).
+        w.widens.more x (width_of (value_type globals code o)) (t.room l b p k x o (let less : l < n = omega arith in less) there planned_there at register))
+        (cases_eq l n);
   }

@@ -1,11 +1,13 @@
 -- The names of the registers of variables are names, tell their places, and are no names of memories.
-use Rattle.std.proofs.Common.{◌≡◌, ℕ, ◌+◌, ◌-◌, ◌<◌, ◌^◌, Bool, true, false, List, [], ◌∷◌, ◌++◌, Some, None, refl, sym, ap, ◌∙◌, subst, append_assoc, arith}
+use Rattle.std.proofs.Common.{◌≡◌, ℕ, ◌+◌, ◌-◌, ◌<◌, ◌^◌, Bool, true, false, List, [], ◌∷◌, ◌++◌, map, slice_get, Option, Some, None, refl, sym, ap, ◌∙◌, subst, append_assoc, arith}
 use Rattle.std.specs.Prelude.{not, ◌==◌, ◌&&◌, if◌then◌else◌, decimal, codes}
+use Rattle.std.specs.Option.{option_map}
 use Rattle.std.specs.Str.{bytes_eq}
 use Rattle.std.proofs.lemmas.List.{append_cancel_right}
 use Rattle.std.proofs.lemmas.List.Sums.{fold-append}
 use Rattle.std.proofs.lemmas.Bool.{not-true, false≢true, and_parts, and_right}
 use Rattle.std.proofs.lemmas.Bool.Decides.{nat_tests}
+use Rattle.std.proofs.lemmas.Option.{slice_get-map}
 use Rattle.std.proofs.lemmas.Slice.Eq.{bytes_eq-Decides}
 use Rattle.verilog_tree.specs.declared.token.Word.{Word}
 use Rattle.verilog_tree.specs.Spelling.{Text, word_spelling, all_words, word_among, is_letter, is_name_byte, all_pass, is_no_word, is_name}
@@ -13,7 +15,7 @@ use Rattle.verilog_tree.proofs.Tests.{and_both, all_pass-append}
 use Rattle.verilog_tree.proofs.Names.{name_bytes-decimal}
 use Rattle.verilog_meaning.specs.Names.{numbered}
 use Rattle.module_sound.specs.Names.{number_behind, last_number, place_of}
-use Rattle.thread_slots.specs.Naming.{is_identifier, stem_for}
+use Rattle.thread_slots.specs.Naming.{is_identifier, stem_for, name_or, register_name}
 use Rattle.thread_slots.proofs.Digits.{digits_tell}
 
 -- ---- no word of the grammar, and no name without a number, has a `_`
@@ -71,6 +73,17 @@ placed_is name text text_ text_n x e f g =
 pub is_name-placed : (name text text_ text_n : Text) (x : ℕ) → x < 2 ^ 64 → text ≡ stem_for name → text_ ≡ text ++ codes "_" → text_n ≡ text_ ++ decimal x → is_name text_n ≡ true
 is_name-placed name text text_ text_n x small e f g =
     subst (λ (z : Text). is_name z ≡ true) (sym (placed_is name text text_ text_n x e f g)) (numbered_name (stem_for name) x (stem_identifies name) small)
+
+-- the name of a variable that has one, and of one that has none
+pub name_of_some : {A : Type 0} (bytes : A → Text) (names : List A) (k place : ℕ) (name : A) (text : Text) → slice_get names k ≡ Some name → text ≡ bytes name
+    → numbered (stem_for text) place ≡ register_name (map bytes names) k place
+name_of_some bytes names k place name text at is =
+    ap (λ t. numbered (stem_for t) place) is
+    ∙ ap (λ (o : Option Text). numbered (stem_for (name_or o)) place) (sym (slice_get-map bytes names k ∙ ap (option_map bytes) at))
+
+pub name_of_none : {A : Type 0} (bytes : A → Text) (names : List A) (k place : ℕ) → slice_get names k ≡ None → numbered (stem_for []) place ≡ register_name (map bytes names) k place
+name_of_none bytes names k place at =
+    ap (λ (o : Option Text). numbered (stem_for (name_or o)) place) (sym (slice_get-map bytes names k ∙ ap (option_map bytes) at))
 
 -- ---- they tell their places
 

@@ -9,7 +9,7 @@ use Rattle.hls_ints.specs.Types.{IntegerType, HasType, width_of, wrapped}
 use Rattle.block_ir.specs.Run.{place_written}
 use Rattle.block_ir.specs.declared.operand.Operand.{Operand}
 use Rattle.block_ir.specs.declared.block.Operation.{Operation}
-use Rattle.block_ir.specs.declared.block.Operation.TheVariants.{WriteArray}
+use Rattle.block_ir.specs.declared.block.Operation.TheVariants.{Unary, Binary, ReadGlobal, WriteGlobal, ReadArray, WriteArray}
 use Rattle.block_ir.specs.declared.code.Array.{Array}
 use Rattle.block_ir.specs.declared.code.ThreadCode.{ThreadCode}
 use Rattle.netlist.specs.declared.netlist.Signal.{Signal}
@@ -127,7 +127,7 @@ adds_none a b registers moment stores g = record {
 }
 
 -- an operation that stores nothing
-pub puts_none : (a b : List Signal) (registers : Registers) (moment : Moment) (stores : List Store) (code : ThreadCode) (values : List Given) (o : Operation) → Grows a b
+puts_none : (a b : List Signal) (registers : Registers) (moment : Moment) (stores : List Store) (code : ThreadCode) (values : List Given) (o : Operation) → Grows a b
     → ((variables given : ℕ → ℤ) (i j : ℕ) (v : ℤ) → cell_after variables given o i j v ≡ v) → PutsOne a b registers moment stores stores code values o
 puts_none a b registers moment stores code values o g same = record {
   added = [];
@@ -140,6 +140,16 @@ puts_none a b registers moment stores code values o g same = record {
     outside = λ i array v listed. same variables given i array.length v;
   };
 }
+
+-- an operation that is no write of an array
+pub puts_others : (a b : List Signal) (registers : Registers) (moment : Moment) (stores : List Store) (code : ThreadCode) (values : List Given) (o : Operation) → Grows a b
+    → ((x n : ℕ) (i v : Operand) → o ≡ WriteArray x n i v → ⊥) → PutsOne a b registers moment stores stores code values o
+puts_others a b registers moment stores code values (Unary operator ty x) g other = puts_none a b registers moment stores code values _ g (λ variables given i j v. refl)
+puts_others a b registers moment stores code values (Binary operator ty x y) g other = puts_none a b registers moment stores code values _ g (λ variables given i j v. refl)
+puts_others a b registers moment stores code values (ReadGlobal x n k) g other = puts_none a b registers moment stores code values _ g (λ variables given i j v. refl)
+puts_others a b registers moment stores code values (WriteGlobal x n k y) g other = puts_none a b registers moment stores code values _ g (λ variables given i j v. refl)
+puts_others a b registers moment stores code values (ReadArray x n k) g other = puts_none a b registers moment stores code values _ g (λ variables given i j v. refl)
+puts_others a b registers moment stores code values (WriteArray x n k y) g other = absurd (other x n k y refl)
 
 -- a write, where its array is
 module _ (a b c d : List Signal) (registers : Registers) (moment : Moment) (before after : List Store) (code : ThreadCode) (values : List Given) (number : ℕ) (own : Array)

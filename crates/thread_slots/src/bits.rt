@@ -1,6 +1,6 @@
 // Lists of bits.
 
-ghost use Rattle.std.specs.Prelude.{◌≡◌, true, length, slice_index, IfOk};
+ghost use Rattle.std.specs.Prelude.{◌≡◌, true, length, IfOk};
 ghost use Rattle.thread_slots.specs.Bits.{NotOf, BothOf, WithOf, NumberOf, MakesBits, LaysWith, MakesAny, EitherIf, is_in};
 ghost use Rattle.thread_slots.specs.Bits.{AddsNots, AddsBoths, AddsWiths, AddsNumbers, AddsAny, EitherAdds};
 
@@ -33,16 +33,11 @@ pub fn both_each(
 {
     let mut outs = Items::new(wires.alloc);
     for (number, bit) in left.iter().enumerate() {
-        let out = wires.both(*bit, bit_at(right, number))?;
+        let other = right.get(number).copied().unwrap_or(0);
+        let out = wires.both(*bit, other)?;
         outs.push(out)?;
     }
     Ok(outs)
-}
-
-fn bit_at(bits: &[usize], number: usize) -> usize
-    ensures { result ≡ slice_index bits.now number }
-{
-    bits.get(number).copied().unwrap_or(0)
 }
 
 /// Of each bit whether it is set, and another one.

@@ -1,7 +1,7 @@
 // Words that banks tell, heard where a core is needed.
 
 ghost use Rattle.std.specs.Prelude.{length, IfOk};
-ghost use Rattle.thread_slots.specs.Hearing.{HearsWord, HearsWords, AddsHeard};
+ghost use Rattle.thread_slots.specs.Hearing.{HearsWords, AddsHeard};
 
 use block_datapath::registers::Held;
 use netlist::netlist::Value;
@@ -16,24 +16,15 @@ pub fn hear(wires: &mut Wires, need: usize, words: &[Held]) -> Result<Items<Held
 {
     let mut heard = Items::new(wires.alloc);
     for word in words {
-        let one = hear_one(wires, need, *word)?;
-        heard.push(one)?;
+        let width = word.width;
+        let silence = wires.wire(width, Value::Constant(0))?;
+        let right = Value::Conditional {
+            condition: need,
+            if_true: word.register,
+            if_false: silence,
+        };
+        let register = wires.wire(width, right)?;
+        heard.push(Held { register, width })?;
     }
     Ok(heard)
-}
-
-fn hear_one(wires: &mut Wires, need: usize, word: Held) -> Result<Held, AllocError>
-    ensures { IfOk result (HearsWord wires.old.signals wires.new.signals need word) }
-{
-    let silence = wires.wire(word.width, Value::Constant(0))?;
-    let right = Value::Conditional {
-        condition: need,
-        if_true: word.register,
-        if_false: silence,
-    };
-    let register = wires.wire(word.width, right)?;
-    Ok(Held {
-        register,
-        width: word.width,
-    })
 }

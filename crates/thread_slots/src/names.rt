@@ -5,6 +5,7 @@ ghost use Rattle.verilog_tree.specs.Spelling as spelling;
 ghost use Rattle.verilog_meaning.specs.Names.{numbered};
 ghost use Rattle.thread_slots.specs.Naming as spec;
 
+use sqlite_items::Items;
 use std::alloc::{AllocError, Global};
 use verilog_tree::name::Identifier;
 
@@ -14,17 +15,11 @@ fn is_letter(byte: u8) -> bool
     byte.is_ascii_alphabetic() || byte == b'_'
 }
 
-fn is_name_byte(byte: u8) -> bool
-    ensures { result ≡ spelling.is_name_byte byte }
-{
-    is_letter(byte) || byte.is_ascii_digit()
-}
-
 fn are_name_bytes(bytes: &[u8]) -> bool
     ensures { result ≡ spelling.all_pass spelling.is_name_byte bytes.now }
 {
     for byte in bytes {
-        if !is_name_byte(*byte) {
+        if !is_letter(*byte) && !byte.is_ascii_digit() {
             return false;
         }
     }
@@ -68,7 +63,7 @@ fn placed_name(alloc: Global, name: &str, place: usize) -> Result<Identifier, Al
 /// The name of a variable's register at a place, `x_12` for the C local `x`, and `variable_12` where the variable is no local.
 pub fn register_name(
     alloc: Global,
-    names: &[String],
+    names: &Items<String>,
     variable: usize,
     place: usize,
 ) -> Result<Identifier, AllocError>

@@ -4,7 +4,6 @@ ghost use Rattle.std.specs.Prelude.{◌≡◌, ℕ, ◌+◌, ◌^◌, ◌<◌, �
 ghost use Rattle.hls_ints.specs.Types.{width_of as type_width};
 ghost use Rattle.block_datapath.specs.View.{register_at};
 ghost use Rattle.block_ir.specs.declared.plan.BlockPlan.{BlockPlan};
-ghost use Rattle.block_ir.specs.declared.code.Stage.TheVariants as taken;
 ghost use Rattle.block_ir.specs.declared.plan.StagePlan.TheVariants as planned;
 ghost use Rattle.netlist.specs.declared.netlist.Source.TheVariants as source;
 ghost use Rattle.operator_wires.specs.Built.{is_single};
@@ -45,18 +44,11 @@ fn most_states(stages: &[StagePlan]) -> u64
 {
     let mut most = 1;
     for stage in stages {
-        most = states_of(stage).max(most);
+        if let StagePlan::Run(block) = stage {
+            most = block.states.max(most);
+        }
     }
     most
-}
-
-fn states_of(stage: &StagePlan) -> u64
-    ensures { (p : BlockPlan) → stage.now ≡ planned.Run p → p.states ≤ result }
-{
-    match stage {
-        StagePlan::Run(block) => block.states,
-        StagePlan::Act => 1,
-    }
 }
 
 /// The registers of a slot, which reads these inputs of banks, and has no units yet. Main begins at the first stage, and another thread past the last one.
@@ -75,7 +67,8 @@ pub fn lay_registers(
     ensures wired { IfOk result (λ registers. AreFit kept_widths.now → Behind (IsSlotRegister (length wires.old.signals)) wires.old.signals wires.new.signals) }
 {
     let end = code.stages.len() as u64;
-    let most = most_numbers(end)?;
+    // The greatest number of a stage: of so many, the rest, and a meeting of each.
+    let most = end.checked_add(end).ok_or(AllocError)?;
     let width = width_of(most);
     let first = first_stage(is_main, end);
     let stage = lay_register(wires, Role::Stage, width, first)?;
@@ -84,8 +77,7 @@ pub fn lay_registers(
     let state = lay_register(wires, Role::State, state_width, 0)?;
     let beat = wires.register(Role::Beat, 1, 0)?;
     let widths = variable_widths(wires.alloc, code.variables.as_slice())?;
-    let names = code.names.as_slice();
-    let variables = lay_variables(wires, widths.as_slice(), names)?;
+    let variables = lay_variables(wires, widths.as_slice(), &code.names)?;
     let kept = lay_all(wires, Role::Kept, kept_widths)?;
     let units = Items::new(wires.alloc);
     Ok(Registers {
@@ -98,13 +90,6 @@ pub fn lay_registers(
         spreads,
         units,
     })
-}
-
-/// The greatest number of a stage: of so many, the rest, and a meeting of each.
-fn most_numbers(stages: u64) -> Result<u64, AllocError>
-    ensures { IfOk result (λ most. most ≡ stages + stages) }
-{
-    stages.checked_add(stages).ok_or(AllocError)
 }
 
 /// A width for the numbers of so many states.
@@ -149,7 +134,7 @@ pub fn lay_all(wires: &mut Wires, role: Role, widths: &[u64]) -> Result<Items<He
 fn lay_variables(
     wires: &mut Wires,
     widths: &[u64],
-    names: &[String],
+    names: &Items<String>,
 ) -> Result<Items<Held>, AllocError>
     ensures lays { IfOk result (LaysAll (source.Register 0) wires.old.signals wires.new.signals widths.now (length widths.now)) }
     ensures named { IfOk result (λ registers. AreNamed wires.new.signals (length wires.old.signals) (map string_bytes names.now) (length widths.now)) }
@@ -165,7 +150,7 @@ fn lay_variables(
 
 fn lay_variable(
     wires: &mut Wires,
-    names: &[String],
+    names: &Items<String>,
     number: usize,
     width: u64,
 ) -> Result<Held, AllocError>
@@ -224,26 +209,10 @@ fn widen_stage(
 {
     match stage {
         Stage::Run(block) => match planned.stages.get(number) {
-            Some(plan) => widen_block(widths, code, globals, block, plan),
-            None => {}
+            Some(StagePlan::Run(plan)) => widen(widths, code, globals, block, plan),
+            _ => {}
         },
         Stage::Act { .. } => {}
-    }
-}
-
-fn widen_block(
-    widths: &mut Items<u64>,
-    code: &ThreadCode,
-    globals: &[CType],
-    block: &Block,
-    plan: &StagePlan,
-)
-    ensures room { WidensStage globals.now code.now (taken.Run block.now) (Some plan.now) widths.old widths.new }
-    ensures fit { AreFit widths.old → AreFit widths.new }
-{
-    match plan {
-        StagePlan::Run(plan) => widen(widths, code, globals, block, plan),
-        StagePlan::Act => {}
     }
 }
 
@@ -268,25 +237,10 @@ fn widen_value(widths: &mut Items<u64>, plan: &BlockPlan, number: usize, width: 
     ensures room { (x : ℕ) → register_at plan.now.registers number ≡ Some x → HasRoomAt widths.new x width }
     ensures fit { width ≤ 64 → AreFit widths.old → AreFit widths.new }
 {
-    match register_of(plan, number) {
-        Some(register) => widen_one(widths, register as usize, width),
-        None => {}
+    if let Some(register) = register_of(plan, number) {
+        let register = register as usize;
+        if let Some(old) = widths.get(register).copied() {
+            widths.set(register, width.max(old));
+        }
     }
-}
-
-fn widen_one(widths: &mut Items<u64>, register: usize, width: u64)
-    ensures more { Widens widths.old widths.new }
-    ensures room { HasRoomAt widths.new register width }
-    ensures fit { width ≤ 64 → AreFit widths.old → AreFit widths.new }
-{
-    match width_at(widths.as_slice(), register) {
-        Some(old) => widths.set(register, width.max(old)),
-        None => {}
-    }
-}
-
-fn width_at(widths: &[u64], register: usize) -> Option<u64>
-    ensures { result ≡ slice_get widths.now register }
-{
-    widths.get(register).copied()
 }

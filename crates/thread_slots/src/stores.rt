@@ -1,6 +1,6 @@
 // Stores into the memories of a module.
 
-ghost use Rattle.std.specs.Prelude.{◌≡◌, ℕ, length, slice_get, OnOk};
+ghost use Rattle.std.specs.Prelude.{ℕ, length, OnOk};
 ghost use Rattle.block_ir.specs.declared.block.Operation.TheVariants as operation;
 ghost use Rattle.thread_slots.specs.Cells.{PutsWord, PutsOne, PutsFirst};
 ghost use Rattle.thread_slots.specs.Stores.{AddsStores, PutsStore};
@@ -71,11 +71,6 @@ fn store_one(
     ensures wired { OnOk result (AddsStores wires.old.signals wires.new.signals code.now registers.now values.now moment.at moment.states stores.old stores.new) }
 {
     match operation {
-        Operation::Unary { .. } => Ok(()),
-        Operation::Binary { .. } => Ok(()),
-        Operation::ReadGlobal { .. } => Ok(()),
-        Operation::WriteGlobal { .. } => Ok(()),
-        Operation::ReadArray { .. } => Ok(()),
         Operation::WriteArray {
             array,
             index,
@@ -92,6 +87,7 @@ fn store_one(
             value,
             moment,
         ),
+        _ => Ok(()),
     }
 }
 
@@ -114,16 +110,10 @@ fn write_array(
     let types = code.variables.as_slice();
     let index = operand_word(wires, registers, types, values, index, moment.state)?;
     let value = operand_word(wires, registers, types, values, value, moment.state)?;
-    match array_at(code.arrays.as_slice(), array) {
-        Some(own) => put(wires, registers, stores, array, own, index, value, moment),
+    match code.arrays.get(array) {
+        Some(own) => put(wires, registers, stores, array, *own, index, value, moment),
         None => Ok(()),
     }
-}
-
-fn array_at(arrays: &[Array], number: usize) -> Option<Array>
-    ensures { result ≡ slice_get arrays.now number }
-{
-    arrays.get(number).copied()
 }
 
 fn put(

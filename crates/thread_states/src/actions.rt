@@ -1,13 +1,13 @@
 // What an edge does.
 
-ghost use Rattle.std.specs.Prelude.{◌≡◌, ◌∷◌, [], ◌++◌, map, IfOk, OnOk, slice_get};
+ghost use Rattle.std.specs.Prelude.{◌≡◌, ◌∷◌, [], ◌++◌, map, IfOk, OnOk};
 ghost use Rattle.thread_states.specs.Actions.{set_action, sets_of, sets_from, actions_of};
 ghost use Rattle.thread_slots.specs.Cells.{store_action};
 
 use crate::control::Edge;
 use block_datapath::registers::{Held, Registers};
 use netlist::netlist::{Action, Effect};
-use sqlite_items::Items;
+use sqlite_items::{Items, at};
 use std::alloc::{AllocError, Global};
 use thread_slots::chains::Chains;
 use thread_slots::stores::Store;
@@ -53,15 +53,10 @@ fn set_all(
     ensures { OnOk result (actions.new ≡ actions.old ++ sets_from condition nexts.now 0 registers.now) }
 {
     for (number, held) in registers.iter().enumerate() {
-        set_by(alloc, actions, condition, *held, next_at(nexts, number))?;
+        let next = at(nexts, number).copied();
+        set_by(alloc, actions, condition, *held, next)?;
     }
     Ok(())
-}
-
-fn next_at(nexts: &[usize], number: usize) -> Option<usize>
-    ensures { result ≡ slice_get nexts.now number }
-{
-    nexts.get(number).copied()
 }
 
 fn set_by(
@@ -104,24 +99,13 @@ fn store_all(
     ensures { OnOk result (actions.new ≡ actions.old ++ map (store_action condition) stores.now) }
 {
     for store in stores {
-        store_if(alloc, actions, condition, *store)?;
+        let conditions = Items::from_slice(alloc, &[condition, store.condition])?;
+        let effect = Effect::Store {
+            memory: store.memory,
+            address: store.address,
+            source: store.source,
+        };
+        actions.push(Action { conditions, effect })?;
     }
     Ok(())
-}
-
-fn store_if(
-    alloc: Global,
-    actions: &mut Items<Action>,
-    condition: usize,
-    store: Store,
-) -> Result<(), AllocError>
-    ensures { OnOk result (actions.new ≡ actions.old ++ store_action condition store ∷ []) }
-{
-    let conditions = Items::from_slice(alloc, &[condition, store.condition])?;
-    let effect = Effect::Store {
-        memory: store.memory,
-        address: store.address,
-        source: store.source,
-    };
-    actions.push(Action { conditions, effect })
 }

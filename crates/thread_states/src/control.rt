@@ -1,6 +1,6 @@
 // When a state is left, and what follows it then.
 
-ghost use Rattle.std.specs.Prelude.{◌≡◌, slice_get, length, IfOk};
+ghost use Rattle.std.specs.Prelude.{length, IfOk};
 ghost use Rattle.operator_wires.specs.Built.{Base, IsEarlier, Adds};
 ghost use Rattle.thread_states.specs.Wired.{IsSteered, WiresControl};
 ghost use Rattle.thread_states.specs.Control.{Follows, Controls, Remembers, RemembersOne, AddsRemembered, AddsMark};
@@ -8,7 +8,7 @@ ghost use Rattle.thread_states.specs.Control.{Follows, Controls, Remembers, Reme
 use bank_partition::banks::Spread;
 use block_datapath::registers::Registers;
 use operator_wires::wires::Wires;
-use sqlite_items::Items;
+use sqlite_items::{Items, at};
 use std::alloc::AllocError;
 use thread_slots::bits::{any_of, any_within, both_each, both_with, not_each};
 use thread_slots::chains::Chains;
@@ -48,9 +48,11 @@ pub fn control(
 {
     let asks = both_with(wires, opens, inputs.enable)?;
     let got = both_each(wires, asks.as_slice(), inputs.grants.as_slice())?;
-    let missing = not_each(wires, got.as_slice())?;
-    let unmet = both_each(wires, opens, missing.as_slice())?;
-    let blocked = any_of(wires, chains.waits, unmet.as_slice())?;
+    let blocked = {
+        let missing = not_each(wires, got.as_slice())?;
+        let unmet = both_each(wires, opens, missing.as_slice())?;
+        any_of(wires, chains.waits, unmet.as_slice())?
+    };
     let free = wires.not(1, blocked)?;
     let leave = wires.both(inputs.enable, free)?;
     let state = next_state(wires, registers, chains.is_last)?;
@@ -87,7 +89,8 @@ fn remember(
 {
     let mut nexts = Items::new(wires.alloc);
     for (number, mark) in granted.iter().enumerate() {
-        let next = remember_one(wires, *mark, got, spread_at(spreads, number), stay)?;
+        let spread = at(spreads, number).copied();
+        let next = remember_one(wires, *mark, got, spread, stay)?;
         nexts.push(next)?;
     }
     Ok(nexts)
@@ -110,12 +113,6 @@ fn remember_one(
         }
         None => wires.both(mark, stay),
     }
-}
-
-fn spread_at(spreads: &[Spread], number: usize) -> Option<Spread>
-    ensures { result ≡ slice_get spreads.now number }
-{
-    spreads.get(number).copied()
 }
 
 /// The state after this one: the first one of the next stage, or the next one of this stage.

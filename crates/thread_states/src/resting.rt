@@ -1,7 +1,7 @@
 // The wires of the rest, past all stages.
 
-ghost use Rattle.std.specs.Prelude.{Some, OnOk};
-ghost use Rattle.thread_states.specs.Acts.{TakesArgument, LeavesRest, EndsAt};
+ghost use Rattle.std.specs.Prelude.{OnOk};
+ghost use Rattle.thread_states.specs.Acts.{TakesArgument, EndsAt};
 
 use crate::acts::{idle, lead_unless};
 use block_datapath::registers::{Registers, set_next};
@@ -25,23 +25,10 @@ pub fn take_end(
 ) -> Result<(), AllocError>
     ensures { OnOk result (EndsAt code.now registers.now is_main told wires.old.signals wires.new.signals chains.old chains.new) }
 {
-    if is_main {
-        idle(wires, registers, chains, code.stages.len() as u64)
-    } else {
-        begin(wires, registers, chains, code, told)
-    }
-}
-
-fn begin(
-    wires: &mut Wires,
-    registers: &Registers,
-    chains: &mut Chains,
-    code: &ThreadCode,
-    told: Told,
-) -> Result<(), AllocError>
-    ensures { OnOk result (LeavesRest code.now registers.now told wires.old.signals wires.new.signals chains.old chains.new) }
-{
     let rest = code.stages.len() as u64;
+    if is_main {
+        return idle(wires, registers, chains, rest);
+    }
     let idle = wires.not(1, told.runs)?;
     lead_unless(wires, registers, chains, rest, 0, idle)?;
     let variables = &mut chains.variables;
@@ -66,22 +53,9 @@ fn take_argument(
 ) -> Result<(), AllocError>
     ensures { OnOk result (TakesArgument registers.now variable number argument wires.old.signals wires.new.signals variables.old variables.new) }
 {
-    match variable {
-        Some(variable) => set_argument(wires, registers, variables, variable, number, argument),
-        None => Ok(()),
-    }
-}
-
-fn set_argument(
-    wires: &mut Wires,
-    registers: &Registers,
-    variables: &mut Items<usize>,
-    variable: u32,
-    number: u64,
-    argument: usize,
-) -> Result<(), AllocError>
-    ensures { OnOk result (TakesArgument registers.now (Some variable) number argument wires.old.signals wires.new.signals variables.old variables.new) }
-{
+    let Some(variable) = variable else {
+        return Ok(());
+    };
     let at = at_stage(wires, registers, number)?;
     set_next(wires, variables, variable as usize, 64, at, argument)
 }

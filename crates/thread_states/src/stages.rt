@@ -1,9 +1,7 @@
 // The wires of all stages, one after the other.
 
 ghost use Rattle.std.specs.Prelude.{length, slice_get, Some, OnOk};
-ghost use Rattle.block_ir.specs.declared.code.Stage.TheVariants as taken;
 ghost use Rattle.block_ir.specs.declared.plan.StagePlan.TheVariants as stage_plan;
-ghost use Rattle.thread_slots.specs.declared.told.Told.{Told as ToldWires};
 ghost use Rattle.thread_states.specs.Cells.{StoresBlock, StoresStage, StoresFirst};
 ghost use Rattle.thread_states.specs.Stores.{StageKeepsStores, StagesKeepStores};
 ghost use Rattle.thread_states.specs.Stages.{RunsBlock, TakesStage, WalksFirst};
@@ -68,40 +66,14 @@ fn take_stage(
 {
     match stage {
         Stage::Run(block) => match planned.stages.get(number) {
-            Some(plan) => take_block(
+            Some(StagePlan::Run(plan)) => run(
                 wires, registers, chains, stores, code, globals, number, block, plan,
             ),
-            None => idle(wires, registers, chains, number as u64),
+            _ => idle(wires, registers, chains, number as u64),
         },
         Stage::Act { act, next } => take_act(
             wires, registers, chains, code, number, act, *next, told,
         ),
-    }
-}
-
-/// A block by its plan, where the stage's plan is one of a block.
-fn take_block(
-    wires: &mut Wires,
-    registers: &Registers,
-    chains: &mut Chains,
-    stores: &mut Items<Store>,
-    code: &ThreadCode,
-    globals: &[CType],
-    number: usize,
-    block: &Block,
-    plan: &StagePlan,
-) -> Result<(), AllocError>
-    ensures takes { OnOk result ((told : ToldWires) → TakesStage globals.now code.now registers.now told number (taken.Run block.now)
-        (Some plan.now) wires.old.signals wires.new.signals chains.old chains.new) }
-    ensures puts { OnOk result (StoresStage globals.now code.now registers.now number (taken.Run block.now)
-        (Some plan.now) wires.old.signals wires.new.signals stores.old stores.new) }
-    ensures stores { OnOk result (StageKeepsStores code.now registers.now number (Some plan.now) wires.old.signals wires.new.signals chains.old stores.old stores.new) }
-{
-    match plan {
-        StagePlan::Run(plan) => run(
-            wires, registers, chains, stores, code, globals, number, block, plan,
-        ),
-        StagePlan::Act => idle(wires, registers, chains, number as u64),
     }
 }
 

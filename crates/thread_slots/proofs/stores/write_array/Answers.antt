@@ -1,4 +1,5 @@
-use Rattle.std.proofs.Common.{List, sym, ap, subst, ◌∙◌}
+use Rattle.std.proofs.Common.{◌≡◌, ◌∙◌, List, Some, None, sym, ap, subst}
+use Rattle.std.specs.Option.{option_copied}
 use Rattle.hls_ints.specs.Types.{IntegerType}
 use Rattle.operator_wires.proofs.Giving.{grows_then}
 use Rattle.block_datapath.specs.Seen.{ShowsOperand}
@@ -11,11 +12,12 @@ use Rattle.thread_slots.proofs.stores.write_array.Goals as goal
 
 pub returns-in-Some-clause-wired : goal.returns-in-Some-clause-wired
 returns-in-Some-clause-wired c =
+    let listed : slice_get c.args.code.now.arrays c.args.array ≡ Some c.in-Some.own.now = sym c.get.ensures.value ∙ ap option_copied c.in-Some.is in
     written_wired c.put.result c.args.wires.now.signals c.operand_word.new.wires.signals c.operand_word-2.new.wires.signals c.put.new.wires.signals c.args.code.now
     c.args.registers.now
-    c.args.values.now c.as_slice-types.result.now c.args.array c.in-Some.own _ _ c.in_ok-index.index c.in_ok-value.value c.args.moment c.args.stores.now c.put.new.stores
+    c.args.values.now c.as_slice-types.result.now c.args.array c.in-Some.own.now _ _ c.in_ok-index.index c.in_ok-value.value c.args.moment c.args.stores.now c.put.new.stores
     c.as_slice-types.ensures
-    (ap (λ l. slice_get l c.args.array) (sym c.as_slice.ensures) ∙ sym c.array_at.ensures ∙ c.in-Some.is) c.in_ok-index.ensures.wired c.in_ok-value.ensures.wired
+    listed c.in_ok-index.ensures.wired c.in_ok-value.ensures.wired
     c.put.ensures.wired
 
 pub returns-in-None-clause-wired : goal.returns-in-None-clause-wired
@@ -26,12 +28,13 @@ returns-in-None-clause-wired c = λ base slots values bit few.
 
 pub returns-in-Some-clause-puts : goal.returns-in-Some-clause-puts
 returns-in-Some-clause-puts c =
+    let listed : slice_get c.args.code.now.arrays c.args.array ≡ Some c.in-Some.own.now = sym c.get.ensures.value ∙ ap option_copied c.in-Some.is in
     on_ok_weaker c.put.result
     (λ t n.
     puts_write c.args.wires.now.signals c.operand_word.new.wires.signals c.operand_word-2.new.wires.signals c.put.new.wires.signals c.args.registers.now c.args.moment
     c.args.stores.now
-    c.put.new.stores c.args.code.now c.args.values.now c.args.array c.in-Some.own c.args.index.now c.args.value.now c.in_ok-index.index c.in_ok-value.value
-    (ap (λ l. slice_get l c.args.array) (sym c.as_slice.ensures) ∙ sym c.array_at.ensures ∙ c.in-Some.is)
+    c.put.new.stores c.args.code.now c.args.values.now c.args.array c.in-Some.own.now c.args.index.now c.args.value.now c.in_ok-index.index c.in_ok-value.value
+    listed
     (subst (λ (ts : List IntegerType). ShowsOperand c.args.wires.now.signals c.operand_word.new.wires.signals c.args.registers.now ts c.args.values.now c.args.moment.state
     c.args.index.now
     c.in_ok-index.index) c.as_slice-types.ensures c.in_ok-index.ensures.shows)
@@ -42,8 +45,9 @@ returns-in-Some-clause-puts c =
 
 pub returns-in-None-clause-puts : goal.returns-in-None-clause-puts
 returns-in-None-clause-puts c = λ n.
+    let none : slice_get c.args.code.now.arrays c.args.array ≡ None = sym c.get.ensures.value ∙ ap option_copied c.in-None.is in
     puts_missing c.args.wires.now.signals c.operand_word-2.new.wires.signals c.args.registers.now c.args.moment c.args.stores.now c.args.code.now c.args.values.now c.args.array n
     c.args.index.now
     c.args.value.now
     (grows_then c.args.wires.now.signals c.operand_word.new.wires.signals c.operand_word-2.new.wires.signals c.in_ok-index.ensures.shows.grows c.in_ok-value.ensures.shows.grows)
-    (ap (λ l. slice_get l c.args.array) (sym c.as_slice.ensures) ∙ sym c.array_at.ensures ∙ c.in-None.is)
+    none

@@ -1,3 +1,4 @@
+use Rattle.std.proofs.Common.{◌∙◌}
 use Rattle.std.proofs.lemmas.Option.{slice_get-get_or}
 use Rattle.operator_wires.proofs.Building.{stands_after}
 use Rattle.thread_states.specs.Control.{Remembered}
@@ -10,9 +11,9 @@ loop-number-preserved c =
     let here = slice_get-get_or c.args.granted.now c.loop-number.number _ c.loop-number-test.true in
     record {
       shows =
-          marks_more c.args.wires.now.signals c.loop-number.wires.signals c.remember_one.new.wires.signals c.args.granted.now c.args.got.now c.args.spreads.now c.spread_at.result
+          marks_more c.args.wires.now.signals c.loop-number.wires.signals c.remember_one.new.wires.signals c.args.granted.now c.args.got.now c.args.spreads.now c.copied-spread.result
           c.args.stay
-          c.loop-number.number _ c.in_ok-next.next c.loop-number.nexts c.push.new.self c.loop-number.invariant.shows here c.spread_at.ensures c.in_ok-next.ensures.shows
+          c.loop-number.number _ c.in_ok-next.next c.loop-number.nexts c.push.new.self c.loop-number.invariant.shows here (c.copied-spread.ensures ∙ c.at.ensures) c.in_ok-next.ensures.shows
           c.in_ok-push.ensures.ok;
       wired = λ base granted wins stay.
           let before = c.loop-number.invariant.wired base granted wins stay in
