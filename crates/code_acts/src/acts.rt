@@ -291,16 +291,12 @@ pub fn lower_print(
         + (2 * expressions_weight (expressions_of arguments.now) + 2 * length arguments.now + 1))) }
 {
     let first = code.first_word()?;
-    let types = conversions_of(alloc, format)?;
-    let words = types.as_slice();
-    lower_values(
-        alloc,
-        code.homes.as_slice(),
-        &mut code.block,
-        first,
-        words,
-        arguments,
-    )?;
+    {
+        let types = conversions_of(alloc, format)?;
+        let words = types.as_slice();
+        let homes = code.homes.as_slice();
+        lower_values(alloc, homes, &mut code.block, first, words, arguments)?;
+    }
     code.block.step()?;
     let values = word_operands(alloc, first, arguments.len())?;
     let site = code.site();

@@ -18,9 +18,9 @@ returns-clause-lowers c = λ offset P around on.
     c.in_ok-values.ensures.operands ∙ ap (word_operands first) (sym (length-map c.args.arguments.now expression_of)) in
     print_leads P (pieces_of c.args.format.now) es old c.skip_sites.new.self c.act.new.self c.lower_values.new.block c.in_ok-types.types c.in_ok-values.values c.site-site.result first
     c.in_ok-first.ensures.word c.in_ok-types.ensures
-    (subst (λ hs. PutsValues hs first c.in_ok-types.types es old.block c.lower_values.new.block) c.as_slice.ensures
-    (subst (λ ts. PutsValues c.as_slice.result.now first ts es old.block c.lower_values.new.block) c.as_slice-words.ensures c.in_ok-lower_values.ensures.puts))
-    (subst (λ hs. WorksOnValues hs first es old.block c.lower_values.new.block) c.as_slice.ensures c.in_ok-lower_values.ensures.typed)
+    (subst (λ hs. PutsValues hs first c.in_ok-types.types es old.block c.lower_values.new.block) c.as_slice-homes.ensures
+    (subst (λ ts. PutsValues c.as_slice-homes.result.now first ts es old.block c.lower_values.new.block) c.as_slice-words.ensures c.in_ok-lower_values.ensures.puts))
+    (subst (λ hs. WorksOnValues hs first es old.block c.lower_values.new.block) c.as_slice-homes.ensures c.in_ok-lower_values.ensures.typed)
     (c.in_ok-skip_sites.ensures.after ∙ ap (λ (z : OpenBlock). record old { block = z; site = old.site + 1 }) c.in_ok-step.ensures.after)
     operands c.site-site.ensures c.in_ok-act.ensures offset around on
 
