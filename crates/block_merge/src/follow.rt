@@ -89,11 +89,7 @@ fn count_stage(counts: &mut Items<usize>, stage: &Stage)
 fn zeros(alloc: Global, length: usize) -> Result<Items<usize>, AllocError>
     ensures { IfOk result (counting.AreZero length) }
 {
-    let mut zeros = Items::new(alloc);
-    for done in 0..length {
-        zeros.push(0)?;
-    }
-    Ok(zeros)
+    Ok(Items::from_vec(vec![in alloc; 0; length]?))
 }
 
 /// In how many ways each stage is led to, up to two.

@@ -2,6 +2,7 @@
 
 ghost use Rattle.std.specs.Prelude.{◌≡◌, ◌≢◌, ℕ, ◌*◌, ◌<◌, ◌≤◌, length, Some, None, slice_get, slice_set, IfOk, OnOk, IfSome};
 ghost use Rattle.c_program.specs.Tree.{Program as GhostProgram};
+ghost use Rattle.block_ir.specs.declared.code.Stage.TheVariants as stage;
 ghost use Rattle.c_program.specs.Weight.{weight};
 ghost use Rattle.code_following.specs.Following.{IsLowered};
 ghost use Rattle.code_following.specs.Typed.{IsTypedCode};
@@ -60,15 +61,19 @@ impl Merger {
         }
     }
 
-    fn take(&mut self, alloc: Global, at: usize) -> Stage
-        requires { at < length self.old.stages.items }
-        ensures stage { slice_get self.old.stages.items at ≡ Some result }
+    /// The block at a stage, in whose place one without operations is left.
+    fn take(&mut self, alloc: Global, at: usize) -> Block
+        requires { steps.IsBlock self.old at }
+        ensures block { slice_get self.old.stages.items at ≡ Some (stage.Run result) }
         ensures stages { self.new.stages.items ≡ slice_set self.old.stages.items at steps.dead }
         ensures counts { self.new.counts ≡ self.old.counts }
         ensures held { self.new.held ≡ self.old.held }
         ensures most { self.new.most ≡ self.old.most }
     {
-        mem::replace(&mut self.stages[at], dead(alloc))
+        match mem::replace(&mut self.stages[at], dead(alloc)) {
+            Stage::Run(block) => block,
+            Stage::Act { .. } => unreachable!(),
+        }
     }
 
     /// Variables hold what the block leaves in them.
@@ -89,15 +94,10 @@ impl Merger {
     {
         let next = self.take(alloc, second);
         let block = self.take(alloc, first);
-        match (block, next) {
-            (Stage::Run(block), Stage::Run(next)) => {
-                let both = joined(alloc, &mut self.held, block, &next)?;
-                self.stages[first] = Stage::Run(both);
-                self.counts.set(second, 0);
-                Ok(())
-            }
-            _ => unreachable!(),
-        }
+        let both = joined(alloc, &mut self.held, block, &next)?;
+        self.stages[first] = Stage::Run(both);
+        self.counts.set(second, 0);
+        Ok(())
     }
 
     /// The block sets each variable once, and nothing is held any more.
@@ -106,24 +106,19 @@ impl Merger {
         ensures { OnOk result (steps.HoldsAt self.old first → steps.Tidies self.old self.new first) }
     {
         let left = self.held.close(alloc, Next::Jump(0))?;
-        match self.take(alloc, first) {
-            Stage::Run(block) => {
-                let Block {
-                    operations,
-                    finals: _,
-                    next,
-                    steps,
-                } = block;
-                self.stages[first] = Stage::Run(Block {
-                    operations,
-                    finals: left.finals,
-                    next,
-                    steps,
-                });
-                Ok(())
-            }
-            Stage::Act { .. } => unreachable!(),
-        }
+        let Block {
+            operations,
+            finals: _,
+            next,
+            steps,
+        } = self.take(alloc, first);
+        self.stages[first] = Stage::Run(Block {
+            operations,
+            finals: left.finals,
+            next,
+            steps,
+        });
+        Ok(())
     }
 
     /// The blocks that follow one another alone from this one on become one.
@@ -155,10 +150,7 @@ impl Merger {
 
     /// For each stage whether it may stand behind another one.
     fn followers(&self, alloc: Global) -> Result<Items<bool>, AllocError> {
-        let mut followers = Items::new(alloc);
-        for _ in 0..self.stages.len() {
-            followers.push(false)?;
-        }
+        let mut followers = Items::from_vec(vec![in alloc; false; self.stages.len()]?);
         for first in 0..self.stages.len() {
             if let Some(second) = self.follower(first) {
                 if second < followers.len() {

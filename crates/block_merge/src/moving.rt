@@ -1,6 +1,6 @@
 // Operations behind a block: their values come later, and variables are what the block left in them.
 
-ghost use Rattle.std.specs.Prelude.{◌≡◌, ◌++◌, map, IfOk, OnOk};
+ghost use Rattle.std.specs.Prelude.{◌≡◌, ◌++◌, [], ◌∷◌, map, IfOk, OnOk};
 ghost use Rattle.block_merge.specs.Joined as spec;
 
 use block_ir::block::{Final, Next, Operation};
@@ -45,75 +45,77 @@ pub fn moved(alloc: Global, before: &Before, operand: &Operand) -> Result<Operan
     })
 }
 
-fn moved_operation(
+/// This operation behind those of the block.
+fn push_one(
     alloc: Global,
     before: &Before,
+    operations: &mut Items<Operation>,
     operation: &Operation,
-) -> Result<Operation, AllocError>
-    ensures { IfOk result (λ o. o ≡ spec.moved_operation before.now.count before.now.left.now.current operation.now) }
+) -> Result<(), AllocError>
+    ensures { OnOk result (operations.new ≡ operations.old ++ spec.moved_operation before.now.count before.now.left.now.current operation.now ∷ []) }
 {
-    Ok(match operation {
+    match operation {
         Operation::Unary {
             operator,
             ty,
             operand,
-        } => Operation::Unary {
+        } => operations.push(Operation::Unary {
             operator: *operator,
             ty: *ty,
             operand: moved(alloc, before, operand)?,
-        },
+        }),
         Operation::Binary {
             operator,
             ty,
             left,
             right,
-        } => Operation::Binary {
+        } => operations.push(Operation::Binary {
             operator: *operator,
             ty: *ty,
             left: moved(alloc, before, left)?,
             right: moved(alloc, before, right)?,
-        },
+        }),
         Operation::ReadGlobal {
             global,
             length,
             index,
-        } => Operation::ReadGlobal {
+        } => operations.push(Operation::ReadGlobal {
             global: *global,
             length: *length,
             index: moved(alloc, before, index)?,
-        },
+        }),
         Operation::WriteGlobal {
             global,
             length,
             index,
             value,
-        } => Operation::WriteGlobal {
+        } => operations.push(Operation::WriteGlobal {
             global: *global,
             length: *length,
             index: moved(alloc, before, index)?,
             value: moved(alloc, before, value)?,
-        },
+        }),
         Operation::ReadArray {
             array,
             length,
             index,
-        } => Operation::ReadArray {
+        } => operations.push(Operation::ReadArray {
             array: *array,
             length: *length,
             index: moved(alloc, before, index)?,
-        },
+        }),
         Operation::WriteArray {
             array,
             length,
             index,
             value,
-        } => Operation::WriteArray {
+        } => operations.push(Operation::WriteArray {
             array: *array,
             length: *length,
             index: moved(alloc, before, index)?,
             value: moved(alloc, before, value)?,
-        },
-    })
+        }),
+    }
 }
 
 /// These operations behind those of the block.
@@ -126,7 +128,7 @@ pub fn push_moved(
     ensures { OnOk result (operations.new ≡ operations.old ++ map (spec.moved_operation before.now.count before.now.left.now.current) more.now) }
 {
     for operation in more {
-        operations.push(moved_operation(alloc, before, operation)?)?;
+        push_one(alloc, before, operations, operation)?;
     }
     Ok(())
 }
