@@ -4,6 +4,7 @@
 ghost use Rattle.std.specs.Prelude.{◌≡◌, ◌-◌, ◌<◌, ◌≤◌, IfOk, List, [], reverse};
 ghost use Rattle.grammar.specs.Readers.{and_then, appended, reads_pure};
 ghost use Rattle.grammar.specs.Steps.{Steps};
+ghost use Rattle.c_token.specs.declared.token.Token.{Token};
 ghost use Rattle.c_tree.specs.Trees as tree;
 ghost use Rattle.c_reading.specs.Tokens as tokens_of;
 ghost use Rattle.c_reading.specs.Expressions as spec;
@@ -29,11 +30,11 @@ pub enum Part {
     Whole,
 }
 
-/// The expression of the form, whose text begins at the place.
-fn boxed(alloc: Global, offset: usize, form: Form) -> Result<Boxed<Expression>, AllocError>
-    ensures { IfOk result (λ e. e ≡ tree.expression offset form) }
+/// The value in a box of its own.
+fn boxed<T: Drop>(alloc: Global, value: T) -> Result<Boxed<T>, Fault>
+    ensures { (ts : List Token) → Steps (reads_pure value ts) result ts }
 {
-    Boxed::new(alloc, Expression { offset, form })
+    Ok(Boxed::new(alloc, value)?)
 }
 
 /// The operand with the terms that follow it.
@@ -47,7 +48,9 @@ fn joined(
     if terms.is_empty() {
         return Ok(first);
     }
-    boxed(alloc, first.get().offset, Form::Binary(first, terms))
+    let offset = first.get().offset;
+    let form = Form::Binary(first, terms);
+    Boxed::new(alloc, Expression { offset, form })
 }
 
 fn words(alloc: Global, cursor: &mut Cursor<'_>, first: TypeWord) -> Result<Items<TypeWord>, Fault>
@@ -182,20 +185,20 @@ impl<F: Fn(Global, &mut Cursor<'_>, usize, Part) -> Result<Boxed<Expression>, Fa
     {
         if cursor.sees_text() {
             let (bytes, offset) = cursor.text(self.alloc)?;
-            Ok(Boxed::new(self.alloc, Argument::Text(bytes, offset))?)
+            boxed(self.alloc, Argument::Text(bytes, offset))
         } else if cursor.sees(Sign::Mark(Punctuator::And)) {
             let offset = cursor.mark(Punctuator::And)?;
             let place = self.target(cursor, room - 1)?;
-            Ok(Boxed::new(self.alloc, Argument::Address(place, offset))?)
+            boxed(self.alloc, Argument::Address(place, offset))
         } else if cursor.sees(Sign::Word(Keyword::Null)) {
             let pointer = null(cursor)?;
-            Ok(Boxed::new(self.alloc, Argument::Pointer(pointer))?)
+            boxed(self.alloc, Argument::Pointer(pointer))
         } else if cursor.begins_conversion_to_pointer() {
             let pointer = self.converted_pointer(cursor, room - 1)?;
-            Ok(Boxed::new(self.alloc, Argument::Pointer(pointer))?)
+            boxed(self.alloc, Argument::Pointer(pointer))
         } else {
             let value = self.inside(cursor, room, Part::Whole)?;
-            Ok(Boxed::new(self.alloc, Argument::Value(value))?)
+            boxed(self.alloc, Argument::Value(value))
         }
     }
 
@@ -256,11 +259,13 @@ impl<F: Fn(Global, &mut Cursor<'_>, usize, Part) -> Result<Boxed<Expression>, Fa
         if cursor.sees(Sign::Mark(Punctuator::OpenRound)) {
             let arguments = self.arguments(cursor, room)?;
             let call = Call { name, arguments };
-            return Ok(boxed(self.alloc, offset, Form::Call(call))?);
+            let form = Form::Call(call);
+            return boxed(self.alloc, Expression { offset, form });
         }
         let index = self.optional_index(cursor, room)?;
         let place = Place { name, index };
-        Ok(boxed(self.alloc, offset, Form::Place(place))?)
+        let form = Form::Place(place);
+        boxed(self.alloc, Expression { offset, form })
     }
 
     /// A name and what belongs to it, a constant, or an expression in parentheses, whose place is that of the first of
@@ -274,7 +279,7 @@ impl<F: Fn(Global, &mut Cursor<'_>, usize, Part) -> Result<Boxed<Expression>, Fa
             return self.named(cursor, room);
         }
         if cursor.sees_constant() {
-            return Ok(Boxed::new(self.alloc, cursor.constant()?)?);
+            return boxed(self.alloc, cursor.constant()?);
         }
         if room == 0 {
             return Err(too_deep(cursor.sees(Sign::Mark(Punctuator::OpenRound)), false));
@@ -282,7 +287,8 @@ impl<F: Fn(Global, &mut Cursor<'_>, usize, Part) -> Result<Boxed<Expression>, Fa
         let offset = cursor.mark(Punctuator::OpenRound)?;
         let inner = self.inside(cursor, room, Part::Whole)?;
         cursor.mark(Punctuator::CloseRound)?;
-        Ok(boxed(self.alloc, offset, inner.into_inner().form)?)
+        let form = inner.into_inner().form;
+        boxed(self.alloc, Expression { offset, form })
     }
 
     /// A conversion to the type in parentheses.
@@ -298,7 +304,8 @@ impl<F: Fn(Global, &mut Cursor<'_>, usize, Part) -> Result<Boxed<Expression>, Fa
         let specifiers = specifiers(self.alloc, cursor)?;
         cursor.mark(Punctuator::CloseRound)?;
         let operand = self.inside(cursor, room, Part::Operand)?;
-        Ok(boxed(self.alloc, offset, Form::Cast(specifiers, operand))?)
+        let form = Form::Cast(specifiers, operand);
+        boxed(self.alloc, Expression { offset, form })
     }
 
     /// An operand of a binary operator.
@@ -312,7 +319,8 @@ impl<F: Fn(Global, &mut Cursor<'_>, usize, Part) -> Result<Boxed<Expression>, Fa
         } else if cursor.sees_unary_operator() {
             let (operator, offset) = cursor.unary_operator()?;
             let operand = self.inside(cursor, room, Part::Operand)?;
-            Ok(boxed(self.alloc, offset, Form::Unary(operator, operand))?)
+            let form = Form::Unary(operator, operand);
+            boxed(self.alloc, Expression { offset, form })
         } else {
             self.primary(cursor, room)
         }
@@ -461,7 +469,8 @@ impl<F: Fn(Global, &mut Cursor<'_>, usize, Part) -> Result<Boxed<Expression>, Fa
         let (question, value) = self.question(cursor, room)?;
         let (conditions, value) = self.questions(cursor, room, value)?;
         let choices = self.choices(cursor, room, (first, question), conditions)?;
-        Ok(boxed(self.alloc, offset, Form::Conditional(value, choices))?)
+        let form = Form::Conditional(value, choices);
+        boxed(self.alloc, Expression { offset, form })
     }
 
     #[tactic(auto, unfolding(c_reading::specs::Expressions::read_whole))]
