@@ -1,9 +1,10 @@
 // Statements with no statement in them, declarations in a block, and the heads of control statements. The room of each
 // is how many levels of nesting are left, its own among them.
 
-ghost use Rattle.std.specs.Prelude.{◌≡◌};
+ghost use Rattle.std.specs.Prelude.{◌≡◌, List};
 ghost use Rattle.grammar.specs.Readers.{and_then, reads_pure};
 ghost use Rattle.grammar.specs.Steps.{Steps};
+ghost use Rattle.c_token.specs.declared.token.Token.{Token};
 ghost use Rattle.c_reading.specs.Tokens as tokens_of;
 ghost use Rattle.c_reading.specs.Expressions as expressions_of;
 ghost use Rattle.c_reading.specs.Statements as spec;
@@ -25,6 +26,13 @@ pub fn inside(room: usize) -> usize
     ensures { result ≡ spec.below room }
 {
     room.saturating_sub(1)
+}
+
+/// The value in a box of its own.
+pub(crate) fn boxed<T: Drop>(alloc: Global, value: T) -> Result<Boxed<T>, Fault>
+    ensures { (ts : List Token) → Steps (reads_pure value ts) result ts }
+{
+    Ok(Boxed::new(alloc, value)?)
 }
 
 // ---- what is read of expressions
@@ -73,7 +81,7 @@ fn called(
     };
     let arguments = rules.arguments(cursor, inside(room))?;
     let form = SimpleForm::Call(Call { name, arguments });
-    Ok(Boxed::new(alloc, SimpleStatement { form, offset })?)
+    boxed(alloc, SimpleStatement { form, offset })
 }
 
 /// What changes the place whose name was read: `++` or `--` behind it, or an assignment.
@@ -91,12 +99,12 @@ fn changed(
     let place = Place { name, index };
     if cursor.sees_direction() {
         let form = SimpleForm::Step(place, cursor.way()?);
-        return Ok(Boxed::new(alloc, SimpleStatement { form, offset })?);
+        return boxed(alloc, SimpleStatement { form, offset });
     }
     let operator = cursor.assignment_operator()?;
     let value = value(alloc, cursor, room)?;
     let form = SimpleForm::Assign(place, operator, value);
-    Ok(Boxed::new(alloc, SimpleStatement { form, offset })?)
+    boxed(alloc, SimpleStatement { form, offset })
 }
 
 /// Reads an assignment, a step or a call.
@@ -116,7 +124,7 @@ pub fn simple(
         };
         let place = rules.place(cursor, inside(room))?;
         let form = SimpleForm::Step(place, direction);
-        return Ok(Boxed::new(alloc, SimpleStatement { form, offset })?);
+        return boxed(alloc, SimpleStatement { form, offset });
     }
     let name = cursor.name(alloc)?;
     if cursor.sees(Sign::Mark(Punctuator::OpenRound)) {
@@ -160,7 +168,7 @@ fn declarator(
         length,
         initializer,
     };
-    Ok(Boxed::new(alloc, declarator)?)
+    boxed(alloc, declarator)
 }
 
 /// One or more declarators, with commas between them.
@@ -223,19 +231,19 @@ fn returned(alloc: Global, cursor: &mut Cursor<'_>, room: usize) -> Result<Boxed
 {
     if cursor.sees(Sign::Word(Keyword::Null)) {
         let pointer = null(cursor)?;
-        Ok(Boxed::new(alloc, Returned::Pointer(pointer))?)
+        boxed(alloc, Returned::Pointer(pointer))
     } else if cursor.begins_conversion_to_pointer() {
         let rules = Rules {
             alloc,
             read: expression,
         };
         let pointer = rules.converted_pointer(cursor, inside(room))?;
-        Ok(Boxed::new(alloc, Returned::Pointer(pointer))?)
+        boxed(alloc, Returned::Pointer(pointer))
     } else if cursor.begins_cast() {
         let value = value(alloc, cursor, room)?;
-        Ok(Boxed::new(alloc, Returned::Value(value))?)
+        boxed(alloc, Returned::Value(value))
     } else {
-        Ok(Boxed::new(alloc, Returned::Nothing)?)
+        boxed(alloc, Returned::Nothing)
     }
 }
 
@@ -297,14 +305,14 @@ fn for_start(alloc: Global, cursor: &mut Cursor<'_>, room: usize) -> Result<Boxe
 {
     if cursor.sees_type_word() {
         let declaration = declaration(alloc, cursor, room)?;
-        Ok(Boxed::new(alloc, ForStart::Declaration(declaration))?)
+        boxed(alloc, ForStart::Declaration(declaration))
     } else if cursor.begins_simple() {
         let simple = simple(alloc, cursor, room)?;
         cursor.mark(Punctuator::Semicolon)?;
-        Ok(Boxed::new(alloc, ForStart::Simple(simple))?)
+        boxed(alloc, ForStart::Simple(simple))
     } else {
         cursor.mark(Punctuator::Semicolon)?;
-        Ok(Boxed::new(alloc, ForStart::Nothing)?)
+        boxed(alloc, ForStart::Nothing)
     }
 }
 

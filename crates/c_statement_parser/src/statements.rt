@@ -8,7 +8,7 @@ ghost use Rattle.c_reading.specs.Tokens as tokens_of;
 ghost use Rattle.c_reading.specs.Statements as spec;
 ghost use Rattle.c_statement_parser.specs.NestsStatements.{NestsStatements};
 
-use crate::plain::{condition, declaration, for_head, plain_statement};
+use crate::plain::{boxed, condition, declaration, for_head, plain_statement};
 use c_cursor::Cursor;
 use c_token::{Keyword, Punctuator};
 use c_tree::{Block, BlockItem, Sign, Statement};
@@ -41,10 +41,10 @@ impl<F: Fn(Global, &mut Cursor<'_>, usize) -> Result<Boxed<Statement>, Fault>> B
     {
         if cursor.sees_type_word() {
             let declaration = declaration(self.alloc, cursor, room)?;
-            Ok(Boxed::new(self.alloc, BlockItem::Declaration(declaration))?)
+            boxed(self.alloc, BlockItem::Declaration(declaration))
         } else {
             let statement = self.body(cursor, room)?;
-            Ok(Boxed::new(self.alloc, BlockItem::Statement(statement.into_inner()))?)
+            boxed(self.alloc, BlockItem::Statement(statement.into_inner()))
         }
     }
 
@@ -86,11 +86,11 @@ impl<F: Fn(Global, &mut Cursor<'_>, usize) -> Result<Boxed<Statement>, Fault>> B
         let condition = condition(self.alloc, cursor, room)?;
         let body = self.body(cursor, room)?;
         if !cursor.sees(Sign::Word(Keyword::Else)) {
-            return Ok(Boxed::new(self.alloc, Statement::If(condition, body, None))?);
+            return boxed(self.alloc, Statement::If(condition, body, None));
         }
         cursor.word(Keyword::Else)?;
         let other = self.body(cursor, room)?;
-        Ok(Boxed::new(self.alloc, Statement::If(condition, body, Some(other)))?)
+        boxed(self.alloc, Statement::If(condition, body, Some(other)))
     }
 
     #[tactic(auto, unfolding(c_reading::specs::Statements::read_while))]
@@ -101,8 +101,7 @@ impl<F: Fn(Global, &mut Cursor<'_>, usize) -> Result<Boxed<Statement>, Fault>> B
         cursor.word(Keyword::While)?;
         let condition = condition(self.alloc, cursor, room)?;
         let body = self.body(cursor, room)?;
-        let while_loop = Statement::While(condition, body);
-        Ok(Boxed::new(self.alloc, while_loop)?)
+        boxed(self.alloc, Statement::While(condition, body))
     }
 
     #[tactic(auto, unfolding(c_reading::specs::Statements::read_do))]
@@ -115,8 +114,7 @@ impl<F: Fn(Global, &mut Cursor<'_>, usize) -> Result<Boxed<Statement>, Fault>> B
         cursor.word(Keyword::While)?;
         let condition = condition(self.alloc, cursor, room)?;
         cursor.mark(Punctuator::Semicolon)?;
-        let do_loop = Statement::DoWhile(body, condition);
-        Ok(Boxed::new(self.alloc, do_loop)?)
+        boxed(self.alloc, Statement::DoWhile(body, condition))
     }
 
     #[tactic(auto, unfolding(c_reading::specs::Statements::read_for, c_reading::specs::Statements::read_with_body))]
@@ -127,8 +125,7 @@ impl<F: Fn(Global, &mut Cursor<'_>, usize) -> Result<Boxed<Statement>, Fault>> B
         cursor.word(Keyword::For)?;
         let (start, condition, step) = for_head(self.alloc, cursor, room)?;
         let body = self.body(cursor, room)?;
-        let for_loop = Statement::For(start, condition, step, body);
-        Ok(Boxed::new(self.alloc, for_loop)?)
+        boxed(self.alloc, Statement::For(start, condition, step, body))
     }
 
     /// A block or a control statement.
@@ -139,7 +136,7 @@ impl<F: Fn(Global, &mut Cursor<'_>, usize) -> Result<Boxed<Statement>, Fault>> B
     {
         if cursor.sees(Sign::Mark(Punctuator::OpenCurly)) {
             let block = self.block(cursor, room)?;
-            Ok(Boxed::new(self.alloc, Statement::Block(block))?)
+            boxed(self.alloc, Statement::Block(block))
         } else if cursor.sees(Sign::Word(Keyword::If)) {
             self.branch(cursor, room)
         } else if cursor.sees(Sign::Word(Keyword::While)) {
