@@ -37,15 +37,6 @@ fn add_action(
     actions.push(Action { conditions, effect })
 }
 
-fn argument(signals: &Places<'_>, argument: &WriteArgument) -> Argument
-    ensures { result ≡ argument_of signals.now argument.now }
-{
-    match argument {
-        WriteArgument::Unsigned(name) => Argument::Unsigned(signals.of_name(name)),
-        WriteArgument::Signed(name) => Argument::Signed(signals.of_name(name)),
-    }
-}
-
 fn arguments_of(
     alloc: Global,
     signals: &Places<'_>,
@@ -54,8 +45,12 @@ fn arguments_of(
     ensures { IfOk result (λ values. values ≡ map (argument_of signals.now) arguments.now) }
 {
     let mut values = Items::new(alloc);
-    for next in arguments {
-        values.push(argument(signals, next))?;
+    for argument in arguments {
+        let value = match argument {
+            WriteArgument::Unsigned(name) => Argument::Unsigned(signals.of_name(name)),
+            WriteArgument::Signed(name) => Argument::Signed(signals.of_name(name)),
+        };
+        values.push(value)?;
     }
     Ok(values)
 }

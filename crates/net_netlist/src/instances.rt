@@ -1,6 +1,6 @@
 // The instances of a module, with the signals that their ports are connected to.
 
-ghost use Rattle.std.specs.Prelude.{◌≡◌, ◌≤◌, ◌++◌, true, false, length, IfOk, OnOk};
+ghost use Rattle.std.specs.Prelude.{◌≡◌, ◌≤◌, true, false, length, IfOk};
 ghost use Rattle.std.specs.List.{flat_map};
 ghost use Rattle.net_netlist.specs.Laid as laid;
 
@@ -14,22 +14,6 @@ use std::alloc::{AllocError, Global};
 use verilog_tree::tree;
 use verilog_tree::tree::{Connection, Item, Port};
 
-/// Adds the signal that a port is connected to, if the port is of that side.
-fn add_port(
-    signals: &Places<'_>,
-    connections: &Connections<'_>,
-    inputs: bool,
-    port: &Port,
-    places: &mut Items<usize>,
-) -> Result<(), AllocError>
-    ensures { OnOk result (places.new ≡ places.old ++ laid.port_place signals.now connections.now inputs port.now) }
-{
-    if !is_side(port, inputs) {
-        return Ok(());
-    }
-    places.push(signals.at(connections.signal(&port.name)))
-}
-
 /// The signals that the ports of one side are connected to.
 fn side_places(
     alloc: Global,
@@ -42,7 +26,9 @@ fn side_places(
 {
     let mut places = Items::new(alloc);
     for port in ports {
-        add_port(signals, connections, inputs, port, &mut places)?;
+        if is_side(port, inputs) {
+            places.push(signals.at(connections.signal(&port.name)))?;
+        }
     }
     Ok(places)
 }
@@ -118,27 +104,6 @@ fn instance(
     })
 }
 
-/// Adds the item, where it is an instance.
-fn add_item(
-    alloc: Global,
-    kinds: &Kinds<'_>,
-    before: usize,
-    signals: &Places<'_>,
-    item: &Item,
-    instances: &mut Items<Instance>,
-) -> Result<(), AllocError>
-    requires { before ≤ length kinds.now }
-    ensures { OnOk result (instances.new ≡ instances.old ++ laid.item_instance kinds.now before signals.now item.now) }
-{
-    match item {
-        Item::Instance(of) => {
-            let instance = instance(alloc, kinds, before, signals, of)?;
-            instances.push(instance)
-        }
-        _ => Ok(()),
-    }
-}
-
 /// The instances among these items, of the modules before one.
 pub fn instances(
     alloc: Global,
@@ -152,7 +117,9 @@ pub fn instances(
 {
     let mut instances = Items::new(alloc);
     for item in items {
-        add_item(alloc, kinds, before, signals, item, &mut instances)?;
+        if let Item::Instance(of) = item {
+            instances.push(instance(alloc, kinds, before, signals, of)?)?;
+        }
     }
     Ok(instances)
 }

@@ -57,20 +57,6 @@ fn add_signal(
     })
 }
 
-fn side_source(
-    alloc: Global,
-    tables: &Tables<'_>,
-    inputs: bool,
-    name: &Identifier,
-) -> Result<Source, AllocError>
-    ensures { IfOk result (λ source. source ≡ laid.side_source tables.now inputs name.now) }
-{
-    if inputs {
-        return Ok(Source::Input);
-    }
-    driver(alloc, tables, name)
-}
-
 /// Adds the signal of a port, if the port is of that side.
 fn add_port(
     alloc: Global,
@@ -84,8 +70,11 @@ fn add_port(
     if !is_side(port, inputs) {
         return Ok(());
     }
-    let source = side_source(alloc, tables, inputs, &port.name)?;
-    add_signal(signals, &port.name, port.high, !inputs, source)
+    if inputs {
+        return add_signal(signals, &port.name, port.high, false, Source::Input);
+    }
+    let source = driver(alloc, tables, &port.name)?;
+    add_signal(signals, &port.name, port.high, true, source)
 }
 
 fn add_ports(
@@ -103,28 +92,7 @@ fn add_ports(
     Ok(())
 }
 
-/// Adds the signal of a wire or a register.
-fn add_item(
-    alloc: Global,
-    tables: &Tables<'_>,
-    item: &Item,
-    signals: &mut Items<Signal>,
-) -> Result<(), AllocError>
-    ensures { OnOk result (signals.new ≡ signals.old ++ laid.item_signal tables.now item.now) }
-{
-    match item {
-        Item::Wire(x) => {
-            let source = driver(alloc, tables, &x.name)?;
-            add_signal(signals, &x.name, x.high, false, source)
-        }
-        Item::Register(x) => {
-            let source = Source::Register(tables.initials.number(&x.name, None));
-            add_signal(signals, &x.name, x.high, false, source)
-        }
-        _ => Ok(()),
-    }
-}
-
+/// Adds the signals of wires and registers.
 fn add_items(
     alloc: Global,
     tables: &Tables<'_>,
@@ -134,7 +102,17 @@ fn add_items(
     ensures { OnOk result (signals.new ≡ signals.old ++ flat_map (laid.item_signal tables.now) items.now) }
 {
     for item in items {
-        add_item(alloc, tables, item, signals)?;
+        match item {
+            Item::Wire(x) => {
+                let source = driver(alloc, tables, &x.name)?;
+                add_signal(signals, &x.name, x.high, false, source)?;
+            }
+            Item::Register(x) => {
+                let source = Source::Register(tables.initials.number(&x.name, None));
+                add_signal(signals, &x.name, x.high, false, source)?;
+            }
+            _ => {}
+        }
     }
     Ok(())
 }
