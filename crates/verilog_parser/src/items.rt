@@ -27,14 +27,6 @@ fn wire(cursor: &mut Cursor<'_>) -> Result<Item, Fault>
     Ok(Item::Wire(Wire { high, name }))
 }
 
-#[tactic(auto, unfolding(verilog_rules::specs::Reading::read_register_end))]
-fn register_end(cursor: &mut Cursor<'_>, high: Option<u64>, name: Identifier) -> Result<Item, Fault>
-    ensures { Steps (spec.read_register_end high name cursor.old) result cursor.new }
-{
-    cursor.mark(Mark::Semicolon)?;
-    Ok(Item::Register(Register { high, name }))
-}
-
 #[tactic(auto, unfolding(verilog_rules::specs::Reading::read_memory_end))]
 fn memory_end(cursor: &mut Cursor<'_>, high: u64, name: Identifier) -> Result<Item, Fault>
     ensures { Steps (spec.read_memory_end high name cursor.old) result cursor.new }
@@ -48,13 +40,16 @@ fn memory_end(cursor: &mut Cursor<'_>, high: u64, name: Identifier) -> Result<It
     Ok(Item::Memory(Memory { high, name, last }))
 }
 
-#[tactic(auto, unfolding(verilog_rules::specs::Reading::read_stored_end))]
+#[tactic(auto, unfolding(verilog_rules::specs::Reading::read_stored_end, verilog_rules::specs::Reading::read_register_end))]
 fn stored_end(cursor: &mut Cursor<'_>, high: Option<u64>, name: Identifier) -> Result<Item, Fault>
     ensures { Steps (spec.read_stored_end high name cursor.old) result cursor.new }
 {
     match high {
         Some(bits) if cursor.sees_mark(Mark::OpenSquare) => memory_end(cursor, bits, name),
-        _ => register_end(cursor, high, name),
+        _ => {
+            cursor.mark(Mark::Semicolon)?;
+            Ok(Item::Register(Register { high, name }))
+        }
     }
 }
 
@@ -81,25 +76,17 @@ fn assign(alloc: Global, cursor: &mut Cursor<'_>) -> Result<Item, Fault>
     Ok(Item::Assign(Assign { target, value }))
 }
 
-#[tactic(auto, unfolding(verilog_rules::specs::Reading::read_index))]
-fn index(cursor: &mut Cursor<'_>) -> Result<u64, Fault>
-    ensures { Steps (spec.read_index cursor.old) result cursor.new }
-{
-    cursor.mark(Mark::OpenSquare)?;
-    let word = cursor.number()?;
-    cursor.mark(Mark::CloseSquare)?;
-    Ok(word)
-}
-
-#[tactic(auto, unfolding(verilog_rules::specs::Reading::read_optional_index))]
+#[tactic(auto, unfolding(verilog_rules::specs::Reading::read_optional_index, verilog_rules::specs::Reading::read_index))]
 fn optional_index(cursor: &mut Cursor<'_>) -> Result<Option<u64>, Fault>
     ensures { Steps (spec.read_optional_index cursor.old) result cursor.new }
 {
-    if cursor.sees_mark(Mark::OpenSquare) {
-        Ok(Some(index(cursor)?))
-    } else {
-        Ok(None)
+    if !cursor.sees_mark(Mark::OpenSquare) {
+        return Ok(None);
     }
+    cursor.mark(Mark::OpenSquare)?;
+    let word = cursor.number()?;
+    cursor.mark(Mark::CloseSquare)?;
+    Ok(Some(word))
 }
 
 #[tactic(auto, unfolding(verilog_rules::specs::Reading::read_initial_constant))]
@@ -141,10 +128,10 @@ fn initial(alloc: Global, cursor: &mut Cursor<'_>) -> Result<Item, Fault>
     Ok(Item::Initial(Initial { constants }))
 }
 
-/// `always @(posedge clk) begin`
-#[tactic(auto, unfolding(verilog_rules::specs::Reading::read_always_head))]
-fn always_head(cursor: &mut Cursor<'_>) -> Result<(), Fault>
-    ensures { Steps (spec.read_always_head cursor.old) result cursor.new }
+/// `always @(posedge clk) begin .. end`
+#[tactic(auto, unfolding(verilog_rules::specs::Reading::read_always, verilog_rules::specs::Reading::read_always_head))]
+fn always(alloc: Global, cursor: &mut Cursor<'_>, room: usize) -> Result<Item, Fault>
+    ensures { Steps (spec.read_always (spec.read_statement room) cursor.old) result cursor.new }
 {
     cursor.word(Word::Always)?;
     cursor.mark(Mark::At)?;
@@ -152,14 +139,7 @@ fn always_head(cursor: &mut Cursor<'_>) -> Result<(), Fault>
     cursor.word(Word::PosEdge)?;
     cursor.expect(Sign::Clock)?;
     cursor.mark(Mark::CloseRound)?;
-    cursor.word(Word::Begin)
-}
-
-#[tactic(auto, unfolding(verilog_rules::specs::Reading::read_always))]
-fn always(alloc: Global, cursor: &mut Cursor<'_>, room: usize) -> Result<Item, Fault>
-    ensures { Steps (spec.read_always (spec.read_statement room) cursor.old) result cursor.new }
-{
-    always_head(cursor)?;
+    cursor.word(Word::Begin)?;
     let body = statements(alloc, cursor, room)?;
     cursor.word(Word::End)?;
     Ok(Item::Always(Always { body }))
@@ -204,22 +184,15 @@ fn more_connections(
     Ok(found)
 }
 
-#[tactic(auto, unfolding(verilog_rules::specs::Reading::read_listed))]
-fn connections(alloc: Global, cursor: &mut Cursor<'_>) -> Result<Items<Connection>, Fault>
-    ensures { Steps (spec.read_listed spec.read_connection cursor.old) result cursor.new }
-{
-    let first = connection(cursor)?;
-    more_connections(alloc, cursor, first)
-}
-
-#[tactic(auto, unfolding(verilog_rules::specs::Reading::read_instance))]
+#[tactic(auto, unfolding(verilog_rules::specs::Reading::read_instance, verilog_rules::specs::Reading::read_listed))]
 fn instance(alloc: Global, cursor: &mut Cursor<'_>) -> Result<Item, Fault>
     ensures { Steps (spec.read_instance cursor.old) result cursor.new }
 {
     let module_name = cursor.name()?;
     let name = cursor.name()?;
     cursor.mark(Mark::OpenRound)?;
-    let connections = connections(alloc, cursor)?;
+    let first = connection(cursor)?;
+    let connections = more_connections(alloc, cursor, first)?;
     cursor.mark(Mark::CloseRound)?;
     cursor.mark(Mark::Semicolon)?;
     Ok(Item::Instance(Instance {

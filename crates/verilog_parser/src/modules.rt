@@ -51,23 +51,16 @@ fn more_ports(alloc: Global, cursor: &mut Cursor<'_>, first: Port) -> Result<Ite
     Ok(found)
 }
 
-#[tactic(auto, unfolding(verilog_rules::specs::Reading::read_listed))]
-fn ports(alloc: Global, cursor: &mut Cursor<'_>) -> Result<Items<Port>, Fault>
-    ensures { Steps (spec.read_listed spec.read_port cursor.old) result cursor.new }
-{
-    let first = port(cursor)?;
-    more_ports(alloc, cursor, first)
-}
-
 /// The name and the ports of a module.
-#[tactic(auto, unfolding(verilog_rules::specs::Reading::read_module_head))]
+#[tactic(auto, unfolding(verilog_rules::specs::Reading::read_module_head, verilog_rules::specs::Reading::read_listed))]
 fn module_head(alloc: Global, cursor: &mut Cursor<'_>) -> Result<(Identifier, Items<Port>), Fault>
     ensures { Steps (spec.read_module_head cursor.old) result cursor.new }
 {
     cursor.word(Word::Module)?;
     let name = cursor.name()?;
     cursor.mark(Mark::OpenRound)?;
-    let ports = ports(alloc, cursor)?;
+    let first = port(cursor)?;
+    let ports = more_ports(alloc, cursor, first)?;
     cursor.mark(Mark::CloseRound)?;
     cursor.mark(Mark::Semicolon)?;
     Ok((name, ports))

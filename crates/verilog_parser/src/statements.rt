@@ -9,24 +9,24 @@ use sqlite_items::Items;
 use std::alloc::Global;
 use verilog_cursor::cursor::Cursor;
 use verilog_expressions::expressions::signed;
-use verilog_tree::name::Identifier;
 use verilog_tree::token::{Mark, Word};
 use verilog_tree::tree::{Statement, WriteArgument};
 
-#[tactic(auto, unfolding(verilog_rules::specs::Reading::read_set))]
-fn set(cursor: &mut Cursor<'_>, register: Identifier) -> Result<Statement, Fault>
-    ensures { Steps (spec.read_set register cursor.old) result cursor.new }
+/// `register <= source;`, or `memory[address] <= source;`
+#[tactic(auto, unfolding(verilog_rules::specs::Reading::read_written, verilog_rules::specs::Reading::read_set, verilog_rules::specs::Reading::read_store))]
+fn written(cursor: &mut Cursor<'_>) -> Result<Statement, Fault>
+    ensures { Steps (spec.read_written cursor.old) result cursor.new }
 {
-    cursor.mark(Mark::LessEqual)?;
-    let source = cursor.name()?;
-    cursor.mark(Mark::Semicolon)?;
-    Ok(Statement::Set { register, source })
-}
-
-#[tactic(auto, unfolding(verilog_rules::specs::Reading::read_store))]
-fn store(cursor: &mut Cursor<'_>, memory: Identifier) -> Result<Statement, Fault>
-    ensures { Steps (spec.read_store memory cursor.old) result cursor.new }
-{
+    let name = cursor.name()?;
+    if cursor.sees_mark(Mark::LessEqual) {
+        cursor.mark(Mark::LessEqual)?;
+        let source = cursor.name()?;
+        cursor.mark(Mark::Semicolon)?;
+        return Ok(Statement::Set {
+            register: name,
+            source,
+        });
+    }
     cursor.mark(Mark::OpenSquare)?;
     let address = cursor.name()?;
     cursor.mark(Mark::CloseSquare)?;
@@ -34,22 +34,10 @@ fn store(cursor: &mut Cursor<'_>, memory: Identifier) -> Result<Statement, Fault
     let source = cursor.name()?;
     cursor.mark(Mark::Semicolon)?;
     Ok(Statement::Store {
-        memory,
+        memory: name,
         address,
         source,
     })
-}
-
-#[tactic(auto, unfolding(verilog_rules::specs::Reading::read_written))]
-fn written(cursor: &mut Cursor<'_>) -> Result<Statement, Fault>
-    ensures { Steps (spec.read_written cursor.old) result cursor.new }
-{
-    let name = cursor.name()?;
-    if cursor.sees_mark(Mark::LessEqual) {
-        set(cursor, name)
-    } else {
-        store(cursor, name)
-    }
 }
 
 #[tactic(auto, unfolding(verilog_rules::specs::Reading::read_argument, verilog_rules::specs::Reading::read_unsigned_argument, verilog_rules::specs::Reading::read_signed_argument))]
@@ -99,25 +87,17 @@ fn write(alloc: Global, cursor: &mut Cursor<'_>) -> Result<Statement, Fault>
     Ok(Statement::Write { text, arguments })
 }
 
-/// The condition of an `if`, and `begin`.
-#[tactic(auto, unfolding(verilog_rules::specs::Reading::read_branch_head))]
-fn branch_head(cursor: &mut Cursor<'_>) -> Result<Identifier, Fault>
-    ensures { Steps (spec.read_branch_head cursor.old) result cursor.new }
+/// `if (condition) begin .. end`
+#[cycle(statements)]
+#[tactic(auto, unfolding(verilog_rules::specs::Reading::read_branch, verilog_rules::specs::Reading::read_branch_head))]
+fn branch(alloc: Global, cursor: &mut Cursor<'_>, room: usize) -> Result<Statement, Fault>
+    ensures { Steps (spec.read_branch (spec.read_statement room) cursor.old) result cursor.new }
 {
     cursor.word(Word::If)?;
     cursor.mark(Mark::OpenRound)?;
     let condition = cursor.name()?;
     cursor.mark(Mark::CloseRound)?;
     cursor.word(Word::Begin)?;
-    Ok(condition)
-}
-
-#[cycle(statements)]
-#[tactic(auto, unfolding(verilog_rules::specs::Reading::read_branch))]
-fn branch(alloc: Global, cursor: &mut Cursor<'_>, room: usize) -> Result<Statement, Fault>
-    ensures { Steps (spec.read_branch (spec.read_statement room) cursor.old) result cursor.new }
-{
-    let condition = branch_head(cursor)?;
     let body = statements(alloc, cursor, room)?;
     cursor.word(Word::End)?;
     Ok(Statement::If { condition, body })
