@@ -13,56 +13,25 @@ use c_tree::Expression;
 use sqlite_items::Boxed;
 use std::alloc::{AllocError, Global};
 
-/// A positive number, as far as a length goes.
-fn positive(number: i128) -> Option<u64>
-    ensures { result ≡ spec.positive number }
+/// The length that an array is declared with: a positive constant; 1 where it breaks a rule.
+#[tactic(auto, unfolding(c_resolution::specs::Locals::length_from))]
+fn length_from(found: &mut Findings, constancy: Constancy, offset: usize) -> u64
+    ensures { spec.length_from constancy offset found.old ≡ Outcome.Gives result found.new }
 {
-    if number >= 1 {
-        Some(number.min(0xffff_ffff_ffff_ffff) as u64)
-    } else {
-        None
-    }
-}
-
-/// A length, or 1 where it breaks a rule.
-fn length_of_number(found: &mut Findings, number: Option<u64>, offset: usize) -> u64
-    ensures { spec.length_of_number number offset found.old ≡ Outcome.Gives result found.new }
-{
-    match number {
-        Some(number) => number,
-        None => {
+    match constancy {
+        Constancy::Constant(value) if value.number >= 1 => {
+            value.number.min(0xffff_ffff_ffff_ffff) as u64
+        }
+        Constancy::Unknown => 1,
+        _ => {
             found.add(Rule::Constant, offset);
             1
         }
     }
 }
 
-#[tactic(auto, unfolding(c_resolution::specs::Locals::length_from))]
-fn length_from(found: &mut Findings, constancy: Constancy, offset: usize) -> u64
-    ensures { spec.length_from constancy offset found.old ≡ Outcome.Gives result found.new }
-{
-    match constancy {
-        Constancy::Constant(value) => length_of_number(found, positive(value.number), offset),
-        Constancy::Unknown => 1,
-        Constancy::NotConstant => length_of_number(found, None, offset),
-    }
-}
-
-/// The length that an array is declared with; 1 where that breaks a rule.
-#[tactic(auto, unfolding(c_resolution::specs::Locals::array_length))]
-fn array_length(
-    alloc: Global,
-    scope: &Scope<'_>,
-    found: &mut Findings,
-    e: &Expression,
-) -> Result<u64, AllocError>
-    ensures { Walks (λ n. n) (spec.array_length e.now scope.now found.old) result found.new }
-{
-    expression(alloc, scope, found, e)?;
-    Ok(length_from(found, constancy_of(e), e.offset))
-}
-
 /// The length of an object, if it is an array.
+#[tactic(auto, unfolding(c_resolution::specs::Locals::array_length))]
 pub fn optional_length(
     alloc: Global,
     scope: &Scope<'_>,
@@ -73,8 +42,9 @@ pub fn optional_length(
 {
     match written {
         Some(e) => {
-            let length = array_length(alloc, scope, found, e.get())?;
-            Ok(Some(length))
+            let e = e.get();
+            expression(alloc, scope, found, e)?;
+            Ok(Some(length_from(found, constancy_of(e), e.offset)))
         }
         None => Ok(None),
     }

@@ -49,25 +49,19 @@ pub fn new_local(
     }))
 }
 
-fn is_object_type(base: BaseType) -> bool
-    ensures { result ≡ spec.is_object_type base }
-{
-    matches!(base, BaseType::Thread | BaseType::Mutex | BaseType::Barrier)
-}
-
 /// A local that breaks a rule.
 #[tactic(auto, unfolding(c_resolution::specs::Locals::refused_local))]
 pub fn refused_local(found: &mut Findings, words: Spelled, offset: usize) -> Meaning
     ensures { spec.refused_local words offset found.old ≡ Outcome.Gives result found.new }
 {
-    if is_object_type(words.base) {
-        found.add_if(words.is_static, Rule::Kind, offset);
-        found.add(Rule::Threads, offset);
-        Meaning::Unusable
-    } else {
-        found.add(Rule::Kind, offset);
-        Meaning::Unusable
+    match words.base {
+        BaseType::Thread | BaseType::Mutex | BaseType::Barrier => {
+            found.add_if(words.is_static, Rule::Kind, offset);
+            found.add(Rule::Threads, offset);
+        }
+        _ => found.add(Rule::Kind, offset),
     }
+    Meaning::Unusable
 }
 
 /// An object of a block with these words.
