@@ -6,13 +6,13 @@ ghost use Rattle.c_rules.specs.Walks.{Walks};
 ghost use Rattle.c_resolution.specs.States.{state};
 ghost use Rattle.c_resolution.specs.Statements as spec;
 
+use crate::declarations::declaration;
 use crate::sequences::sequence;
+use crate::simple::{check_jump, returned, simple};
 use c_expressions::conditions::condition;
-use c_locals::declarations::declaration;
 use c_program::tree as resolved;
 use c_rules::findings::Findings;
 use c_rules::names::Scope;
-use c_simple::simple::{check_jump, returned, simple};
 use c_tree::{Block, BlockItem, Expression, ForStart, SimpleStatement, Statement};
 use hls_ints::CType;
 use sqlite_items::Boxed;

@@ -5,7 +5,7 @@ ghost use Rattle.c_program.specs.Plain.{program_of};
 ghost use Rattle.c_program.specs.Tree as code;
 ghost use Rattle.c_rules.specs.declared.fault.Fault as fault;
 ghost use Rattle.c_rules.specs.declared.fault.ResolveError.TheVariants as error;
-ghost use Rattle.c_globals.specs.Tabled.{tables_of};
+ghost use Rattle.c_definitions.specs.Tabled.{tables_of};
 ghost use Rattle.c_resolution.specs.Resolving as spec;
 ghost use Rattle.c_resolution.specs.Texts.{main_number as main_of_scope};
 ghost use Rattle.c_resolution.specs.Answers.{ResolvesOnly, BreaksOnly, LacksMainOnly};
@@ -13,7 +13,7 @@ ghost use Rattle.c_resolution.specs.Answers.{ResolvesOnly, BreaksOnly, LacksMain
 use crate::calls::with_call_faults;
 use crate::routines::give_routines;
 use crate::texts::{definitions_of, main_number, walk};
-use c_globals::tables::Tables;
+use c_definitions::tables::Tables;
 use c_program::tree::Program;
 use c_rules::fault::{ResolveError, first};
 use c_rules::findings::Findings;

@@ -3,12 +3,12 @@
 ghost use Rattle.std.specs.Prelude.{◌≡◌, IfOk};
 ghost use Rattle.c_rules.specs.Walks.{Walks};
 ghost use Rattle.c_resolution.specs.Files.{file};
-ghost use Rattle.c_globals.specs.Tabled.{tables_of};
+ghost use Rattle.c_definitions.specs.Tabled.{tables_of};
 ghost use Rattle.c_resolution.specs.Texts as spec;
 
-use c_functions::functions::function;
-use c_globals::globals::objects;
-use c_globals::tables::Tables;
+use c_definitions::functions::function;
+use c_definitions::globals::objects;
+use c_definitions::tables::Tables;
 use c_rules::findings::Findings;
 use c_rules::level::Definitions;
 use c_rules::names::{Meaning, Scope};

@@ -1,7 +1,7 @@
 use Rattle.std.proofs.Common.{◌≡◌, take}
 use Rattle.c_rules.specs.Walks.{Outcome, visited}
 use Rattle.c_resolution.specs.Files.{file}
-use Rattle.c_globals.specs.Tabled.{tables_of}
+use Rattle.c_definitions.specs.Tabled.{tables_of}
 use Rattle.c_resolution.specs.Texts.{declaration}
 use Rattle.c_types.proofs.texts.walk.Given as goal
 
