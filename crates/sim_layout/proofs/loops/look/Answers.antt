@@ -13,3 +13,21 @@ returns-clause-search c =
     let s : Step = slice_index_or c.args.wires.now c.args.number d in
     search_more c.args.modules.now c.args.wires.now c.args.place c.args.apart.now _ (subst (AreInRoom c.args.modules.now c.args.wires.now) (sym c.requires.long) c.requires.room) c.requires.search s
     (c.args.number, slice_get-get_or c.args.wires.now c.args.number d c.requires.number) (c.if-is_ready.ensures.blocked refl) refl (length-set c.args.apart.now s.target _)
+
+pub returns-then-wire-apart-clause-search : goal.returns-then-wire-apart-clause-search
+returns-then-wire-apart-clause-search c = c.requires.search
+
+pub returns-then-wire-apart-clause-same : goal.returns-then-wire-apart-clause-same
+returns-then-wire-apart-clause-same c = λ _. refl
+
+pub returns-then-not-apart-wire-clause-search : goal.returns-then-not-apart-wire-clause-search
+returns-then-not-apart-wire-clause-search c = c.requires.search
+
+pub returns-then-not-apart-wire-clause-same : goal.returns-then-not-apart-wire-clause-same
+returns-then-not-apart-wire-clause-same c = λ _. refl
+
+pub returns-then-is_ready-clause-search : goal.returns-then-is_ready-clause-search
+returns-then-is_ready-clause-search c = c.requires.search
+
+pub returns-then-is_ready-clause-same : goal.returns-then-is_ready-clause-same
+returns-then-is_ready-clause-same c = λ _. refl

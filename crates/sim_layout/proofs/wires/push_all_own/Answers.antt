@@ -1,0 +1,6 @@
+use Rattle.std.proofs.Common.{arith}
+use Rattle.std.proofs.lemmas.Grind.{common_steps}
+use Rattle.sim_layout.proofs.wires.push_all_own.Goals as goal
+
+pub loop-signal-preserved : goal.loop-signal-preserved
+loop-signal-preserved c = grind (arith, common_steps)
