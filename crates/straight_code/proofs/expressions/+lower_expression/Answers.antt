@@ -4,7 +4,7 @@ use Rattle.c_program.specs.Plain.{expression_of}
 use Rattle.c_program.specs.Tree.{Expression}
 use Rattle.c_program.specs.Weight.{expression_weight}
 use Rattle.straight_code.proofs.Room.{full_more}
-use Rattle.straight_code.proofs.Values.{if_ok_three, variable_at, element_at, unary_at, binary_at}
+use Rattle.straight_code.proofs.Values.{if_ok_three, constant_at, variable_at, element_at, unary_at, plus_at, binary_at, cast_at}
 use Rattle.straight_code.proofs.expressions.+lower_expression.Goals as goal
 
 pub returns-in-Variable : goal.returns-in-Variable
@@ -153,3 +153,71 @@ returns-in_err-operand-in-Cast-clause-full t c =
     (full_more _ (length c.args.block.now.operations + (2 * expression_weight (expression_of c.deref-in-Cast.result.now) + 1))
     (length c.args.block.now.operations + (2 * expression_weight (expression_of c.args.expression.now) + 1)) (omega (arith, weighs))
     c.in_err-operand-in-Cast.ensures.full)
+
+pub returns-in-Constant-clause-value : goal.returns-in-Constant-clause-value
+returns-in-Constant-clause-value t c = grind (arith, constant_at)
+
+pub returns-in-Constant-clause-full : goal.returns-in-Constant-clause-full
+returns-in-Constant-clause-full t c = tt
+
+pub returns-then-eq-clause-value : goal.returns-then-eq-clause-value
+returns-then-eq-clause-value t c = grind (arith, plus_at)
+
+pub returns-then-eq-clause-full : goal.returns-then-eq-clause-full
+returns-then-eq-clause-full t c = tt
+
+pub returns-in_ok-converted-in-Cast : goal.returns-in_ok-converted-in-Cast
+returns-in_ok-converted-in-Cast t c =
+    let is = ap expression_of c.in-Cast.is ∙ ap (λ z. Expression.Cast c.in-Cast.ty (expression_of z)) (sym c.deref-in-Cast.ensures) in
+    record {
+      value =
+          cast_at c.args.homes.now (expression_of c.deref-in-Cast.result.now) (expression_of c.args.expression.now) c.in-Cast.ty
+          c.args.block.now c.lower_expression-in-Cast.new.block c.in_ok-operand-in-Cast.operand _
+          is c.in_ok-operand-in-Cast.ensures.value c.in_ok-converted-in-Cast.ensures;
+      full = tt;
+    }
+
+pub returns-in_err-index-in-Element-clause-value : goal.returns-in_err-index-in-Element-clause-value
+returns-in_err-index-in-Element-clause-value t c =
+    let p = err_from_is_err_and c.from_residual.result c.from_residual.ensures.1 in
+    rw p.1 tt
+
+pub returns-in_err-operand-in-Unary-clause-value : goal.returns-in_err-operand-in-Unary-clause-value
+returns-in_err-operand-in-Unary-clause-value t c =
+    let p = err_from_is_err_and c.from_residual-in_err-operand-in-Unary.result c.from_residual-in_err-operand-in-Unary.ensures.1 in
+    rw p.1 tt
+
+pub returns-in_err-converted-in-Unary-clause-value : goal.returns-in_err-converted-in-Unary-clause-value
+returns-in_err-converted-in-Unary-clause-value t c =
+    let p = err_from_is_err_and c.from_residual-in_err-converted-in-Unary.result c.from_residual-in_err-converted-in-Unary.ensures.1 in
+    rw p.1 tt
+
+pub returns-in_err-left-in-Binary-clause-value : goal.returns-in_err-left-in-Binary-clause-value
+returns-in_err-left-in-Binary-clause-value t c =
+    let p = err_from_is_err_and c.from_residual-in_err-left-in-Binary.result c.from_residual-in_err-left-in-Binary.ensures.1 in
+    rw p.1 tt
+
+pub returns-in_err-right-in-Binary-clause-value : goal.returns-in_err-right-in-Binary-clause-value
+returns-in_err-right-in-Binary-clause-value t c =
+    let p = err_from_is_err_and c.from_residual-in_err-right-in-Binary.result c.from_residual-in_err-right-in-Binary.ensures.1 in
+    rw p.1 tt
+
+pub returns-in_err-operand-in-Cast-clause-value : goal.returns-in_err-operand-in-Cast-clause-value
+returns-in_err-operand-in-Cast-clause-value t c =
+    let p = err_from_is_err_and c.from_residual-in_err-operand-in-Cast.result c.from_residual-in_err-operand-in-Cast.ensures.1 in
+    rw p.1 tt
+
+pub returns-in_err-converted-in-Cast-clause-value : goal.returns-in_err-converted-in-Cast-clause-value
+returns-in_err-converted-in-Cast-clause-value t c =
+    let p = err_from_is_err_and c.from_residual-in_err-converted-in-Cast.result c.from_residual-in_err-converted-in-Cast.ensures.1 in
+    rw p.1 tt
+
+pub returns-in_err-converted-in-Unary-clause-full : goal.returns-in_err-converted-in-Unary-clause-full
+returns-in_err-converted-in-Unary-clause-full t c =
+    let p = err_from_is_err_and c.from_residual-in_err-converted-in-Unary.result c.from_residual-in_err-converted-in-Unary.ensures.1 in
+    rw (p.1, p.2) (λ is. cc)
+
+pub returns-in_err-converted-in-Cast-clause-full : goal.returns-in_err-converted-in-Cast-clause-full
+returns-in_err-converted-in-Cast-clause-full t c =
+    let p = err_from_is_err_and c.from_residual-in_err-converted-in-Cast.result c.from_residual-in_err-converted-in-Cast.ensures.1 in
+    rw (p.1, p.2) (λ is. cc)
