@@ -40,3 +40,9 @@ loop-here-smaller c =
     let b = c.loop-here.invariant.behind in
     let h = c.requires.history in
     (given_at h.0 h.1 c.args.steps.now h.2 _ c.loop-here.invariant.within c.args.ends.earlier c.loop-here-test.true b.0 b.1).earlier
+
+pub bounds-steps-here : goal.bounds-steps-here
+bounds-steps-here c = c.requires.ends.within
+
+pub bounds-steps-here-in-loop-here : goal.bounds-steps-here-in-loop-here
+bounds-steps-here-in-loop-here c = c.loop-here.invariant.within

@@ -1,4 +1,4 @@
-use Rattle.std.proofs.Common.{◌≡◌, ◌<◌, ◌+◌, ◌++◌, ◌∷◌, [], length, arith, rules, refl, pos, ◌+ℤ◌}
+use Rattle.std.proofs.Common.{◌≡◌, ◌<◌, ◌+◌, ◌++◌, ◌∷◌, [], length, arith, rules, refl, pos, ◌+ℤ◌, ◌∙◌}
 use Rattle.std.proofs.lemmas.Int.{ints}
 use Rattle.schedule_sdc.proofs.Pushed.{all_read, rose_sound, rose_change, step_to}
 use Rattle.schedule_sdc.proofs.history.raise.Goals as goal
@@ -31,8 +31,8 @@ pub returns-then-from-places-clause-sound : goal.returns-then-from-places-clause
 returns-then-from-places-clause-sound c =
     let r = all_read _ _ _ _ _ c.requires.sound c.requires.shallow _ c.requires.listed c.requires.places _ c.index-before.ensures _ c.index-from.ensures _ c.index.ensures in
     let lt : c.index.result.now < c.in-Some.start = omega (arith, c.in-Some.ensures.later) in
-    let top : c.len-top.result ≡ length c.args.steps.now.items = search rules in
-    let items : c.push.new.self.items ≡ c.args.steps.now.items ++ step_to c.args.c.now.to c.index-before.result.now (c.index-from.result.now.depth + 1) c.in-Some.start ∷ [] = search rules in
+    let top : c.len-top.result ≡ length c.args.steps.now.items = c.len-top.ensures ∙ c.args.steps.now.ok.0 in
+    let items : c.push.new.self.items ≡ c.args.steps.now.items ++ step_to c.args.c.now.to c.index-before.result.now (c.index-from.result.now.depth + 1) c.in-Some.start ∷ [] = c.in_ok-push.ensures.items in
     let sum : pos c.index-from.result.now.start +ℤ c.args.c.now.gap ≡ pos c.in-Some.start = omega (arith, ints, c.in-Some.ensures.later) in
     rose_sound _ _ _ _ _ c.requires.sound c.requires.shallow _ c.requires.listed _ _ _ r _ _ _ lt c.in-Some.ensures.near sum top items
 
@@ -40,8 +40,8 @@ pub returns-else-from-places-clause-sound : goal.returns-else-from-places-clause
 returns-else-from-places-clause-sound c =
     let r = all_read _ _ _ _ _ c.requires.sound c.requires.shallow _ c.requires.listed c.requires.places _ c.index-before.ensures _ c.index-from.ensures _ c.index.ensures in
     let lt : c.index.result.now < c.in-Some.start = omega (arith, c.in-Some.ensures.later) in
-    let top : c.len-top.result ≡ length c.args.steps.now.items = search rules in
-    let items : c.push.new.self.items ≡ c.args.steps.now.items ++ step_to c.args.c.now.to c.index-before.result.now (c.index-from.result.now.depth + 1) c.in-Some.start ∷ [] = search rules in
+    let top : c.len-top.result ≡ length c.args.steps.now.items = c.len-top.ensures ∙ c.args.steps.now.ok.0 in
+    let items : c.push.new.self.items ≡ c.args.steps.now.items ++ step_to c.args.c.now.to c.index-before.result.now (c.index-from.result.now.depth + 1) c.in-Some.start ∷ [] = c.in_ok-push.ensures.items in
     let sum : pos c.index-from.result.now.start +ℤ c.args.c.now.gap ≡ pos c.in-Some.start = omega (arith, ints, c.in-Some.ensures.later) in
     rose_sound _ _ _ _ _ c.requires.sound c.requires.shallow _ c.requires.listed _ _ _ r _ _ _ lt c.in-Some.ensures.near sum top items
 
@@ -49,8 +49,11 @@ pub returns-else-from-places-clause-change : goal.returns-else-from-places-claus
 returns-else-from-places-clause-change c =
     let r = all_read _ _ _ _ _ c.requires.sound c.requires.shallow _ c.requires.listed c.requires.places _ c.index-before.ensures _ c.index-from.ensures _ c.index.ensures in
     let lt : c.index.result.now < c.in-Some.start = omega (arith, c.in-Some.ensures.later) in
-    let top : c.len-top.result ≡ length c.args.steps.now.items = search rules in
-    let items : c.push.new.self.items ≡ c.args.steps.now.items ++ step_to c.args.c.now.to c.index-before.result.now (c.index-from.result.now.depth + 1) c.in-Some.start ∷ [] = search rules in
+    let top : c.len-top.result ≡ length c.args.steps.now.items = c.len-top.ensures ∙ c.args.steps.now.ok.0 in
+    let items : c.push.new.self.items ≡ c.args.steps.now.items ++ step_to c.args.c.now.to c.index-before.result.now (c.index-from.result.now.depth + 1) c.in-Some.start ∷ [] = c.in_ok-push.ensures.items in
     let sum : pos c.index-from.result.now.start +ℤ c.args.c.now.gap ≡ pos c.in-Some.start = omega (arith, ints, c.in-Some.ensures.later) in
     let d : c.index-from.result.now.depth + 1 < length c.args.starts.now.items = omega (arith, r.depth) in
     rose_change _ _ _ _ _ c.requires.sound c.requires.shallow _ c.requires.listed _ _ _ r _ _ _ lt c.in-Some.ensures.near sum top items d
+
+pub returns-in_default-clause-sound : goal.returns-in_default-clause-sound
+returns-in_default-clause-sound c = c.requires.sound

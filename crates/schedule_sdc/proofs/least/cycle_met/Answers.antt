@@ -45,3 +45,11 @@ rounds-smaller c =
     let b = sum_bounded _ _ _ _ _ c.loop-c.invariant.sound in
     let g = round_grew _ _ _ _ c.if-not-raised.false c.loop-c.invariant.round in
     omega arith
+
+pub rounds-init : goal.rounds-init
+rounds-init c = record { sound = c.requires.sound; shallow = c.requires.shallow; early = c.requires.early }
+
+pub rounds-preserved : goal.rounds-preserved
+rounds-preserved c =
+    let i = c.loop-c.invariant in
+    record { sound = i.sound; shallow = i.shallow; early = i.early }

@@ -1,3 +1,4 @@
+use Rattle.std.proofs.lemmas.Grind.{common_steps}
 use Rattle.std.proofs.Common.{◌≡◌, replicate, arith, rules}
 use Rattle.schedule_sdc.proofs.Back.{no_solution}
 use Rattle.schedule_sdc.proofs.Begun.{begun_sound, begun_shallow, begun_early}
@@ -30,3 +31,9 @@ returns-in-Some c = let p = rw c.in-Some.is at c.in_ok-walk.ensures in (p, no_so
 
 pub narrowed-requires : goal.narrowed-requires
 narrowed-requires c = let least = rw c.in-None.is at c.in_ok-walk.ensures in rw c.deref.ensures.value (least_fits _ _ _ least c.requires.fits)
+
+pub loop-place-preserved : goal.loop-place-preserved
+loop-place-preserved c = grind (arith, common_steps)
+
+pub cycle_met-requires-clause-places : goal.cycle_met-requires-clause-places
+cycle_met-requires-clause-places c = c.requires.places

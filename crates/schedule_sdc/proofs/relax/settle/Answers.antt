@@ -16,3 +16,6 @@ loop-round-preserved c =
     let n = c.loop-round.invariant.count in
     let e : AreEarly c.args.list.now c.args.places c.one_round.new.starts.items = rw n at c.in-Raised.ensures.early in
     record { count = c.in-Raised.ensures.count ∙ n; early = e }
+
+pub one_round-requires-clause-places : goal.one_round-requires-clause-places
+one_round-requires-clause-places c = rw c.loop-round.invariant.count c.requires
