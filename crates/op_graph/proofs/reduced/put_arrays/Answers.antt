@@ -7,3 +7,6 @@ loop-j-preserved c = record {
   rows = rw add-one (one_step _ _ _ _ _ c.loop-j.invariant.rows c.in_ok-put_array.ensures.list);
   last = rw add-one c.in_ok-put_array.ensures.last;
 }
+
+pub put_array-requires-clause-last : goal.put_array-requires-clause-last
+put_array-requires-clause-last c = c.loop-j.invariant.last

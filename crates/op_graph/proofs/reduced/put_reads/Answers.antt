@@ -7,3 +7,6 @@ loop-behind-preserved c = record {
   rows = rw add-one (one_step _ _ _ _ _ c.loop-behind.invariant.rows c.in_ok-put_read.ensures.list);
   next = rw add-one c.in_ok-put_read.ensures.next;
 }
+
+pub put_read-requires-clause-next : goal.put_read-requires-clause-next
+put_read-requires-clause-next c = c.loop-behind.invariant.next

@@ -10,3 +10,6 @@ returns-clause-places c = places_within c.args.nodes.now c.requires c.put_ends.n
 
 pub returns-clause-few : goal.returns-clause-few
 returns-clause-few c = few_rows c.args.nodes.now c.put_ends.new.list.items (search (rules, c.in_ok-put_ends.ensures))
+
+pub put_uses-requires : goal.put_uses-requires
+put_uses-requires c = c.requires

@@ -6,3 +6,9 @@ put_operand-requires-clause-operand c = λ i e. c.requires.earlier c.args.j i c.
 
 pub put_operand-requires-2-clause-operand : goal.put_operand-requires-2-clause-operand
 put_operand-requires-2-clause-operand c = λ i e. c.requires.earlier c.args.j i c.requires.place (inr e)
+
+pub put_operand-requires-clause-earlier : goal.put_operand-requires-clause-earlier
+put_operand-requires-clause-earlier c = c.requires.earlier
+
+pub put_operand-requires-2-clause-earlier : goal.put_operand-requires-2-clause-earlier
+put_operand-requires-2-clause-earlier c = c.requires.earlier

@@ -4,3 +4,6 @@ use Rattle.op_graph.proofs.rows.put_uses.Goals as goal
 
 pub loop-j-preserved : goal.loop-j-preserved
 loop-j-preserved c = rw add-one (one_step _ _ _ _ _ c.loop-j.invariant c.in_ok-put_operands.ensures)
+
+pub put_operands-requires-clause-earlier : goal.put_operands-requires-clause-earlier
+put_operands-requires-clause-earlier c = c.requires

@@ -10,3 +10,6 @@ pub returns-clause-one_by_one : goal.returns-clause-one_by_one
 returns-clause-one_by_one c =
     table_solved c.args.nodes.now c.put_ends.new.list.items _ (is_table c.args.nodes.now c.put_ends.new.list.items (search (rules, c.in_ok-put_ends.ensures)))
     (one_by_one c.args.nodes.now c.requires)
+
+pub put_uses-requires : goal.put_uses-requires
+put_uses-requires c = c.requires
