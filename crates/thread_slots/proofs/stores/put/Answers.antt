@@ -1,4 +1,5 @@
-use Rattle.std.proofs.Common.{refl}
+use Rattle.std.proofs.Common.{refl, arith}
+use Rattle.std.proofs.lemmas.Grind.{common_steps}
 use Rattle.thread_slots.proofs.Storing.{put_answered}
 use Rattle.thread_slots.proofs.Putting.{word_answered}
 use Rattle.thread_slots.proofs.stores.put.Goals as goal
@@ -18,3 +19,6 @@ returns-clause-puts c =
     c.args.index c.args.value c.in_ok-source.source c.args.moment c.in_ok-condition.condition c.in_ok-address.address c.args.stores.now c.push.new.self _
     c.in_ok-condition.ensures.shows
     c.in_ok-address.ensures.shows c.in_ok-source.ensures.shows refl refl refl refl c.push.ensures.ok
+
+pub returns-clause-grows : goal.returns-clause-grows
+returns-clause-grows c = grind (arith, common_steps)
