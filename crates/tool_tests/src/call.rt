@@ -1,6 +1,6 @@
 // Calls of the tool.
 
-use hardware_threads::gate::OpenGate;
+use crate::meeting::Meeting;
 use hls_io::{MemSink, MemSource};
 use hls_tool::{Outcome, Status, Task, perform};
 use sqlite_items::Items;
@@ -87,7 +87,26 @@ fn task_of(alloc: Global, asked: Asked) -> Result<Task, AllocError> {
     Ok(task)
 }
 
-/// What a call on the text answers over such streams.
+/// What a call on the text answers over such streams, where the workers of a run meet at the gate.
+pub fn told_at<'a, R: Threads + Wait + Sync>(
+    rt: &R,
+    alloc: Global,
+    text: &[u8],
+    asked: Asked,
+    streams: &Streams<'a>,
+    gate: &Meeting,
+) -> Result<Box<Ended<'a>>, AllocError> {
+    let (reads, outs, errs) = (streams.reads, streams.outs, streams.errs);
+    let mut source = MemSource::new(text, reads.0.max(1), reads.1);
+    let mut out = MemSink::new(alloc, ROOM, outs.0.max(1), outs.1)?;
+    let mut err = MemSink::new(alloc, LINES, errs.0.max(1), errs.1)?;
+    let task = task_of(alloc, asked)?;
+    let outcome = perform(rt, alloc, task, &mut source, &mut out, &mut err, gate);
+    let ended = Box::new(alloc, Ended { outcome, out, err })?;
+    Ok(ended)
+}
+
+/// The same, where no worker waits for another.
 pub fn told<'a, R: Threads + Wait + Sync>(
     rt: &R,
     alloc: Global,
@@ -95,14 +114,7 @@ pub fn told<'a, R: Threads + Wait + Sync>(
     asked: Asked,
     streams: &Streams<'a>,
 ) -> Result<Box<Ended<'a>>, AllocError> {
-    let (reads, outs, errs) = (streams.reads, streams.outs, streams.errs);
-    let mut source = MemSource::new(text, reads.0.max(1), reads.1);
-    let mut out = MemSink::new(alloc, ROOM, outs.0.max(1), outs.1)?;
-    let mut err = MemSink::new(alloc, LINES, errs.0.max(1), errs.1)?;
-    let task = task_of(alloc, asked)?;
-    let outcome = perform(rt, alloc, task, &mut source, &mut out, &mut err, &OpenGate);
-    let ended = Box::new(alloc, Ended { outcome, out, err })?;
-    Ok(ended)
+    told_at(rt, alloc, text, asked, streams, &Meeting::of(0))
 }
 
 /// Whether the call ended so, and out and err took just these bytes.

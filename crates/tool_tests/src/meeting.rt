@@ -1,12 +1,9 @@
 // Workers that run side by side.
 
+use crate::call::{Asked, SURE, told_at};
 use crate::programs::{ADDING, COUNTING, PRINTING, sixty_three};
 use hardware_threads::gate::Gate;
-use hls_commands::answer::Answer;
-use hls_commands::commands::Stop;
-use hls_commands::runs::run_workers;
-use hls_io::MemSource;
-use hls_status::status::Status;
+use hls_tool::Status;
 use std::alloc::{AllocError, Global};
 use std::process::Abort;
 use std::sync::Wait;
@@ -15,16 +12,13 @@ use std::test::Fail;
 use std::thread;
 use std::thread::Threads;
 
-/// The most entries of a run to its end.
-const ENTRIES: u32 = 100_000;
-
 /// How often a worker looks for the flags of the others.
 const TURNS: u64 = 1_000_000_000;
 
 /// A gate at which each worker raises a flag, at its first `before_closed` and at its first `after_closed`, and waits there for the flags of
-/// all.
+/// all. A meeting of none is an open gate.
 #[derive(Drop)]
-struct Meeting {
+pub struct Meeting {
     all: u64,
     before: AtomicU64,
     after: AtomicU64,
@@ -32,7 +26,7 @@ struct Meeting {
 }
 
 impl Meeting {
-    fn of(workers: u32) -> Meeting {
+    pub fn of(workers: u32) -> Meeting {
         let all = if workers < 64 {
             (1u64 << workers) - 1
         } else {
@@ -47,7 +41,7 @@ impl Meeting {
     }
 
     fn meet(&self, flags: &AtomicU64, worker: u32) {
-        if worker >= 64 {
+        if self.all == 0 || worker >= 64 {
             return;
         }
         let flag = 1u64 << worker;
@@ -62,6 +56,13 @@ impl Meeting {
         }
         self.is_late.store(true, Ordering::SeqCst);
     }
+
+    /// Whether all have raised both flags, and none of them gave up on the others.
+    fn is_met(&self) -> bool {
+        !self.is_late.load(Ordering::SeqCst)
+            && self.before.load(Ordering::SeqCst) == self.all
+            && self.after.load(Ordering::SeqCst) == self.all
+    }
 }
 
 impl Gate for Meeting {
@@ -74,41 +75,18 @@ impl Gate for Meeting {
     }
 }
 
-fn boxed(alloc: Global, answer: Answer) -> Result<Box<Answer>, AllocError> {
-    let answer = Box::new(alloc, answer)?;
-    Ok(answer)
-}
-
-/// What a run of the text by workers owes, where they meet at the gate.
-fn run<R: Threads + Wait + Sync>(
-    rt: &R,
-    alloc: Global,
-    text: &[u8],
-    entries: u32,
-    gate: &Meeting,
-) -> Result<Box<Answer>, Stop> {
-    let mut source = MemSource::new(text, 4096, &[]);
-    let answer = run_workers(rt, alloc, &mut source, entries, false, gate)?;
-    Ok(boxed(alloc, answer)?)
-}
-
 /// Whether all workers of a run of the text meet at both flags; the run ends with this status.
 fn all_meet<R: Threads + Wait + Sync>(
     rt: &R,
     alloc: Global,
     text: &str,
-    entries: u32,
+    asked: Asked,
     workers: u32,
     status: Status,
-) -> Result<bool, Stop> {
+) -> Result<bool, AllocError> {
     let gate = Meeting::of(workers);
-    let ran = run(rt, alloc, text.as_bytes(), entries, &gate)?;
-    Ok(
-        ran.status == status
-            && !gate.is_late.load(Ordering::SeqCst)
-            && gate.before.load(Ordering::SeqCst) == gate.all
-            && gate.after.load(Ordering::SeqCst) == gate.all,
-    )
+    let told = told_at(rt, alloc, text.as_bytes(), asked, &SURE, &gate)?;
+    Ok(told.outcome.status == status && gate.is_met())
 }
 
 /// Programs, and how many workers run them: one for each hardware thread.
@@ -121,7 +99,7 @@ fn meeting_rows() -> &'static [(&'static str, u32)] {
 #[test]
 fn workers_meet(rt: HostRuntime) -> Result<(), Fail> {
     for (text, workers) in meeting_rows() {
-        let met = all_meet(&rt, rt.alloc(), text, ENTRIES, *workers, Status::Ok)?;
+        let met = all_meet(&rt, rt.alloc(), text, Asked::Run, *workers, Status::Ok)?;
         if !met {
             rt.panic(*text);
         }
@@ -132,7 +110,8 @@ fn workers_meet(rt: HostRuntime) -> Result<(), Fail> {
 /// As many workers as there can be. All have met before the first entry is made; of the run no more than its beginning is asked for.
 #[test]
 fn sixty_four_workers_meet(rt: HostRuntime) -> Result<(), Fail> {
-    let met = all_meet(&rt, rt.alloc(), sixty_three(), 1, 64, Status::Entries)?;
+    let asked = Asked::Journal { entries: 1 };
+    let met = all_meet(&rt, rt.alloc(), sixty_three(), asked, 64, Status::Entries)?;
     assert!(rt; met);
     Ok(())
 }
