@@ -41,7 +41,7 @@ pub struct Specifiers {
 }
 
 /// A unary operator (C99 6.5.3.3).
-#[derive(Clone, Copy, PartialEq, Eq)]
+#[derive(Clone, Copy)]
 pub enum UnaryOperator {
     Plus,
     Minus,
@@ -52,7 +52,7 @@ pub enum UnaryOperator {
 }
 
 /// A binary operator, `&&` and `||` among them.
-#[derive(Clone, Copy, PartialEq, Eq)]
+#[derive(Clone, Copy)]
 pub enum BinaryOperator {
     /// `||`
     LogicalOr,

@@ -3,7 +3,7 @@
 use c_token::{Keyword, Punctuator};
 
 /// A token with one spelling, or the end of the text.
-#[derive(Clone, Copy, PartialEq, Eq)]
+#[derive(Clone, Copy)]
 pub enum Sign {
     Word(Keyword),
     Mark(Punctuator),

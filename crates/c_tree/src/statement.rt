@@ -5,14 +5,14 @@ use crate::expression::{BinaryOperator, Call, Expression, Place, Pointer};
 use sqlite_items::{Boxed, Items};
 
 /// `=`, or a compound assignment by its binary operator.
-#[derive(Clone, Copy, PartialEq, Eq)]
+#[derive(Clone, Copy)]
 pub enum AssignmentOperator {
     Set,
     Compound(BinaryOperator),
 }
 
 /// Up for `++`, down for `--`.
-#[derive(Clone, Copy, PartialEq, Eq)]
+#[derive(Clone, Copy)]
 pub enum Direction {
     Up,
     Down,
