@@ -3,7 +3,7 @@
 
 ghost use Rattle.std.specs.Prelude.{◌≡◌, ◌+◌, ◌*◌, ◌^◌, ◌<◌, ◌≤◌, [], ◌∷◌, ◌++◌, true, length, IfOk, OnOk};
 ghost use Rattle.verilog_tree.specs.Spelling.{is_name};
-ghost use Rattle.circuit.specs.Rows.{stem_of, name_of, operand_at, source_at, is_output, signal_at, row_signals, laid, spread, EachOf, IsSmallOperand, IsSmallForm, IsSmallRow, set_at, sets};
+ghost use Rattle.circuit.specs.Rows.{stem_of, name_of, operand_at, source_at, is_output, signal_at, row_signals, laid, EachOf, IsSmallOperand, IsSmallForm, IsSmallRow, set_at, sets};
 
 use netlist::netlist::{Action, Effect, Signal, Source, Value};
 use sqlite_items::Items;
@@ -12,7 +12,7 @@ use verilog_tree::name::Identifier;
 use verilog_tree::tree::BinaryOperator;
 
 /// What a signal is for.
-#[derive(Clone, Copy, PartialEq, Eq)]
+#[derive(Clone, Copy)]
 pub enum Role {
     /// The input `clk`.
     Clock,
@@ -78,7 +78,7 @@ impl Role {
 
 /// A signal that a row's signal of some number reads: that of the same number in a row that starts at a place, always
 /// the one at a place, or that of the number's group, where so many numbers make a group.
-#[derive(Clone, Copy, PartialEq, Eq)]
+#[derive(Clone, Copy)]
 pub enum Operand {
     Each { first: usize },
     Fixed { place: usize },
@@ -100,7 +100,7 @@ impl Operand {
 }
 
 /// What gives a row's signals their numbers.
-#[derive(Clone, Copy, PartialEq, Eq)]
+#[derive(Clone, Copy)]
 pub enum Form {
     Input,
     /// A register, with its initial constant.
@@ -187,7 +187,7 @@ impl Form {
 }
 
 /// One signal, or one for each number below a count, of `width` bits.
-#[derive(Clone, Copy, PartialEq, Eq)]
+#[derive(Clone, Copy)]
 pub enum Row {
     One {
         role: Role,
@@ -208,21 +208,13 @@ pub fn lay(alloc: Global, rows: &[Row]) -> Result<Items<Signal>, AllocError>
     ensures { IfOk result (λ signals. signals ≡ laid 0 rows.now) }
 {
     let mut signals = Items::new(alloc);
-    lay_on(alloc, &mut signals, rows)?;
+    for (i, row) in rows.iter().enumerate() {
+        lay_row(alloc, &mut signals, *row)?;
+    }
     Ok(signals)
 }
 
-/// The signals of a table, behind those that stand there.
-pub fn lay_on(alloc: Global, signals: &mut Items<Signal>, rows: &[Row]) -> Result<(), AllocError>
-    requires small { EachOf IsSmallRow rows.now }
-    ensures { OnOk result (signals.new ≡ signals.old ++ laid (length signals.old) rows.now) }
-{
-    for (i, row) in rows.iter().enumerate() {
-        lay_row(alloc, signals, *row)?;
-    }
-    Ok(())
-}
-
+/// The signals of a row, behind those that stand there.
 fn lay_row(alloc: Global, signals: &mut Items<Signal>, row: Row) -> Result<(), AllocError>
     requires small { IsSmallRow row }
     ensures { OnOk result (signals.new ≡ signals.old ++ row_signals (length signals.old) row) }
@@ -234,26 +226,13 @@ fn lay_row(alloc: Global, signals: &mut Items<Signal>, row: Row) -> Result<(), A
             role,
             width,
             form,
-        } => lay_each(alloc, signals, count, role, width, form),
+        } => {
+            for number in 0..count {
+                lay_signal(alloc, signals, role, width, form, number)?;
+            }
+            Ok(())
+        }
     }
-}
-
-fn lay_each(
-    alloc: Global,
-    signals: &mut Items<Signal>,
-    count: usize,
-    role: Role,
-    width: u64,
-    form: Form,
-) -> Result<(), AllocError>
-    requires small { IsSmallForm form }
-    requires few { count < 2 ^ 32 }
-    ensures { OnOk result (signals.new ≡ signals.old ++ spread (λ k. signal_at (length signals.old + k) role width form k) 0 count) }
-{
-    for number in 0..count {
-        lay_signal(alloc, signals, role, width, form, number)?;
-    }
-    Ok(())
 }
 
 fn lay_signal(

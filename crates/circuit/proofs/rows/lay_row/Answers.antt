@@ -2,13 +2,13 @@ use Rattle.std.proofs.Common.{◌≡◌, ℕ, ◌+◌, ◌++◌, [], ◌∷◌, 
 use Rattle.netlist.specs.declared.netlist.Signal.{Signal}
 use Rattle.circuit.specs.Rows.{spread, signal_at}
 use Rattle.circuit.proofs.Growth.{row_grows, length-spread}
-use Rattle.circuit.proofs.rows.lay_each.Goals as goal
+use Rattle.circuit.proofs.rows.lay_row.Goals as goal
 
 pub loop-number-preserved : goal.loop-number-preserved
 loop-number-preserved c =
     let before = c.args.signals.now in
-    let f : ℕ → Signal = λ k. signal_at (length before + k) c.args.role c.args.width c.args.form k in
+    let f : ℕ → Signal = λ k. signal_at (length before + k) c.in-Each.role c.in-Each.width c.in-Each.form k in
     let n : length c.loop-number.signals ≡ length before + c.loop-number.number =
     ap length c.loop-number.invariant ∙ length-append before (spread f 0 c.loop-number.number) ∙ ap (λ x. length before + x) (length-spread f 0 c.loop-number.number) in
-    row_grows before c.loop-number.signals c.lay_signal.new.signals c.loop-number.number f c.loop-number.invariant
-    (c.in_ok-lay_signal.ensures ∙ ap (λ x. c.loop-number.signals ++ signal_at x c.args.role c.args.width c.args.form c.loop-number.number ∷ []) n)
+    row_grows before c.loop-number.signals c.lay_signal-in-loop-number.new.signals c.loop-number.number f c.loop-number.invariant
+    (c.in_ok-lay_signal-in-Each.ensures ∙ ap (λ x. c.loop-number.signals ++ signal_at x c.in-Each.role c.in-Each.width c.in-Each.form c.loop-number.number ∷ []) n)
