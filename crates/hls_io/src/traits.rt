@@ -8,7 +8,7 @@ ghost use Rattle.hls_io.specs.Moves.{TakesSome};
 use thiserror::Error;
 
 /// A read or a write that failed. The object's count of faults rose in that call.
-#[derive(Clone, Copy, Debug, PartialEq, Eq, Error)]
+#[derive(Clone, Copy, Debug, Error)]
 #[error("the stream failed")]
 pub struct Failed;
 
