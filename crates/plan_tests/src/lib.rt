@@ -1,6 +1,6 @@
 //! Tests of the layers of the planner and of what is laid out by its plans: starts, packed rows, the table of a block, its units and
-//! registers, stages that are dropped, the plan of a code, plans side by side, those of a program, and the module of a thread. They
-//! stand in a crate of their own, since a crate with tests is proved twice.
+//! registers, stages that are dropped, the plan of a code, plans side by side, and the module of a thread. They stand in a crate of
+//! their own, since a crate with tests is proved twice, and call nothing of the front end, so that little is linked to them.
 #![tactic(auto)]
 
 #[cfg(test)]
@@ -11,8 +11,6 @@ mod dropped;
 mod packings;
 #[cfg(test)]
 mod plans;
-#[cfg(test)]
-mod programs;
 #[cfg(test)]
 mod schedules;
 #[cfg(test)]
