@@ -14,16 +14,6 @@ fn has(marks: &[bool], function: usize) -> bool
     marks.get(function).copied().unwrap_or(false)
 }
 
-/// What the function calls.
-fn row(rows: &[Items<usize>], function: usize) -> &[usize]
-    ensures { result.now ≡ spec.row rows.now function }
-{
-    match rows.get(function) {
-        Some(row) => row.as_slice(),
-        None => &[],
-    }
-}
-
 /// Marks on the functions that are found, and these in the order in which they are found.
 #[derive(Drop)]
 pub struct Search {
@@ -32,30 +22,11 @@ pub struct Search {
 }
 
 impl Search {
-    /// No function is found.
-    fn new(alloc: Global, functions: usize) -> Result<Search, AllocError>
-        ensures { IfOk result (λ s. s ≡ spec.begun functions) }
-    {
-        let marks = vec![in alloc; false; functions]?;
-        Ok(Search {
-            marks: Items::from_vec(marks),
-            found: Items::new(alloc),
-        })
-    }
-
-    /// Whether it is one of the functions, and not found yet.
-    fn is_new(&self, function: usize) -> bool
-        ensures value { result ≡ spec.is_new self.now function }
-        ensures inside { result ≡ true → function < length self.now.marks }
-    {
-        function < self.marks.len() && !has(self.marks.as_slice(), function)
-    }
-
-    /// The function is found.
+    /// The function is found, where it is one of them and not found yet.
     fn mark(&mut self, function: usize) -> Result<(), AllocError>
         ensures { OnOk result (self.new ≡ spec.marking self.old function) }
     {
-        if self.is_new(function) {
+        if function < self.marks.len() && !has(self.marks.as_slice(), function) {
             self.marks.set(function, true);
             self.found.push(function)?;
         }
@@ -77,7 +48,10 @@ impl Search {
         ensures { OnOk result (self.new ≡ spec.turn rows.now self.old index) }
     {
         match self.found.get(index).copied() {
-            Some(function) => self.follow(row(rows, function)),
+            Some(function) => match rows.get(function) {
+                Some(row) => self.follow(row.as_slice()),
+                None => Ok(()),
+            },
             None => Ok(()),
         }
     }
@@ -87,20 +61,16 @@ impl Search {
 fn search_from(alloc: Global, rows: &[Items<usize>], root: usize) -> Result<Search, AllocError>
     ensures { IfOk result (λ s. s ≡ spec.searched rows.now root) }
 {
-    let mut search = Search::new(alloc, rows.len())?;
+    let marks = vec![in alloc; false; rows.len()]?;
+    let mut search = Search {
+        marks: Items::from_vec(marks),
+        found: Items::new(alloc),
+    };
     search.mark(root)?;
     for index in 0..rows.len() {
         search.turn(rows, index)?;
     }
     Ok(search)
-}
-
-/// The functions that calls lead to.
-fn reached(alloc: Global, rows: &[Items<usize>], root: usize) -> Result<Items<bool>, AllocError>
-    ensures { IfOk result (λ marks. marks ≡ spec.marks_from rows.now root) }
-{
-    let search = search_from(alloc, rows, root)?;
-    Ok(search.marks)
 }
 
 /// For each two functions whether calls lead from one to the other, or they are the same.
@@ -121,38 +91,15 @@ impl Reach {
     }
 }
 
-/// The functions that calls lead to from each of so many functions.
-fn all_reached(
-    alloc: Global,
-    rows: &[Items<usize>],
-    functions: usize,
-) -> Result<Items<Items<bool>>, AllocError>
-    ensures { IfOk result (λ marks. marks ≡ spec.all_marks rows.now functions) }
-{
-    let mut marks = Items::new(alloc);
-    for root in 0..functions {
-        let row = reached(alloc, rows, root)?;
-        marks.push(row)?;
-    }
-    Ok(marks)
-}
-
-/// The functions that these calls lead to from each of so many functions.
-fn marks_of(
-    alloc: Global,
-    functions: usize,
-    calls: &[Call],
-) -> Result<Items<Items<bool>>, AllocError>
-    ensures { IfOk result (λ marks. marks ≡ spec.all_marks (spec.table calls.now functions) functions) }
-{
-    let table = table(alloc, functions, calls)?;
-    all_reached(alloc, table.as_slice(), functions)
-}
-
 /// Which functions calls lead to, of so many.
 pub fn reach_of(alloc: Global, functions: usize, calls: &[Call]) -> Result<Reach, AllocError>
     ensures { IfOk result (λ r. IsReach functions calls.now r.rows) }
 {
-    let rows = marks_of(alloc, functions, calls)?;
+    let table = table(alloc, functions, calls)?;
+    let mut rows = Items::new(alloc);
+    for root in 0..functions {
+        let search = search_from(alloc, table.as_slice(), root)?;
+        rows.push(search.marks)?;
+    }
     Ok(Reach { rows })
 }

@@ -1,6 +1,6 @@
 // The calls of each function.
 
-ghost use Rattle.std.specs.Prelude.{◌≡◌, IfOk, OnOk};
+ghost use Rattle.std.specs.Prelude.{◌≡◌, IfOk};
 ghost use Rattle.call_graph.specs.Graphs as spec;
 
 use sqlite_items::Items;
@@ -13,23 +13,15 @@ pub struct Call {
     pub callee: u32,
 }
 
-/// Adds what the call calls, if it is one of the function.
-fn add_callee(callees: &mut Items<usize>, function: usize, call: Call) -> Result<(), AllocError>
-    ensures { OnOk result (callees.new ≡ spec.with_call function callees.old call) }
-{
-    if call.caller as usize == function {
-        callees.push(call.callee as usize)?;
-    }
-    Ok(())
-}
-
 /// The functions that one calls, once for each call.
 fn callees(alloc: Global, calls: &[Call], function: usize) -> Result<Items<usize>, AllocError>
     ensures { IfOk result (λ l. l ≡ spec.callees calls.now function) }
 {
     let mut callees = Items::new(alloc);
     for call in calls {
-        add_callee(&mut callees, function, *call)?;
+        if call.caller as usize == function {
+            callees.push(call.callee as usize)?;
+        }
     }
     Ok(callees)
 }
