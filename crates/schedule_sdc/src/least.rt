@@ -21,18 +21,9 @@ pub fn solve(alloc: Global, places: usize, list: &[Constraint]) -> Result<Solved
 {
     let mut ordered = Vec::from_slice(alloc, list)?;
     ordered.sort_by_key(|c| c.from)?;
-    solve_in_order(alloc, places, &ordered)
-}
-
-// The same, by the constraints in the order in which they are listed.
-fn solve_in_order(alloc: Global, places: usize, list: &[Constraint]) -> Result<Solved, AllocError>
-    requires places { All (IsWithin places) list.now }
-    requires fits { FitsIfSolvable places list.now }
-    ensures { IfOk result (IsAnswer places list.now) }
-{
-    match settle(alloc, places, list)? {
+    match settle(alloc, places, &ordered)? {
         Some(starts) => Ok(Solved::Starts(starts)),
-        None => solve_with_history(alloc, places, list),
+        None => solve_with_history(alloc, places, &ordered),
     }
 }
 

@@ -1,4 +1,4 @@
-use Rattle.std.proofs.Common.{◌≡◌, ◌++◌, ◌∷◌, [], arith, rules}
+use Rattle.std.proofs.Common.{◌≡◌, ◌++◌, ◌∷◌, [], arith}
 use Rattle.schedule_sdc.specs.History.{at}
 use Rattle.schedule_sdc.proofs.Back.{given_at, behind_before, further, closed, begun}
 use Rattle.schedule_sdc.proofs.cycle.places_between.Goals as goal
@@ -17,7 +17,7 @@ loop-here-preserved c =
     let n = c.requires.history.1 in
     let history = c.requires.history.2 in
     let gv = given_at list n c.args.steps.now history _ c.loop-here.invariant.within c.args.ends.earlier c.loop-here-test.true b.0 b.1 in
-    let items : c.push-in-loop-here.new.self.items ≡ c.loop-here.walk.items ++ (at c.args.steps.now (at c.args.steps.now c.loop-here.here).before).place ∷ [] = search rules in
+    let items : c.push-in-loop-here.new.self.items ≡ c.loop-here.walk.items ++ (at c.args.steps.now (at c.args.steps.now c.loop-here.here).before).place ∷ [] = c.in_ok-push-2.ensures.items in
     record {
       within = omega (arith, gv.earlier, c.loop-here.invariant.within);
       behind = behind_before list n c.args.steps.now history _ c.loop-here.invariant.within c.args.ends.earlier c.loop-here-test.true b.0 b.1;
@@ -32,7 +32,7 @@ pub loop-here-init : goal.loop-here-init
 loop-here-init c =
     let n = c.requires.history.1 in
     let r = c.requires.ends in
-    let items : c.push.new.self.items ≡ (at c.args.steps.now c.args.ends.later).place ∷ [] = search rules in
+    let items : c.push.new.self.items ≡ (at c.args.steps.now c.args.ends.later).place ∷ [] = rw c.new-walk.ensures.items at c.in_ok-push.ensures.items in
     record { within = r.within; behind = (r.count, r.behind); walk = λ other m h. begun other c.args.steps.now c.args.ends.later _ items }
 
 pub loop-here-smaller : goal.loop-here-smaller

@@ -32,7 +32,8 @@ returns-then-from-places-clause-sound c =
     let r = all_read _ _ _ _ _ c.requires.sound c.requires.shallow _ c.requires.listed c.requires.places _ c.index-before.ensures _ c.index-from.ensures _ c.index.ensures in
     let lt : c.index.result.now < c.in-Some.start = omega (arith, c.in-Some.ensures.later) in
     let top : c.len-top.result ≡ length c.args.steps.now.items = c.len-top.ensures ∙ c.args.steps.now.ok.0 in
-    let items : c.push.new.self.items ≡ c.args.steps.now.items ++ step_to c.args.c.now.to c.index-before.result.now (c.index-from.result.now.depth + 1) c.in-Some.start ∷ [] = c.in_ok-push.ensures.items in
+    let pushed = step_to c.args.c.now.to c.index-before.result.now (c.index-from.result.now.depth + 1) c.in-Some.start in
+    let items : c.push.new.self.items ≡ c.args.steps.now.items ++ pushed ∷ [] = c.in_ok-push.ensures.items in
     let sum : pos c.index-from.result.now.start +ℤ c.args.c.now.gap ≡ pos c.in-Some.start = omega (arith, ints, c.in-Some.ensures.later) in
     rose_sound _ _ _ _ _ c.requires.sound c.requires.shallow _ c.requires.listed _ _ _ r _ _ _ lt c.in-Some.ensures.near sum top items
 
@@ -41,7 +42,8 @@ returns-else-from-places-clause-sound c =
     let r = all_read _ _ _ _ _ c.requires.sound c.requires.shallow _ c.requires.listed c.requires.places _ c.index-before.ensures _ c.index-from.ensures _ c.index.ensures in
     let lt : c.index.result.now < c.in-Some.start = omega (arith, c.in-Some.ensures.later) in
     let top : c.len-top.result ≡ length c.args.steps.now.items = c.len-top.ensures ∙ c.args.steps.now.ok.0 in
-    let items : c.push.new.self.items ≡ c.args.steps.now.items ++ step_to c.args.c.now.to c.index-before.result.now (c.index-from.result.now.depth + 1) c.in-Some.start ∷ [] = c.in_ok-push.ensures.items in
+    let pushed = step_to c.args.c.now.to c.index-before.result.now (c.index-from.result.now.depth + 1) c.in-Some.start in
+    let items : c.push.new.self.items ≡ c.args.steps.now.items ++ pushed ∷ [] = c.in_ok-push.ensures.items in
     let sum : pos c.index-from.result.now.start +ℤ c.args.c.now.gap ≡ pos c.in-Some.start = omega (arith, ints, c.in-Some.ensures.later) in
     rose_sound _ _ _ _ _ c.requires.sound c.requires.shallow _ c.requires.listed _ _ _ r _ _ _ lt c.in-Some.ensures.near sum top items
 
@@ -50,7 +52,8 @@ returns-else-from-places-clause-change c =
     let r = all_read _ _ _ _ _ c.requires.sound c.requires.shallow _ c.requires.listed c.requires.places _ c.index-before.ensures _ c.index-from.ensures _ c.index.ensures in
     let lt : c.index.result.now < c.in-Some.start = omega (arith, c.in-Some.ensures.later) in
     let top : c.len-top.result ≡ length c.args.steps.now.items = c.len-top.ensures ∙ c.args.steps.now.ok.0 in
-    let items : c.push.new.self.items ≡ c.args.steps.now.items ++ step_to c.args.c.now.to c.index-before.result.now (c.index-from.result.now.depth + 1) c.in-Some.start ∷ [] = c.in_ok-push.ensures.items in
+    let pushed = step_to c.args.c.now.to c.index-before.result.now (c.index-from.result.now.depth + 1) c.in-Some.start in
+    let items : c.push.new.self.items ≡ c.args.steps.now.items ++ pushed ∷ [] = c.in_ok-push.ensures.items in
     let sum : pos c.index-from.result.now.start +ℤ c.args.c.now.gap ≡ pos c.in-Some.start = omega (arith, ints, c.in-Some.ensures.later) in
     let d : c.index-from.result.now.depth + 1 < length c.args.starts.now.items = omega (arith, r.depth) in
     rose_change _ _ _ _ _ c.requires.sound c.requires.shallow _ c.requires.listed _ _ _ r _ _ _ lt c.in-Some.ensures.near sum top items d

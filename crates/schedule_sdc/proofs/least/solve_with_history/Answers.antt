@@ -8,7 +8,7 @@ use Rattle.schedule_sdc.proofs.least.solve_with_history.Goals as goal
 
 pub cycle_met-requires-clause-sound : goal.cycle_met-requires-clause-sound
 cycle_met-requires-clause-sound c =
-    let zeros : c.in_ok-starts.starts.items ≡ replicate c.args.places 0 = search rules in
+    let zeros : c.in_ok-starts.starts.items ≡ replicate c.args.places 0 = c.in_ok-starts.ensures.items_if_clones_equal (λ e. search rules) in
     let all : c.loop-place.place ≡ c.args.places = omega (arith, c.loop-place.auto.place-end, c.loop-place-test.false) in
     let begun : IsBegun c.args.places c.loop-place.last.items c.loop-place.steps.items = rw all at c.loop-place.invariant.begun in
     rw zeros (begun_sound _ _ _ _ begun)
@@ -21,7 +21,7 @@ cycle_met-requires-clause-shallow c =
 
 pub cycle_met-requires-clause-early : goal.cycle_met-requires-clause-early
 cycle_met-requires-clause-early c =
-    let zeros : c.in_ok-starts.starts.items ≡ replicate c.args.places 0 = search rules in
+    let zeros : c.in_ok-starts.starts.items ≡ replicate c.args.places 0 = c.in_ok-starts.ensures.items_if_clones_equal (λ e. search rules) in
     let all : c.loop-place.place ≡ c.args.places = omega (arith, c.loop-place.auto.place-end, c.loop-place-test.false) in
     let begun : IsBegun c.args.places c.loop-place.last.items c.loop-place.steps.items = rw all at c.loop-place.invariant.begun in
     rw zeros (begun_early _ _ _ _ begun)
