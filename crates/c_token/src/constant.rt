@@ -1,11 +1,11 @@
 // Constants (C99 6.4.4) and their types.
 
-ghost use Rattle.std.specs.Prelude.{◌≡◌, ◌≤◌, ◌+◌, ◌*◌, nat_le, length, drop};
+ghost use Rattle.std.specs.Prelude.{◌≡◌, ◌≤◌, ◌+◌, ◌*◌, nat_le, length};
 ghost use Rattle.std.specs.List.{find, prefix_len};
 ghost use Rattle.c_token.specs.Constants as spec;
 
 /// A type that a constant may have.
-#[derive(Clone, Copy, PartialEq, Eq)]
+#[derive(Clone, Copy)]
 pub enum ConstantType {
     /// `int`, of 32 bits.
     Int,
@@ -18,7 +18,7 @@ pub enum ConstantType {
 }
 
 /// A constant of a text: an integer, or a character, whose type is int.
-#[derive(Clone, Copy, PartialEq, Eq)]
+#[derive(Clone, Copy)]
 pub enum Constant {
     /// Its value, which is below 2 to the 64, and its type, which holds the value.
     Typed(u64, ConstantType),
@@ -27,7 +27,7 @@ pub enum Constant {
 }
 
 /// The base of an integer constant.
-#[derive(Clone, Copy, PartialEq, Eq)]
+#[derive(Clone, Copy)]
 pub enum Base {
     Decimal,
     /// Behind a first digit 0.
@@ -37,7 +37,7 @@ pub enum Base {
 }
 
 /// What stands behind the digits of an integer constant.
-#[derive(Clone, Copy, PartialEq, Eq)]
+#[derive(Clone, Copy)]
 pub struct Suffix {
     /// `u` or `U`
     pub is_unsigned: bool,
@@ -60,20 +60,6 @@ impl ConstantType {
 }
 
 impl Base {
-    /// The base of the word, and what stands behind the base's prefix.
-    fn split_prefix(word: &[u8]) -> (Base, &[u8])
-        ensures base { result.0 ≡ spec.base_of word.now }
-        ensures body { result.1.now ≡ drop (spec.prefix_length (spec.base_of word.now)) word.now }
-    {
-        if word.starts_with(b"0x") || word.starts_with(b"0X") {
-            (Base::Hexadecimal, word.split_at(2).1)
-        } else if word.starts_with(b"0") {
-            (Base::Octal, word)
-        } else {
-            (Base::Decimal, word)
-        }
-    }
-
     fn radix(self) -> u64
         ensures { result ≡ spec.radix self }
     {
@@ -231,16 +217,8 @@ fn digit_count(base: Base, body: &[u8]) -> usize
     body.iter().take_while(|b| base.is_digit(**b)).count()
 }
 
-/// The constant of these digits and this suffix.
-#[tactic(auto, using(crate::proofs::Numbers::typed_below))]
-fn with_type(base: Base, digits: &[u8], suffix: Suffix) -> Constant
-    ensures { result ≡ spec.typed (spec.types_of base suffix) (spec.number_from base 0 digits.now) }
-{
-    typed(types_of(base, suffix), number(base, digits))
-}
-
 /// The constant of the base: at least one of its digits, and a suffix.
-#[tactic(auto, unfolding(crate::specs::Constants::integer_by))]
+#[tactic(auto, unfolding(crate::specs::Constants::integer_by), using(crate::proofs::Numbers::typed_below))]
 fn integer_by(base: Base, body: &[u8]) -> Option<Constant>
     ensures { result ≡ spec.integer_by base body.now }
 {
@@ -250,7 +228,7 @@ fn integer_by(base: Base, body: &[u8]) -> Option<Constant>
     }
     let (digits, suffix) = body.split_at(len);
     let suffix = Suffix::from_spelling(suffix)?;
-    Some(with_type(base, digits, suffix))
+    Some(typed(types_of(base, suffix), number(base, digits)))
 }
 
 /// What the byte behind a backslash stands for.
@@ -268,13 +246,6 @@ fn escape_value(b: u8) -> Option<u8>
     }
 }
 
-/// Whether the byte stands for itself in a character constant.
-fn is_character_byte(b: u8) -> bool
-    ensures { result ≡ spec.is_character_byte b }
-{
-    (b' '..=b'~').contains(&b) && b != b'\'' && b != b'\\'
-}
-
 impl Constant {
     /// The character constant that the word spells, from quote to quote; its type is int. None where it spells none.
     #[tactic(auto, unfolding(crate::specs::Constants::character_of))]
@@ -283,7 +254,8 @@ impl Constant {
     {
         let value = match word {
             [b'\'', b'\\', escape, b'\''] => escape_value(*escape)?,
-            [b'\'', b, b'\''] if is_character_byte(*b) => *b,
+            // 0x20 to 0x7E, but for the quote and the backslash
+            [b'\'', b @ b' '..=b'~', b'\''] if *b != b'\'' && *b != b'\\' => *b,
             _ => return None,
         };
         Some(Constant::Typed(u64::from(value), ConstantType::Int))
@@ -294,7 +266,12 @@ impl Constant {
     pub fn from_integer(word: &[u8]) -> Option<Constant>
         ensures { result ≡ spec.integer_of word.now }
     {
-        let (base, body) = Base::split_prefix(word);
-        integer_by(base, body)
+        if word.starts_with(b"0x") || word.starts_with(b"0X") {
+            integer_by(Base::Hexadecimal, word.split_at(2).1)
+        } else if word.starts_with(b"0") {
+            integer_by(Base::Octal, word)
+        } else {
+            integer_by(Base::Decimal, word)
+        }
     }
 }
