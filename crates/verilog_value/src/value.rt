@@ -1,41 +1,17 @@
 // The value of an expression.
 
-ghost use Rattle.std.specs.Prelude.{◌≡◌, ◌≤◌, ◌+◌, ◌*◌, ◌^◌};
+ghost use Rattle.std.specs.Prelude.{◌≡◌};
 ghost use Rattle.hls_ints.specs.Words.{word as to_word};
 ghost use Rattle.circuit.specs.Readings.{joined as joined_parts};
-ghost use Rattle.verilog_value.specs.Value.{EachOf, IsNarrow, IsWideName, module_of, places, reading_of, standing_for, value_of, width_at};
+ghost use Rattle.verilog_value.specs.Value.{EachOf, IsNarrow, IsWideName, module_of, places, reading_of, value_of};
 ghost use Rattle.verilog_value.specs.Condition.{IsRightSide};
 
 use crate::operators::{beside, binary, divided, repeated, selected, signed_divided};
-use crate::place::{memory_place, number, signal_place, width_of, word};
+use crate::place::{memory_among, number_named, width_named, word};
 use crate::valuation::Valuation;
 use hls_ints::{v_not, v_sar, v_sless};
 use verilog_tree::name::Identifier;
 use verilog_tree::tree::Expression;
-
-fn number_named(valuation: &Valuation, name: &Identifier) -> u64
-    ensures { result ≡ (reading_of valuation.now).signal (standing_for valuation.now name.now) }
-{
-    number(valuation, signal_place(valuation, name))
-}
-
-fn width_named(valuation: &Valuation, name: &Identifier) -> u32
-    requires { IsWideName valuation.now name.now }
-    ensures result { result ≡ width_at valuation.now name.now }
-    ensures low { 1 ≤ result }
-    ensures high { result ≤ 64 }
-{
-    width_of(valuation, signal_place(valuation, name))
-}
-
-/// The number of a name behind what stands above it.
-fn behind(valuation: &Valuation, above: u64, name: &Identifier) -> u64
-    requires { IsWideName valuation.now name.now }
-    ensures { result ≡ to_word 64 (above * 2 ^ width_at valuation.now name.now + (reading_of valuation.now).signal (standing_for valuation.now name.now)) }
-{
-    let number = number_named(valuation, name);
-    beside(above, width_named(valuation, name), number)
-}
 
 fn joined(valuation: &Valuation, parts: &[Identifier]) -> u64
     requires { EachOf (IsWideName valuation.now) parts.now }
@@ -43,7 +19,9 @@ fn joined(valuation: &Valuation, parts: &[Identifier]) -> u64
 {
     let mut above = 0;
     for number in 0..parts.len() {
-        above = behind(valuation, above, &parts[number]);
+        let part = &parts[number];
+        let width = width_named(valuation, part);
+        above = beside(above, width, number_named(valuation, part));
     }
     above
 }
@@ -126,7 +104,7 @@ fn word_of(expression: &Expression, valuation: &Valuation) -> u64
             address,
             ..
         } => {
-            let place = memory_place(valuation, memory);
+            let place = memory_among(valuation.memories.as_slice(), memory);
             word(valuation, place, number_named(valuation, address))
         }
         Expression::BitSelect { of, bit } => selected(number_named(valuation, of), *bit, *bit),

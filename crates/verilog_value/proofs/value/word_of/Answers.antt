@@ -9,4 +9,4 @@ pub joined-requires : goal.joined-requires
 joined-requires c =
     let v = c.args.valuation.now in
     let wide = subst (λ (e : Expression). EachOf (IsWide v) (operands (fused v e))) c.in-Concatenation.is c.requires.wide in
-    subst (EachOf (IsWideName v)) (sym c.as_slice.ensures) (wide_parts v c.in-Concatenation.parts wide)
+    subst (EachOf (IsWideName v)) (sym c.as_slice-in-Concatenation.ensures) (wide_parts v c.in-Concatenation.parts wide)
