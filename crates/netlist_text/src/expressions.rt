@@ -4,42 +4,22 @@ ghost use Rattle.std.specs.Prelude.{◌≡◌, IfOk};
 ghost use Rattle.netlist_text.specs.LaidOut as laid;
 ghost use Rattle.netlist.specs.declared.netlist.Value.TheVariants as v;
 
-use crate::names::{memory_name, signal_name, signal_names, signal_width, word_count};
+use crate::names::{memory_name, signal_name, signal_names, word_count};
 use netlist::netlist::{Module, Value};
 use std::alloc::{AllocError, Global};
+use verilog_tree::name::Identifier;
 use verilog_tree::tree::{BinaryOperator, Constant, DivisionOperator, Expression};
 
-fn binary(
+fn two_names(
     parent: &Module,
-    operator: BinaryOperator,
     left: usize,
     right: usize,
-) -> Result<Expression, AllocError>
-    ensures { IfOk result (λ e. e ≡ laid.expression parent.now 0 (v.Binary operator left right)) }
+) -> Result<(Identifier, Identifier), AllocError>
+    ensures { IfOk result (λ both. both ≡ (laid.signal_name parent.now left, laid.signal_name parent.now right)) }
 {
     let left = signal_name(parent, left)?;
     let right = signal_name(parent, right)?;
-    Ok(Expression::Binary {
-        operator,
-        left,
-        right,
-    })
-}
-
-fn signed_less(parent: &Module, left: usize, right: usize) -> Result<Expression, AllocError>
-    ensures { IfOk result (λ e. e ≡ laid.expression parent.now 0 (v.SignedLess left right)) }
-{
-    let left = signal_name(parent, left)?;
-    let right = signal_name(parent, right)?;
-    Ok(Expression::SignedLess { left, right })
-}
-
-fn arithmetic_shift(parent: &Module, left: usize, right: usize) -> Result<Expression, AllocError>
-    ensures { IfOk result (λ e. e ≡ laid.expression parent.now 0 (v.ArithmeticShiftRight left right)) }
-{
-    let left = signal_name(parent, left)?;
-    let right = signal_name(parent, right)?;
-    Ok(Expression::ArithmeticShiftRight { left, right })
+    Ok((left, right))
 }
 
 fn conditional(
@@ -60,13 +40,6 @@ fn conditional(
     })
 }
 
-/// 0 of a width.
-fn zero(width: u64) -> Constant
-    ensures { result ≡ laid.sized width 0 }
-{
-    Constant { width, value: 0 }
-}
-
 fn division(
     parent: &Module,
     width: u64,
@@ -76,13 +49,14 @@ fn division(
 ) -> Result<Expression, AllocError>
     ensures { IfOk result (λ e. e ≡ laid.expression parent.now width (v.Division operator left right)) }
 {
+    let zero = Constant { width, value: 0 };
     let tested = signal_name(parent, right)?;
     let left = signal_name(parent, left)?;
     let right = signal_name(parent, right)?;
     Ok(Expression::Division {
         tested,
-        zero: zero(width),
-        guarded: zero(width),
+        zero,
+        guarded: zero,
         operator,
         left,
         right,
@@ -98,13 +72,14 @@ fn signed_division(
 ) -> Result<Expression, AllocError>
     ensures { IfOk result (λ e. e ≡ laid.expression parent.now width (v.SignedDivision operator left right)) }
 {
+    let zero = Constant { width, value: 0 };
     let tested = signal_name(parent, right)?;
     let left = signal_name(parent, left)?;
     let right = signal_name(parent, right)?;
     Ok(Expression::SignedDivision {
         tested,
-        zero: zero(width),
-        guarded: zero(width),
+        zero,
+        guarded: zero,
         operator,
         left,
         right,
@@ -121,10 +96,7 @@ fn memory_read(
     ensures { IfOk result (λ e. e ≡ laid.expression parent.now width (v.MemoryRead memory address)) }
 {
     let tested = signal_name(parent, address)?;
-    let bound = Constant {
-        width: signal_width(parent, address),
-        value: word_count(parent, memory),
-    };
+    let bound = word_count(parent, memory, address);
     let memory = memory_name(parent, memory)?;
     let address = signal_name(parent, address)?;
     Ok(Expression::MemoryRead {
@@ -132,7 +104,7 @@ fn memory_read(
         bound,
         memory,
         address,
-        guarded: zero(width),
+        guarded: Constant { width, value: 0 },
     })
 }
 
@@ -167,9 +139,22 @@ pub fn expression(
             operator,
             left,
             right,
-        } => binary(parent, *operator, *left, *right),
-        Value::SignedLess { left, right } => signed_less(parent, *left, *right),
-        Value::ArithmeticShiftRight { left, right } => arithmetic_shift(parent, *left, *right),
+        } => {
+            let (left, right) = two_names(parent, *left, *right)?;
+            Ok(Expression::Binary {
+                operator: *operator,
+                left,
+                right,
+            })
+        }
+        Value::SignedLess { left, right } => {
+            let (left, right) = two_names(parent, *left, *right)?;
+            Ok(Expression::SignedLess { left, right })
+        }
+        Value::ArithmeticShiftRight { left, right } => {
+            let (left, right) = two_names(parent, *left, *right)?;
+            Ok(Expression::ArithmeticShiftRight { left, right })
+        }
         Value::Conditional {
             condition,
             if_true,

@@ -1,9 +1,8 @@
 // The ports and the items of a module, instances aside.
 
-ghost use Rattle.std.specs.Prelude.{◌≡◌, [], ◌∷◌, ◌++◌, if◌then◌else◌, IfOk, OnOk, map};
+ghost use Rattle.std.specs.Prelude.{◌≡◌, [], ◌∷◌, ◌++◌, IfOk, MatchOption, OnOk, map};
 ghost use Rattle.std.specs.List.{flat_map};
 ghost use Rattle.netlist_text.specs.LaidOut as laid;
-ghost use Rattle.netlist.specs.NetlistOf.{OutputPort, PlainWire, Reg};
 
 use crate::expressions::expression;
 use crate::names::high_of;
@@ -16,39 +15,15 @@ use verilog_tree::tree::{
     Always, Assign, Constant, Direction, Initial, InitialConstant, Item, Port, Register, Wire,
 };
 
-fn put_port(
-    ports: &mut Items<Port>,
-    direction: Direction,
-    signal: &Signal,
-) -> Result<(), AllocError>
-    ensures { OnOk result (ports.new ≡ ports.old ++ laid.port direction signal.now ∷ []) }
-{
-    ports.push(Port {
-        direction,
-        high: high_of(signal.width),
-        name: signal.name.clone()?,
-    })
-}
-
-/// The port of an output, where it is one.
-fn put_output(ports: &mut Items<Port>, signal: &Signal) -> Result<(), AllocError>
-    ensures { OnOk result (ports.new ≡ ports.old ++ laid.port_by signal.now (if signal.now.is_output then OutputPort else PlainWire)) }
-{
-    if signal.is_output {
-        put_port(ports, Direction::Output, signal)
-    } else {
-        Ok(())
-    }
-}
-
-fn port_of(ports: &mut Items<Port>, signal: &Signal) -> Result<(), AllocError>
-    ensures { OnOk result (ports.new ≡ ports.old ++ laid.port_of signal.now) }
+/// The direction of a signal's port, where it is one.
+fn direction_of(signal: &Signal) -> Option<Direction>
+    ensures { MatchOption result (laid.port_of signal.now ≡ []) (λ direction. laid.port_of signal.now ≡ laid.port direction signal.now ∷ []) }
 {
     match &signal.source {
-        Source::Input => put_port(ports, Direction::Input, signal),
-        Source::Register(_) => Ok(()),
-        Source::Assigned(_) => put_output(ports, signal),
-        Source::Port { .. } => put_output(ports, signal),
+        Source::Input => Some(Direction::Input),
+        Source::Register(_) => None,
+        _ if signal.is_output => Some(Direction::Output),
+        _ => None,
     }
 }
 
@@ -58,41 +33,32 @@ pub fn ports(alloc: Global, signals: &[Signal]) -> Result<Items<Port>, AllocErro
 {
     let mut ports = Items::new(alloc);
     for signal in signals {
-        port_of(&mut ports, signal)?;
+        if let Some(direction) = direction_of(signal) {
+            ports.push(Port {
+                direction,
+                high: high_of(signal.width),
+                name: signal.name.clone()?,
+            })?;
+        }
     }
     Ok(ports)
 }
 
-fn put_register(out: &mut Items<Item>, signal: &Signal) -> Result<(), AllocError>
-    ensures { OnOk result (out.new ≡ out.old ++ laid.declared_by signal.now Reg) }
-{
-    out.push(Item::Register(Register {
-        high: high_of(signal.width),
-        name: signal.name.clone()?,
-    }))
-}
-
-/// The wire of a signal that is no output.
-fn put_wire(out: &mut Items<Item>, signal: &Signal) -> Result<(), AllocError>
-    ensures { OnOk result (out.new ≡ out.old ++ laid.declared_by signal.now (if signal.now.is_output then OutputPort else PlainWire)) }
-{
-    if signal.is_output {
-        return Ok(());
-    }
-    out.push(Item::Wire(Wire {
-        high: high_of(signal.width),
-        name: signal.name.clone()?,
-    }))
-}
-
+/// The wire of a signal that is no port, or its register.
 fn declaration(out: &mut Items<Item>, signal: &Signal) -> Result<(), AllocError>
     ensures { OnOk result (out.new ≡ out.old ++ laid.declared signal.now) }
 {
     match &signal.source {
         Source::Input => Ok(()),
-        Source::Register(_) => put_register(out, signal),
-        Source::Assigned(_) => put_wire(out, signal),
-        Source::Port { .. } => put_wire(out, signal),
+        Source::Register(_) => out.push(Item::Register(Register {
+            high: high_of(signal.width),
+            name: signal.name.clone()?,
+        })),
+        _ if signal.is_output => Ok(()),
+        _ => out.push(Item::Wire(Wire {
+            high: high_of(signal.width),
+            name: signal.name.clone()?,
+        })),
     }
 }
 
@@ -119,52 +85,18 @@ pub fn memories(out: &mut Items<Item>, memories: &[Memory]) -> Result<(), AllocE
     Ok(())
 }
 
-fn assign(
-    alloc: Global,
-    out: &mut Items<Item>,
-    parent: &Module,
-    signal: &Signal,
-) -> Result<(), AllocError>
-    ensures { OnOk result (out.new ≡ out.old ++ laid.assign_of parent.now signal.now) }
-{
-    match &signal.source {
-        Source::Input => Ok(()),
-        Source::Register(_) => Ok(()),
-        Source::Assigned(value) => {
-            let target = signal.name.clone()?;
-            let value = expression(alloc, parent, signal.width, value)?;
-            out.push(Item::Assign(Assign { target, value }))
-        }
-        Source::Port { .. } => Ok(()),
-    }
-}
-
 /// The assigns, in order of their targets.
 pub fn assigns(alloc: Global, out: &mut Items<Item>, parent: &Module) -> Result<(), AllocError>
     ensures { OnOk result (out.new ≡ out.old ++ flat_map (laid.assign_of parent.now) parent.now.signals) }
 {
     for signal in parent.signals.as_slice() {
-        assign(alloc, out, parent, signal)?;
+        if let Source::Assigned(value) = &signal.source {
+            let target = signal.name.clone()?;
+            let value = expression(alloc, parent, signal.width, value)?;
+            out.push(Item::Assign(Assign { target, value }))?;
+        }
     }
     Ok(())
-}
-
-fn register_constant(out: &mut Items<InitialConstant>, signal: &Signal) -> Result<(), AllocError>
-    ensures { OnOk result (out.new ≡ out.old ++ laid.register_constant signal.now) }
-{
-    match &signal.source {
-        Source::Input => Ok(()),
-        Source::Register(value) => out.push(InitialConstant {
-            name: signal.name.clone()?,
-            word: None,
-            value: Constant {
-                width: signal.width,
-                value: *value,
-            },
-        }),
-        Source::Assigned(_) => Ok(()),
-        Source::Port { .. } => Ok(()),
-    }
 }
 
 fn register_constants(
@@ -174,34 +106,32 @@ fn register_constants(
     ensures { OnOk result (out.new ≡ out.old ++ flat_map laid.register_constant signals.now) }
 {
     for signal in signals {
-        register_constant(out, signal)?;
+        if let Source::Register(value) = &signal.source {
+            out.push(InitialConstant {
+                name: signal.name.clone()?,
+                word: None,
+                value: Constant {
+                    width: signal.width,
+                    value: *value,
+                },
+            })?;
+        }
     }
     Ok(())
-}
-
-fn word_constant(
-    out: &mut Items<InitialConstant>,
-    memory: &Memory,
-    word: usize,
-    value: u64,
-) -> Result<(), AllocError>
-    ensures { OnOk result (out.new ≡ out.old ++ laid.word_constant memory.now word value ∷ []) }
-{
-    out.push(InitialConstant {
-        name: memory.name.clone()?,
-        word: Some(word as u64),
-        value: Constant {
-            width: memory.width,
-            value,
-        },
-    })
 }
 
 fn word_constants(out: &mut Items<InitialConstant>, memory: &Memory) -> Result<(), AllocError>
     ensures { OnOk result (out.new ≡ out.old ++ laid.memory_constants memory.now) }
 {
     for (word, value) in memory.initial.as_slice().iter().enumerate() {
-        word_constant(out, memory, word, *value)?;
+        out.push(InitialConstant {
+            name: memory.name.clone()?,
+            word: Some(word as u64),
+            value: Constant {
+                width: memory.width,
+                value: *value,
+            },
+        })?;
     }
     Ok(())
 }

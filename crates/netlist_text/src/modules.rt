@@ -4,27 +4,12 @@ ghost use Rattle.std.specs.Prelude.{◌≡◌, ◌+◌, ◌-◌, ◌^◌, ◌<�
 ghost use Rattle.netlist_text.specs.LaidOut as laid;
 
 use crate::items::{always_block, assigns, declarations, initial_block, memories, ports};
-use crate::names::{module_at, signal_name};
+use crate::names::signal_name;
 use netlist::netlist::{Instance, Module};
 use sqlite_items::Items;
 use std::alloc::{AllocError, Global};
 use verilog_tree::tree;
 use verilog_tree::tree::{Connection, Item};
-
-/// `.port(signal)`
-fn tie(
-    out: &mut Items<Connection>,
-    parent: &Module,
-    of: &Module,
-    port: usize,
-    signal: usize,
-) -> Result<(), AllocError>
-    ensures { OnOk result (out.new ≡ out.old ++ laid.tie parent.now of.now port signal ∷ []) }
-{
-    let port = signal_name(of, port)?;
-    let signal = signal_name(parent, signal)?;
-    out.push(Connection { port, signal })
-}
 
 /// The ports from a place on, each at its signal.
 fn ties(
@@ -38,7 +23,9 @@ fn ties(
     ensures { OnOk result (out.new ≡ out.old ++ laid.with_places (laid.tie parent.now of.now) first signals.now) }
 {
     for (k, signal) in signals.iter().enumerate() {
-        tie(out, parent, of, first + k, *signal)?;
+        let port = signal_name(of, first + k)?;
+        let signal = signal_name(parent, *signal)?;
+        out.push(Connection { port, signal })?;
     }
     Ok(())
 }
@@ -75,7 +62,10 @@ fn instance(
 ) -> Result<Item, AllocError>
     ensures { IfOk result (λ x. x ≡ laid.instance_item modules.now parent.now instance.now) }
 {
-    let of = module_at(modules, parent, instance.of);
+    let of = match sqlite_items::at(modules, instance.of) {
+        Some(module) => module,
+        None => parent,
+    };
     let module_name = of.name.clone()?;
     let name = instance.name.clone()?;
     let connections = connections(alloc, parent, of, instance)?;
@@ -113,26 +103,16 @@ fn items(alloc: Global, modules: &[Module], parent: &Module) -> Result<Items<Ite
     Ok(items)
 }
 
-fn text_module(
-    alloc: Global,
-    modules: &[Module],
-    parent: &Module,
-) -> Result<tree::Module, AllocError>
-    ensures { IfOk result (λ m. m ≡ laid.text_of_module modules.now parent.now) }
-{
-    let name = parent.name.clone()?;
-    let ports = ports(alloc, parent.signals.as_slice())?;
-    let items = items(alloc, modules, parent)?;
-    Ok(tree::Module { name, ports, items })
-}
-
 /// The text's modules, in order.
 pub fn text_modules(alloc: Global, modules: &[Module]) -> Result<Items<tree::Module>, AllocError>
     ensures { IfOk result (λ all. all ≡ map (laid.text_of_module modules.now) modules.now) }
 {
     let mut all = Items::new(alloc);
     for module in modules {
-        all.push(text_module(alloc, modules, module)?)?;
+        let name = module.name.clone()?;
+        let ports = ports(alloc, module.signals.as_slice())?;
+        let items = items(alloc, modules, module)?;
+        all.push(tree::Module { name, ports, items })?;
     }
     Ok(all)
 }

@@ -7,6 +7,7 @@ use netlist::netlist::Module;
 use sqlite_items::Items;
 use std::alloc::{AllocError, Global};
 use verilog_tree::name::Identifier;
+use verilog_tree::tree::Constant;
 
 /// The name of a signal, or the module's where none has that place.
 pub fn signal_name(parent: &Module, place: usize) -> Result<Identifier, AllocError>
@@ -43,34 +44,19 @@ pub fn signal_names(
     Ok(names)
 }
 
-/// The width of a signal, or 0 where none has that place.
-pub fn signal_width(parent: &Module, place: usize) -> u64
-    ensures { result ≡ laid.signal_width parent.now place }
+/// The number of words of a memory as a constant of the width of an address: 0 for each of them where none has its place.
+pub fn word_count(parent: &Module, memory: usize, address: usize) -> Constant
+    ensures { result ≡ laid.sized (laid.signal_width parent.now address) (laid.words parent.now memory) }
 {
-    match parent.signals.get(place) {
+    let width = match parent.signals.get(address) {
         Some(signal) => signal.width,
         None => 0,
-    }
-}
-
-/// The number of words of a memory, or 0 where none has that place.
-pub fn word_count(parent: &Module, place: usize) -> u64
-    ensures { result ≡ laid.words parent.now place }
-{
-    match parent.memories.get(place) {
+    };
+    let value = match parent.memories.get(memory) {
         Some(memory) => memory.initial.len() as u64,
         None => 0,
-    }
-}
-
-/// The module of an instance, or the other one where none has that place.
-pub fn module_at<'a>(modules: &'a [Module], other: &'a Module, place: usize) -> &'a Module
-    ensures { result.now ≡ laid.module_at modules.now other.now place }
-{
-    match sqlite_items::at(modules, place) {
-        Some(module) => module,
-        None => other,
-    }
+    };
+    Constant { width, value }
 }
 
 /// The first number of a range, which a signal of one bit does not have.

@@ -2,14 +2,12 @@
 
 ghost use Rattle.std.specs.Prelude.{◌≡◌, [], ◌∷◌, IfOk, map};
 ghost use Rattle.netlist_text.specs.LaidOut as laid;
-ghost use Rattle.netlist.specs.declared.netlist.Effect.TheVariants as effect;
 ghost use Rattle.verilog_tree.specs.declared.tree.Statement.TheVariants as s;
 
 use crate::names::{memory_name, signal_name};
 use netlist::netlist::{Argument, Effect, Module};
 use sqlite_items::Items;
 use std::alloc::{AllocError, Global};
-use verilog_tree::name::Quoted;
 use verilog_tree::tree::{Statement, WriteArgument};
 
 fn argument(parent: &Module, argument: Argument) -> Result<WriteArgument, AllocError>
@@ -35,45 +33,6 @@ fn arguments(
     Ok(all)
 }
 
-fn set(parent: &Module, register: usize, source: usize) -> Result<Statement, AllocError>
-    ensures { IfOk result (λ x. x ≡ laid.effect_statement parent.now (effect.Set register source)) }
-{
-    let register = signal_name(parent, register)?;
-    let source = signal_name(parent, source)?;
-    Ok(Statement::Set { register, source })
-}
-
-fn store(
-    parent: &Module,
-    memory: usize,
-    address: usize,
-    source: usize,
-) -> Result<Statement, AllocError>
-    ensures { IfOk result (λ x. x ≡ laid.effect_statement parent.now (effect.Store memory address source)) }
-{
-    let memory = memory_name(parent, memory)?;
-    let address = signal_name(parent, address)?;
-    let source = signal_name(parent, source)?;
-    Ok(Statement::Store {
-        memory,
-        address,
-        source,
-    })
-}
-
-fn print(
-    alloc: Global,
-    parent: &Module,
-    text: &Quoted,
-    values: &Items<Argument>,
-) -> Result<Statement, AllocError>
-    ensures { IfOk result (λ x. x ≡ laid.effect_statement parent.now (effect.Write text.now values.now)) }
-{
-    let text = text.clone()?;
-    let arguments = arguments(alloc, parent, values.as_slice())?;
-    Ok(Statement::Write { text, arguments })
-}
-
 fn effect_statement(
     alloc: Global,
     parent: &Module,
@@ -82,13 +41,33 @@ fn effect_statement(
     ensures { IfOk result (λ x. x ≡ laid.effect_statement parent.now effect.now) }
 {
     match effect {
-        Effect::Set { register, source } => set(parent, *register, *source),
+        Effect::Set { register, source } => {
+            let register = signal_name(parent, *register)?;
+            let source = signal_name(parent, *source)?;
+            Ok(Statement::Set { register, source })
+        }
         Effect::Store {
             memory,
             address,
             source,
-        } => store(parent, *memory, *address, *source),
-        Effect::Write { text, arguments } => print(alloc, parent, text, arguments),
+        } => {
+            let memory = memory_name(parent, *memory)?;
+            let address = signal_name(parent, *address)?;
+            let source = signal_name(parent, *source)?;
+            Ok(Statement::Store {
+                memory,
+                address,
+                source,
+            })
+        }
+        Effect::Write {
+            text,
+            arguments: values,
+        } => {
+            let text = text.clone()?;
+            let arguments = arguments(alloc, parent, values.as_slice())?;
+            Ok(Statement::Write { text, arguments })
+        }
     }
 }
 
