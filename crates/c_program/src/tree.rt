@@ -23,7 +23,7 @@ pub enum UnaryOperator {
 }
 
 /// A binary operator without short circuit (C99 6.5.5 to 6.5.12).
-#[derive(Clone, Copy, PartialEq, Eq)]
+#[derive(Clone, Copy)]
 pub enum BinaryOperator {
     Multiply,
     Divide,
@@ -141,14 +141,14 @@ pub enum Statement {
 }
 
 /// A local of a function: the type of its elements and their number, 1 of a scalar.
-#[derive(Clone, Copy, PartialEq, Eq)]
+#[derive(Clone, Copy)]
 pub struct LocalVariable {
     pub ty: CType,
     pub length: u64,
 }
 
 /// What a function returns.
-#[derive(Clone, Copy, PartialEq, Eq, Debug)]
+#[derive(Clone, Copy)]
 pub enum ReturnType {
     Void,
     Integer(CType),
@@ -179,21 +179,21 @@ pub struct GlobalVariable {
 }
 
 /// A pthread_t object: the number of its elements, and the start routine that creates name for it.
-#[derive(Clone, Copy, PartialEq, Eq)]
+#[derive(Clone, Copy)]
 pub struct ThreadObject {
     pub length: u64,
     pub routine: Option<u32>,
 }
 
 /// A pthread_mutex_t object: the number of its elements, and whether they are initialised at the start.
-#[derive(Clone, Copy, PartialEq, Eq)]
+#[derive(Clone, Copy)]
 pub struct MutexObject {
     pub length: u64,
     pub initialised: bool,
 }
 
 /// A pthread_barrier_t object: the number of its elements.
-#[derive(Clone, Copy, PartialEq, Eq)]
+#[derive(Clone, Copy)]
 pub struct BarrierObject {
     pub length: u64,
 }

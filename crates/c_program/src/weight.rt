@@ -1,13 +1,13 @@
 // The weight of a program's functions, with all that is inlined in them.
 ghost use Rattle.std.specs.Prelude.{◌≡◌, ◌+◌, ◌++◌, length, map, sum_by, IfOk};
 ghost use Rattle.c_program.specs.Plain.{expression_of, expressions_of, place_of, condition_of, right_side_of, object_place_of};
-ghost use Rattle.c_program.specs.Plain.{thread_call_of, statement_of, returned_of, function_of, program_of};
+ghost use Rattle.c_program.specs.Plain.{thread_call_of, statement_of, function_of, program_of};
 ghost use Rattle.c_program.specs.declared.weight.Node.{Node};
 ghost use Rattle.c_program.specs.Node.{node_of, node_view};
-ghost use Rattle.c_program.specs.Calls.{calls_of, calls_of_right, calls_of_returned};
+ghost use Rattle.c_program.specs.Calls.{calls_of};
 ghost use Rattle.c_program.specs.Weight.{expression_weight, expressions_weight, condition_weight, place_weight};
 ghost use Rattle.c_program.specs.Counting.{capped};
-ghost use Rattle.c_program.specs.Weight.{object_place_weight, arguments_weight, right_side_weight, returned_weight, thread_call_weight};
+ghost use Rattle.c_program.specs.Weight.{object_place_weight, arguments_weight, right_side_weight, thread_call_weight};
 ghost use Rattle.c_program.specs.Weight.{statement_weight, own_weight};
 ghost use Rattle.c_program.specs.Counting.{amount_of, number_at, IsTable};
 ghost use Rattle.c_program.specs.Limits.{own_elements};
@@ -100,15 +100,6 @@ fn of_right_side(right: &RightSide) -> u32
     }
 }
 
-fn of_returned(right: &Option<RightSide>) -> u32
-    ensures { result ≡ capped (returned_weight (returned_of right.now)) }
-{
-    match right {
-        None => 0,
-        Some(right) => of_right_side(right),
-    }
-}
-
 fn of_thread_call(call: &ThreadCall) -> u32
     ensures { result ≡ capped (thread_call_weight (thread_call_of call.now)) }
 {
@@ -156,20 +147,12 @@ fn of_statement(statement: &Statement) -> u32
                 1,
             )
         }
-        Statement::Return(_, right) => plus(of_returned(right), 1),
+        Statement::Return(_, None) => 1,
+        Statement::Return(_, Some(right)) => plus(of_right_side(right), 1),
         Statement::Call(_, _, arguments) => plus(of_arguments(arguments), 1),
         Statement::Print(_, _, arguments) => plus(of_expressions(arguments), 1),
         Statement::Thread(_, call) => plus(of_thread_call(call), 1),
     }
-}
-
-fn push_right_side(right: &RightSide, calls: &mut Vec<u32>) -> Result<(), AllocError>
-    ensures { IfOk result (λ _. calls.new.items ≡ calls.old.items ++ calls_of_right (right_side_of right.now)) }
-{
-    if let RightSide::Call(function, _) = right {
-        calls.push(*function)?;
-    }
-    Ok(())
 }
 
 /// Appends the functions that a statement calls, once for each call, in the order of the text.
@@ -193,27 +176,18 @@ pub fn push_calls(statement: &Statement, calls: &mut Vec<u32>) -> Result<(), All
             push_calls(last, calls)?;
             push_calls(body, calls)
         }
-        Statement::Assign(_, _, right) | Statement::Return(_, Some(right)) => {
-            push_right_side(right, calls)
-        }
-        Statement::Call(_, function, _) => {
+        Statement::Assign(_, _, RightSide::Call(function, _))
+        | Statement::Return(_, Some(RightSide::Call(function, _)))
+        | Statement::Call(_, function, _) => {
             calls.push(*function)?;
             Ok(())
         }
-        Statement::Done
-        | Statement::Empty
-        | Statement::Declare(_, _, _)
-        | Statement::Update(_, _, _, _, _)
-        | Statement::Break
-        | Statement::Continue
-        | Statement::Return(_, None)
-        | Statement::Print(_, _, _)
-        | Statement::Thread(_, _) => Ok(()),
+        _ => Ok(()),
     }
 }
 
 /// What of a function is counted.
-#[derive(Clone, Copy, PartialEq, Eq)]
+#[derive(Clone, Copy)]
 pub enum Amount {
     /// Its weight.
     Weight,
