@@ -4,7 +4,7 @@ ghost use Rattle.std.specs.Prelude.{◌≡◌, ℕ, ◌+◌, ◌∷◌, [], slic
 ghost use Rattle.verilog_value.specs.Readings.{is_on};
 ghost use Rattle.sim_values.specs.Flat.{Flat, flat_of, reading, stored_word, act_number, act_word, acted_numbers, acted_words};
 ghost use Rattle.sim_values.specs.Flat.{all_numbers, all_words, part_words, actions_of};
-ghost use Rattle.sim_values.specs.Stands.{children_of, kind_of, spot_of, spot_at};
+ghost use Rattle.sim_values.specs.Stands.{kind_of, spot_of, spot_at};
 
 use crate::settle::set_item;
 use crate::value::{Now, Spot, memory_size, number_at};
@@ -29,15 +29,6 @@ pub fn kind_at_root(parts: &[Part]) -> usize
     }
 }
 
-fn root_children(parts: &[Part]) -> usize
-    ensures { result ≡ children_of (slice_get parts.now 0) }
-{
-    match at(parts, 0) {
-        Some(part) => part.children,
-        None => 0,
-    }
-}
-
 fn spot_in(parts: &[Part], place: usize) -> Spot
     ensures { result ≡ spot_of (slice_get parts.now place) }
 {
@@ -54,7 +45,11 @@ fn spot_in(parts: &[Part], place: usize) -> Spot
 pub fn inner_spot(parts: &[Part], instance: usize) -> Spot
     ensures { result ≡ spot_at parts.now (instance ∷ []) }
 {
-    match root_children(parts).checked_add(instance) {
+    let children = match at(parts, 0) {
+        Some(part) => part.children,
+        None => 0,
+    };
+    match children.checked_add(instance) {
         Some(place) => spot_in(parts, place),
         None => Spot {
             base: 0,

@@ -45,22 +45,15 @@ pub struct Step {
     pub feed: Feed,
 }
 
-fn source_value(module: &Module, spot: Spot, now: &Now, source: &Source) -> u64
-    requires { IsNarrowSource module.now source.now }
-    ensures { result ≡ source_number module.now (reading spot (flat_of now.now)) source.now }
-{
-    match source {
-        Source::Assigned(value) => value_at(module, spot, now, value),
-        Source::Input | Source::Register(_) | Source::Port { .. } => 0,
-    }
-}
-
 fn signal_value(module: &Module, spot: Spot, now: &Now, signal: usize) -> u64
     requires { (s : Signal) → slice_get module.now.signals signal ≡ Some s → IsNarrowSource module.now s.source }
     ensures { result ≡ signal_number module.now (reading spot (flat_of now.now)) (slice_get module.now.signals signal) }
 {
     match at(module.signals.as_slice(), signal) {
-        Some(found) => source_value(module, spot, now, &found.source),
+        Some(found) => match &found.source {
+            Source::Assigned(value) => value_at(module, spot, now, value),
+            Source::Input | Source::Register(_) | Source::Port { .. } => 0,
+        },
         None => 0,
     }
 }

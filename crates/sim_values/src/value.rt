@@ -1,6 +1,6 @@
 // The value of a right side in one instance.
 
-ghost use Rattle.std.specs.Prelude.{◌≡◌, ◌+◌, nat_lt, if◌then◌else◌, slice_index, slice_get};
+ghost use Rattle.std.specs.Prelude.{◌≡◌, ◌+◌, slice_index, slice_get};
 ghost use Rattle.hls_ints.specs.Words.{word};
 ghost use Rattle.verilog_value.specs.Readings.{width, value as value_of, joined, memory_words};
 ghost use Rattle.sim_values.specs.Flat.{flat_of, reading, EachOf, IsWide, IsNarrow};
@@ -88,21 +88,6 @@ fn joined_at(module: &Module, spot: Spot, now: &Now, parts: &[usize]) -> u64
     above
 }
 
-fn read_at(module: &Module, spot: Spot, now: &Now, memory: usize, address: u64) -> u64
-    ensures { result ≡ (if nat_lt address (memory_words (slice_get module.now.memories memory))
-        then slice_index now.now.words.now (slice_index now.now.starts.now (spot.memories + memory) + address) else 0) }
-{
-    if address < memory_size(module, memory) {
-        word_at(
-            now.words,
-            number_at(now.starts, spot.memories, memory),
-            address,
-        )
-    } else {
-        0
-    }
-}
-
 /// The value of a right side in the instance at a spot, modulo 2 to the 64.
 pub fn value_at(module: &Module, spot: Spot, now: &Now, value: &Value) -> u64
     requires { IsNarrow module.now value.now }
@@ -169,8 +154,15 @@ pub fn value_at(module: &Module, spot: Spot, now: &Now, value: &Value) -> u64
             signed_divided(*operator, width, first, second)
         }
         Value::MemoryRead { memory, address } => {
-            let place = number_at(now.numbers, spot.base, *address);
-            read_at(module, spot, now, *memory, place)
+            let word = number_at(now.numbers, spot.base, *address);
+            if word >= memory_size(module, *memory) {
+                return 0;
+            }
+            word_at(
+                now.words,
+                number_at(now.starts, spot.memories, *memory),
+                word,
+            )
         }
         Value::Select { of, high, low } => {
             selected(number_at(now.numbers, spot.base, *of), *high, *low)
