@@ -30,29 +30,23 @@ pub enum Constancy {
     NotConstant,
 }
 
-/// The type of a constant.
-pub fn constant_type(ty: ConstantType) -> CType
-    ensures { result ≡ spec.constant_type ty }
-{
-    match ty {
-        ConstantType::Int => CType::INT,
-        ConstantType::Unsigned => CType::UNSIGNED_INT,
-        ConstantType::Long => CType::LONG,
-        ConstantType::UnsignedLong => CType::UNSIGNED_LONG,
-    }
-}
-
 /// The value of a constant; none of one that has no type.
 pub fn constant_value(constant: Constant) -> Option<Typed>
     ensures { result ≡ spec.constant_value constant }
 {
-    match constant {
-        Constant::Typed(value, ty) => Some(Typed {
-            ty: constant_type(ty),
-            number: i128::from(value),
-        }),
-        Constant::TooLarge => None,
-    }
+    let Constant::Typed(value, ty) = constant else {
+        return None;
+    };
+    let ty = match ty {
+        ConstantType::Int => CType::INT,
+        ConstantType::Unsigned => CType::UNSIGNED_INT,
+        ConstantType::Long => CType::LONG,
+        ConstantType::UnsignedLong => CType::UNSIGNED_LONG,
+    };
+    Some(Typed {
+        ty,
+        number: i128::from(value),
+    })
 }
 
 /// 1 for 0, else 0.
@@ -62,29 +56,6 @@ fn opposite(number: i128) -> i128
     if number == 0 { 1 } else { 0 }
 }
 
-/// A unary operator on a value of the type.
-fn unary_value(operator: UnaryOperator, ty: CType, a: i128) -> Option<i128>
-    requires { HasType ty a }
-    ensures { result ≡ spec.unary_value operator ty a }
-{
-    match operator {
-        UnaryOperator::Plus => Some(a),
-        UnaryOperator::Minus => c_neg(ty, a),
-        UnaryOperator::Complement => c_not(ty, a),
-        UnaryOperator::Not => Some(opposite(a)),
-    }
-}
-
-/// The type of what a unary operator gives on a value of the type.
-fn unary_type(operator: UnaryOperator, ty: CType) -> CType
-    ensures { result ≡ spec.unary_type operator ty }
-{
-    match operator {
-        UnaryOperator::Not => CType::INT,
-        UnaryOperator::Plus | UnaryOperator::Minus | UnaryOperator::Complement => ty,
-    }
-}
-
 /// The number as a constant of the type; none where a step was undefined.
 fn constant_of(ty: CType, number: Option<i128>) -> Constancy
     ensures { result ≡ spec.from_value (spec.typed_if ty number) }
@@ -92,21 +63,6 @@ fn constant_of(ty: CType, number: Option<i128>) -> Constancy
     match number {
         Some(number) => Constancy::Constant(Typed { ty, number }),
         None => Constancy::NotConstant,
-    }
-}
-
-/// The type of what an operator gives that works in the type.
-fn binary_type(operator: BinaryOperator, ty: CType) -> CType
-    ensures { result ≡ spec.binary_type operator ty }
-{
-    match operator {
-        BinaryOperator::Equal
-        | BinaryOperator::NotEqual
-        | BinaryOperator::Less
-        | BinaryOperator::Greater
-        | BinaryOperator::LessEqual
-        | BinaryOperator::GreaterEqual => CType::INT,
-        _ => ty,
     }
 }
 
@@ -121,6 +77,7 @@ fn shift_value(operator: BinaryOperator, ty: CType, a: i128, count: i128) -> Opt
     }
 }
 
+/// A shift of a value by another, each of which is promoted by itself.
 fn shift(operator: BinaryOperator, left: Typed, right: Typed) -> Constancy
     ensures { result ≡ spec.from_value (spec.shift operator left right) }
 {
@@ -164,15 +121,15 @@ fn common(operator: BinaryOperator, left: Typed, right: Typed) -> Constancy
     let ty = usual(left.ty, right.ty);
     let a = wrap(ty, left.number);
     let b = wrap(ty, right.number);
-    constant_of(binary_type(operator, ty), binary_value(operator, ty, a, b))
-}
-
-fn binary(operator: BinaryOperator, left: Typed, right: Typed) -> Constancy
-    ensures { result ≡ spec.from_value (spec.binary operator left right) }
-{
+    let number = binary_value(operator, ty, a, b);
     match operator {
-        BinaryOperator::ShiftLeft | BinaryOperator::ShiftRight => shift(operator, left, right),
-        _ => common(operator, left, right),
+        BinaryOperator::Equal
+        | BinaryOperator::NotEqual
+        | BinaryOperator::Less
+        | BinaryOperator::Greater
+        | BinaryOperator::LessEqual
+        | BinaryOperator::GreaterEqual => constant_of(CType::INT, number),
+        _ => constant_of(ty, number),
     }
 }
 
@@ -180,14 +137,16 @@ fn binary(operator: BinaryOperator, left: Typed, right: Typed) -> Constancy
 fn operated(operator: UnaryOperator, operand: Constancy) -> Constancy
     ensures { result ≡ spec.operated operator operand }
 {
-    match operand {
-        Constancy::Constant(value) => {
-            let ty = promote(value.ty);
-            let number = unary_value(operator, ty, wrap(ty, value.number));
-            constant_of(unary_type(operator, ty), number)
-        }
-        Constancy::Unknown => Constancy::Unknown,
-        Constancy::NotConstant => Constancy::NotConstant,
+    let Constancy::Constant(value) = operand else {
+        return operand;
+    };
+    let ty = promote(value.ty);
+    let a = wrap(ty, value.number);
+    match operator {
+        UnaryOperator::Plus => constant_of(ty, Some(a)),
+        UnaryOperator::Minus => constant_of(ty, c_neg(ty, a)),
+        UnaryOperator::Complement => constant_of(ty, c_not(ty, a)),
+        UnaryOperator::Not => constant_of(CType::INT, Some(opposite(a))),
     }
 }
 
@@ -203,7 +162,10 @@ fn joined(operator: BinaryOperator, left: Constancy, right: Constancy) -> Consta
     }
     match (left, right) {
         (Constancy::NotConstant, _) | (_, Constancy::NotConstant) => Constancy::NotConstant,
-        (Constancy::Constant(left), Constancy::Constant(right)) => binary(operator, left, right),
+        (Constancy::Constant(left), Constancy::Constant(right)) => match operator {
+            BinaryOperator::ShiftLeft | BinaryOperator::ShiftRight => shift(operator, left, right),
+            _ => common(operator, left, right),
+        },
         _ => Constancy::Unknown,
     }
 }
@@ -225,19 +187,7 @@ fn cast(ty: Option<BasicType>, operand: Constancy) -> Constancy
     }
 }
 
-#[cycle(constants)]
-fn terms(terms: &[Term], first: Constancy) -> Constancy
-    ensures { result ≡ fold spec.next first (map spec.term_constancy terms.now) }
-{
-    let mut value = first;
-    for term in terms {
-        value = joined(term.operator, value, constancy_of(&term.operand));
-    }
-    value
-}
-
 /// What the expression is as a constant expression, and its value.
-#[cycle(constants)]
 pub fn constancy_of(expression: &Expression) -> Constancy
     ensures { result ≡ spec.constancy expression.now }
 {
@@ -251,25 +201,17 @@ pub fn constancy_of(expression: &Expression) -> Constancy
         Form::Cast(specifiers, operand) => {
             cast(plain_integer(specifiers), constancy_of(operand.get()))
         }
-        Form::Binary(first, more) => terms(more.as_slice(), constancy_of(first.get())),
+        Form::Binary(first, more) => {
+            let mut value = constancy_of(first.get());
+            for term in more.as_slice() {
+                value = joined(term.operator, value, constancy_of(&term.operand));
+            }
+            value
+        }
     }
-}
-
-#[cycle(operators)]
-fn term_operators(terms: &[Term], first: u32) -> u32
-    ensures { result ≡ fold spec.next_operators first (map spec.term_operators terms.now) }
-{
-    let mut count = first;
-    for term in terms {
-        count = count
-            .saturating_add(operator_count(&term.operand))
-            .saturating_add(1);
-    }
-    count
 }
 
 /// How many operators and casts the expression has.
-#[cycle(operators)]
 pub fn operator_count(expression: &Expression) -> u32
     ensures { result ≡ spec.operator_count expression.now }
 {
@@ -278,8 +220,13 @@ pub fn operator_count(expression: &Expression) -> u32
         Form::Unary(_, operand) => operator_count(operand.get()).saturating_add(1),
         Form::Cast(_, operand) => operator_count(operand.get()).saturating_add(1),
         Form::Binary(first, more) => {
-            let first = operator_count(first.get());
-            term_operators(more.as_slice(), first)
+            let mut count = operator_count(first.get());
+            for term in more.as_slice() {
+                count = count
+                    .saturating_add(operator_count(&term.operand))
+                    .saturating_add(1);
+            }
+            count
         }
     }
 }

@@ -50,23 +50,13 @@ impl Rule {
 }
 
 /// A rule that is broken, and the place of that in the text.
-#[derive(Clone, Copy, PartialEq, Eq, Debug)]
+#[derive(Clone, Copy, Debug)]
 pub struct Fault {
     pub rule: Rule,
     pub offset: usize,
 }
 
-impl Fault {
-    /// Whether it is reported before the other: by place, and at one place by number.
-    fn is_before(self, other: Fault) -> bool
-        ensures { result ≡ spec.is_before self other }
-    {
-        self.offset < other.offset
-            || (self.offset == other.offset && self.rule.number() < other.rule.number())
-    }
-}
-
-/// The first of two faults.
+/// The first of two faults: by place, and at one place by number.
 #[tactic(auto, unfolding(crate::specs::Faults::first))]
 pub fn first(a: Option<Fault>, b: Option<Fault>) -> Option<Fault>
     ensures { result ≡ spec.first a b }
@@ -74,12 +64,18 @@ pub fn first(a: Option<Fault>, b: Option<Fault>) -> Option<Fault>
     match (a, b) {
         (None, b) => b,
         (Some(a), None) => Some(a),
-        (Some(a), Some(b)) => { if b.is_before(a) { Some(b) } else { Some(a) } }
+        (Some(a), Some(b)) => {
+            if b.offset < a.offset || (b.offset == a.offset && b.rule.number() < a.rule.number()) {
+                Some(b)
+            } else {
+                Some(a)
+            }
+        }
     }
 }
 
 /// Why a tree has no program.
-#[derive(Clone, Copy, PartialEq, Eq, Debug, Error)]
+#[derive(Clone, Copy, Debug, Error)]
 pub enum ResolveError {
     /// The first rule that is broken, by place and then by number.
     #[error("{0:?}")]

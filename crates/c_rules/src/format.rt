@@ -11,7 +11,6 @@ use std::alloc::{AllocError, Global};
 use std::mem;
 
 /// What stands at the front of a format as it is written.
-#[derive(Clone, Copy)]
 pub enum Part {
     Byte(u8),
     Conversion(BasicType),
@@ -31,47 +30,18 @@ fn lettered(signed: BasicType, unsigned: BasicType, text: &[u8]) -> Option<(Part
     }
 }
 
-/// What stands behind `%l`, and the rest.
-fn long(text: &[u8]) -> Option<(Part, &[u8])>
-    ensures { option_map (λ r. (r.0, r.1.now)) result ≡ spec.long text.now }
-{
-    let [byte, rest @ ..] = text else {
-        return None;
-    };
-    if *byte == b'l' {
-        lettered(BasicType::Long, BasicType::UnsignedLong, rest)
-    } else {
-        lettered(BasicType::Long, BasicType::UnsignedLong, text)
-    }
-}
-
 /// What stands behind a `%`, and the rest.
 fn conversion(text: &[u8]) -> Option<(Part, &[u8])>
     ensures { option_map (λ r. (r.0, r.1.now)) result ≡ spec.conversion text.now }
 {
-    let [byte, rest @ ..] = text else {
-        return None;
-    };
-    match *byte {
-        b'%' => Some((Part::Byte(b'%'), rest)),
-        b'l' => long(rest),
+    match text {
+        [b'%', rest @ ..] => Some((Part::Byte(b'%'), rest)),
+        [b'l', b'l', rest @ ..] | [b'l', rest @ ..] => lettered(
+            BasicType::Long,
+            BasicType::UnsignedLong,
+            rest,
+        ),
         _ => lettered(BasicType::Int, BasicType::UnsignedInt, text),
-    }
-}
-
-/// What stands behind a backslash, and the rest.
-fn escape(text: &[u8]) -> Option<(Part, &[u8])>
-    ensures { option_map (λ r. (r.0, r.1.now)) result ≡ spec.escape text.now }
-{
-    let [byte, rest @ ..] = text else {
-        return None;
-    };
-    match *byte {
-        b'n' => Some((Part::Byte(b'\n'), rest)),
-        b't' => Some((Part::Byte(b'\t'), rest)),
-        b'\\' => Some((Part::Byte(b'\\'), rest)),
-        b'"' => Some((Part::Byte(b'"'), rest)),
-        _ => None,
     }
 }
 
@@ -79,13 +49,14 @@ fn escape(text: &[u8]) -> Option<(Part, &[u8])>
 fn first_part(text: &[u8]) -> Option<(Part, &[u8])>
     ensures { option_map (λ r. (r.0, r.1.now)) result ≡ spec.first_part text.now }
 {
-    let [byte, rest @ ..] = text else {
-        return None;
-    };
-    match *byte {
-        b'\\' => escape(rest),
-        b'%' => conversion(rest),
-        _ => Some((Part::Byte(*byte), rest)),
+    match text {
+        [b'\\', b'n', rest @ ..] => Some((Part::Byte(b'\n'), rest)),
+        [b'\\', b't', rest @ ..] => Some((Part::Byte(b'\t'), rest)),
+        [b'\\', b'\\', rest @ ..] => Some((Part::Byte(b'\\'), rest)),
+        [b'\\', b'"', rest @ ..] => Some((Part::Byte(b'"'), rest)),
+        [] | [b'\\', ..] => None,
+        [b'%', rest @ ..] => conversion(rest),
+        [byte, rest @ ..] => Some((Part::Byte(*byte), rest)),
     }
 }
 

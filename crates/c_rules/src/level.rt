@@ -49,16 +49,6 @@ impl<'t> Level<'t> {
     }
 }
 
-/// The number of a definition that a name is noted with.
-fn number_in(meaning: Meaning) -> u32
-    ensures { result ≡ spec.number_in meaning }
-{
-    match meaning {
-        Meaning::Function(number) => u32::try_from(number).unwrap_or(0),
-        _ => 0,
-    }
-}
-
 /// The functions that a text defines, by their names, each with the number of its first definition: a scope of their own, so that there is one kind of
 /// table.
 pub struct Definitions<'t> {
@@ -90,7 +80,8 @@ impl<'t> Definitions<'t> {
         ensures { result ≡ spec.named_in self.now name.now }
     {
         match self.level.get(name) {
-            Some(meaning) => Some(number_in(meaning)),
+            Some(Meaning::Function(number)) => Some(u32::try_from(number).unwrap_or(0)),
+            Some(_) => Some(0),
             None => None,
         }
     }

@@ -37,7 +37,7 @@ impl LibraryFunction {
     ];
 
     /// Its name.
-    pub fn name(self) -> &'static str
+    fn name(self) -> &'static str
         ensures { result.now ≡ spec.name_of self }
     {
         match self {
@@ -55,26 +55,16 @@ impl LibraryFunction {
         }
     }
 
-    /// How many arguments it takes; printf takes any number.
-    pub fn arity(self) -> Option<usize>
-        ensures { result ≡ spec.arity self }
-    {
-        match self {
-            LibraryFunction::Print => None,
-            LibraryFunction::Create => Some(4),
-            LibraryFunction::BarrierInit => Some(3),
-            LibraryFunction::Join | LibraryFunction::MutexInit => Some(2),
-            _ => Some(1),
-        }
-    }
-
-    /// Whether it may be called with so many arguments.
+    /// Whether it may be called with so many arguments; printf takes any number.
     pub fn takes(self, count: usize) -> bool
         ensures { result ≡ spec.takes self count }
     {
-        match self.arity() {
-            None => true,
-            Some(arity) => arity == count,
+        match self {
+            LibraryFunction::Print => true,
+            LibraryFunction::Create => count == 4,
+            LibraryFunction::BarrierInit => count == 3,
+            LibraryFunction::Join | LibraryFunction::MutexInit => count == 2,
+            _ => count == 1,
         }
     }
 

@@ -65,22 +65,6 @@ pub enum Meaning {
     Unusable,
 }
 
-impl Meaning {
-    /// Whether it is a local.
-    fn is_local(self) -> bool
-        ensures { result ≡ spec.is_local self }
-    {
-        matches!(
-            self,
-            Meaning::Argument
-                | Meaning::Variable(Variable {
-                    storage: Storage::Automatic,
-                    ..
-                })
-        )
-    }
-}
-
 /// What a name stands for at a place of the text.
 #[derive(Clone, Copy)]
 pub enum Known {
@@ -167,15 +151,6 @@ impl Header {
     }
 }
 
-fn either(first: Option<Meaning>, other: Option<Meaning>) -> Option<Meaning>
-    ensures { result ≡ spec.or_else first other }
-{
-    match first {
-        Some(meaning) => Some(meaning),
-        None => other,
-    }
-}
-
 /// What a function gives back, as its returns see it.
 #[derive(Clone, Copy)]
 pub enum Gives {
@@ -238,7 +213,7 @@ impl<'t> Scope<'t> {
     {
         let mut found = None;
         for level in self.outer.as_slice() {
-            found = either(level.get(name), found);
+            found = level.get(name).or(found);
         }
         found
     }
@@ -251,7 +226,7 @@ impl<'t> Scope<'t> {
         if let Some(function) = LibraryFunction::from_name(name) {
             return Known::Library(function);
         }
-        match either(self.inner.get(name), self.declared_outside(name)) {
+        match self.inner.get(name).or(self.declared_outside(name)) {
             Some(meaning) => Known::Declared(meaning),
             None => Known::Unknown,
         }
@@ -270,7 +245,14 @@ impl<'t> Scope<'t> {
     pub fn declare(&mut self, name: &'t [u8], meaning: Meaning) -> Result<(), AllocError>
         ensures { OnOk result (self.new ≡ spec.declaring name.now meaning self.old) }
     {
-        if meaning.is_local() {
+        if let Meaning::Argument
+        | Meaning::Variable(
+            Variable {
+                storage: Storage::Automatic,
+                ..
+            },
+        ) = meaning
+        {
             self.local_names.push(name)?;
         }
         self.inner.insert(name, meaning)
