@@ -1,11 +1,9 @@
 // The token at the front of a text.
 
-ghost use Rattle.std.specs.Prelude.{◌≡◌, false, true, take, drop, string_bytes, IfOk};
-ghost use Rattle.verilog_tree.specs.Spelling.{is_quoted};
-ghost use Rattle.verilog_tree.specs.Tokens as tokens;
+ghost use Rattle.std.specs.Prelude.{◌≡◌, take, drop, string_bytes, IfOk};
 ghost use Rattle.verilog_lexer.specs.Runs as spec;
 
-use crate::marks::{mark_at, word_of};
+use crate::marks::{ALL_MARKS, mark_among, word_of};
 use crate::number::number_of;
 use crate::runs::{Run, is_letter, quoted_len, run_len};
 use std::alloc::{AllocError, Global};
@@ -29,29 +27,21 @@ fn text_of(alloc: Global, bytes: &[u8]) -> Result<String, AllocError>
     }
 }
 
-/// The word of the grammar or the name that is spelled so.
-#[tactic(auto, using(crate::proofs::Running::name_valid))]
-fn word_or_name(alloc: Global, bytes: &[u8]) -> Result<Token, AllocError>
-    requires { spec.IsNamed bytes.now }
-    ensures { IfOk result (λ token. token ≡ tokens.word_or_name bytes.now) }
-{
-    match word_of(bytes) {
-        Some(word) => Ok(Token::Word(word)),
-        None => {
-            let text = text_of(alloc, bytes)?;
-            Ok(Token::Name(Identifier::from_string(text)))
-        }
-    }
-}
-
-#[tactic(auto, using(crate::proofs::Facing::name_taken, crate::proofs::Facing::name_token))]
+/// The word of the grammar or the name at the front of the text.
+#[tactic(auto, using(crate::proofs::Running::name_valid, crate::proofs::Facing::name_taken, crate::proofs::Facing::name_token))]
 fn name_token(alloc: Global, text: &[u8]) -> Result<(Token, usize), AllocError>
     requires { spec.BeginsName text.now }
     ensures { IfOk result (λ found. spec.IsToken text.now found.0 found.1) }
 {
     let len = run_len(Run::Name, text);
-    let token = word_or_name(alloc, front(text, len))?;
-    Ok((token, len))
+    let bytes = front(text, len);
+    match word_of(bytes) {
+        Some(word) => Ok((Token::Word(word), len)),
+        None => {
+            let name = text_of(alloc, bytes)?;
+            Ok((Token::Name(Identifier::from_string(name)), len))
+        }
+    }
 }
 
 #[tactic(auto, using(crate::proofs::Facing::number_token, crate::proofs::Facing::no_number))]
@@ -64,15 +54,6 @@ fn number_token(text: &[u8]) -> Option<(Token, usize)>
         Some(number) => Some((Token::Number(number), len)),
         None => None,
     }
-}
-
-/// A string with this between its quotes.
-fn quoted(alloc: Global, inside: &[u8]) -> Result<Quoted, AllocError>
-    requires { is_quoted false inside.now ≡ true }
-    ensures { IfOk result (λ quoted. quoted ≡ inside.now) }
-{
-    let text = text_of(alloc, inside)?;
-    Ok(Quoted::from_string(text))
 }
 
 /// The string at the front of the text, by what stands behind its first quote.
@@ -88,8 +69,8 @@ fn quoted_token(
 {
     match quoted_len(behind) {
         Some(len) => {
-            let inside = quoted(alloc, front(behind, len))?;
-            Ok(Some((Token::Quoted(inside), len + 2)))
+            let inside = text_of(alloc, front(behind, len))?;
+            Ok(Some((Token::Quoted(Quoted::from_string(inside)), len + 2)))
         }
         None => Ok(None),
     }
@@ -100,7 +81,7 @@ fn mark_token(text: &[u8]) -> Option<(Token, usize)>
     requires { spec.BeginsMark text.now }
     ensures { spec.IsFront text.now result }
 {
-    match mark_at(text) {
+    match mark_among(&ALL_MARKS, text) {
         Some((mark, len)) => Some((Token::Mark(mark), len)),
         None => None,
     }

@@ -24,7 +24,7 @@ const ALL_WORDS: [Word; 13] = [
 ];
 
 /// A mark stands behind those that begin with it.
-const ALL_MARKS: [Mark; 32] = [
+pub(crate) const ALL_MARKS: [Mark; 32] = [
     Mark::OpenRound,
     Mark::CloseRound,
     Mark::OpenSquare,
@@ -140,7 +140,7 @@ pub(crate) fn word_of(text: &[u8]) -> Option<Word>
 
 /// The first of these marks that stands at the front of the text, and how many bytes it has.
 #[tactic(auto, using(crate::proofs::Marking::mark_found, crate::proofs::Marking::mark_passed))]
-fn mark_among(marks: &[Mark], text: &[u8]) -> Option<(Mark, usize)>
+pub(crate) fn mark_among(marks: &[Mark], text: &[u8]) -> Option<(Mark, usize)>
     ensures { spec.IsMarkAmong marks.now text.now result }
 {
     for mark in marks {
@@ -150,11 +150,4 @@ fn mark_among(marks: &[Mark], text: &[u8]) -> Option<(Mark, usize)>
         }
     }
     None
-}
-
-/// The longest mark at the front of the text, and how many bytes it has.
-pub(crate) fn mark_at(text: &[u8]) -> Option<(Mark, usize)>
-    ensures { spec.IsMarkAmong tokens.all_marks text.now result }
-{
-    mark_among(&ALL_MARKS, text)
 }

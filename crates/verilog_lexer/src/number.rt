@@ -1,7 +1,6 @@
 // Decimal numbers.
 
-ghost use Rattle.std.specs.Prelude.{◌≡◌, ◌+◌, ◌-◌, ◌*◌, ◌^◌, ◌≤◌, MatchOption, decimal};
-ghost use Rattle.std.specs.Str.{bytes_eq};
+ghost use Rattle.std.specs.Prelude.{◌≡◌, ◌+◌, ◌-◌, ◌*◌, ◌^◌, ◌≤◌, MatchOption};
 ghost use Rattle.verilog_tree.specs.Tokens as spec;
 ghost use Rattle.verilog_lexer.specs.Runs.{read_on};
 
@@ -35,20 +34,18 @@ fn value_of(digits: &[u8]) -> Option<u64>
     Some(value)
 }
 
-fn is_written(digits: &[u8], number: u64) -> bool
-    ensures { result ≡ bytes_eq (decimal number) digits.now }
-{
-    let mut buffer = Buffer::new();
-    buffer.format(number).as_bytes() == digits
-}
-
 /// The number that these digits spell without leading zeros, where it is below 2 to the 64.
 #[tactic(auto, using(crate::proofs::Counting::written, crate::proofs::Counting::differs, crate::proofs::Counting::large))]
 pub(crate) fn number_of(digits: &[u8]) -> Option<u64>
     ensures { result ≡ spec.number_of digits.now }
 {
-    match value_of(digits) {
-        Some(number) if is_written(digits, number) => Some(number),
-        Some(_) | None => None,
+    let Some(number) = value_of(digits) else {
+        return None;
+    };
+    let mut buffer = Buffer::new();
+    if buffer.format(number).as_bytes() == digits {
+        Some(number)
+    } else {
+        None
     }
 }

@@ -42,12 +42,6 @@ pub(crate) fn run_len(run: Run, text: &[u8]) -> usize
     text.len() - rest.len()
 }
 
-fn is_plain(b: u8) -> bool
-    ensures { result ≡ spelling.is_plain b }
-{
-    (b' '..=b'~').contains(&b)
-}
-
 /// How many bytes stand before the closing quote, where the text stands behind the opening one.
 #[tactic(auto, unfolding(crate::specs::Runs::quoted_len))]
 pub(crate) fn quoted_len(text: &[u8]) -> Option<usize>
@@ -60,7 +54,7 @@ pub(crate) fn quoted_len(text: &[u8]) -> Option<usize>
         if *b == b'"' && !escaped {
             return Some(len);
         }
-        if !is_plain(*b) {
+        if !(b' '..=b'~').contains(b) {
             return None;
         }
         len += 1;

@@ -13,5 +13,5 @@ overflow_add-result c =
 pub returns-in_ok-inside-in-Some : goal.returns-in_ok-inside-in-Some
 returns-in_ok-inside-in-Some c =
     let e : quoted_len 0 false (drop 1 c.args.text.now) ≡ Some c.in-Some.len = ap (quoted_len 0 false) (sym c.requires.behind) ∙ sym c.in-Some.ensures in
-    let inside = c.in_ok-inside-in-Some.ensures ∙ c.front.ensures ∙ ap (take c.in-Some.len) c.requires.behind in
+    let inside = c.from_string.ensures ∙ c.in_ok-inside-in-Some.ensures ∙ c.front.ensures ∙ ap (take c.in-Some.len) c.requires.behind in
     quoted_token c.args.text.now c.in-Some.len _ _ c.requires.begins e refl (ap t.Quoted inside)
