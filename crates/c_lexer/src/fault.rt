@@ -11,14 +11,14 @@ pub const MAX_TOKENS: usize = 16_384;
 pub const MAX_NAME_LENGTH: usize = 63;
 
 /// A limit of a text's tokens.
-#[derive(Clone, Copy, Debug, PartialEq, Eq)]
+#[derive(Clone, Copy, Debug)]
 pub enum TextLimit {
     Tokens,
     NameLength,
 }
 
 /// The first fault of a text from left to right, or want of memory.
-#[derive(Clone, Copy, Debug, PartialEq, Eq)]
+#[derive(Clone, Copy, Debug)]
 pub enum LexFault {
     /// No token, comment or directive starts at the offset, or it isn't closed.
     Bad {

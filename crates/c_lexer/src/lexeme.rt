@@ -96,18 +96,6 @@ fn run_len(run: Run, z: &[u8]) -> usize
     z.len() - rest.len()
 }
 
-fn comment_or_mark(z: &[u8]) -> Option<Class>
-    ensures { result ≡ spec.comment_or_mark z.now }
-{
-    if z.starts_with(b"//") {
-        Some(Class::LineComment)
-    } else if z.starts_with(b"/*") {
-        Some(Class::BlockComment)
-    } else {
-        Punctuator::longest_at(z).map(Class::Mark)
-    }
-}
-
 /// What the text begins with, where an include directive awaits what it names, or doesn't.
 #[tactic(auto, unfolding(crate::specs::Lexemes::class_at))]
 fn class_at(awaits_header: bool, z: &[u8]) -> Option<Class>
@@ -125,9 +113,10 @@ fn class_at(awaits_header: bool, z: &[u8]) -> Option<Class>
         b'"' if awaits_header => Some(Class::Header(b'"')),
         b'"' => Some(Class::Text),
         b'<' if awaits_header => Some(Class::Header(b'>')),
-        b'<' => Punctuator::longest_at(z).map(Class::Mark),
         b'#' => Some(Class::Hash),
-        _ => comment_or_mark(z),
+        b'/' if z.starts_with(b"//") => Some(Class::LineComment),
+        b'/' if z.starts_with(b"/*") => Some(Class::BlockComment),
+        _ => Punctuator::longest_at(z).map(Class::Mark),
     }
 }
 

@@ -76,48 +76,11 @@ fn only(mode: Mode) -> Option<Effect>
     })
 }
 
-fn directive_word(hash: usize, word: &[u8]) -> Option<Effect>
-    ensures { result ≡ spec.directive_word hash word.now }
-{
-    if word == b"include".as_slice() {
-        only(Mode::Directive(hash, Awaits::Header))
-    } else if word == b"define".as_slice() {
-        only(Mode::Directive(hash, Awaits::Name))
-    } else {
-        None
-    }
-}
-
-fn definition_value(hash: usize, word: &[u8]) -> Option<Effect>
-    ensures { result ≡ spec.definition_value hash word.now }
-{
-    let constant = Constant::from_integer(word)?;
-    Some(Effect {
-        mode: Mode::Directive(hash, Awaits::LineEnd),
-        action: Action::Value(constant),
-    })
-}
-
-/// The bytes between the quotes.
-fn text_kind(alloc: Global, word: &[u8]) -> Result<Kind, AllocError>
-    ensures { IfOk result (λ k. k ≡ spec.text_kind word.now) }
-{
-    let inside = front(behind(word, 1), word.len().saturating_sub(2));
-    Ok(Kind::StringLiteral(Items::from_slice(alloc, inside)?))
-}
-
 /// The place of the name among them.
 fn place_of(names: &IndexSet<&[u8]>, name: &[u8]) -> Option<usize>
     ensures { result ≡ position (bytes_eq name.now) (map (λ k. k.now) names.now.keys) }
 {
     names.get_index_of(&name)
-}
-
-/// Whether the name is among them.
-fn is_among(names: &IndexSet<&[u8]>, name: &[u8]) -> bool
-    ensures { result ≡ list_any (bytes_eq name.now) (map (λ k. k.now) names.now.keys) }
-{
-    names.contains(&name)
 }
 
 /// Adds the name at the end.
@@ -148,7 +111,7 @@ impl<'t> Context<'t> {
     fn is_defined(&self, word: &[u8]) -> bool
         ensures { result ≡ spec.is_defined (state_of self.now) word.now }
     {
-        is_among(&self.names, word)
+        self.names.contains(&word)
     }
 
     /// The constant that a directive has given the name.
@@ -181,7 +144,10 @@ impl<'t> Context<'t> {
             Class::Word => Ok(Some(self.word_kind(alloc, word)?)),
             Class::Number => Ok(Constant::from_integer(word).map(Kind::Constant)),
             Class::Character => Ok(Constant::from_character(word).map(Kind::Constant)),
-            Class::Text => Ok(Some(text_kind(alloc, word)?)),
+            Class::Text => {
+                let inside = front(behind(word, 1), word.len().saturating_sub(2));
+                Ok(Some(Kind::StringLiteral(Items::from_slice(alloc, inside)?)))
+            }
             Class::Mark(mark) => Ok(Some(Kind::Punctuator(mark))),
             _ => Ok(None),
         }
@@ -214,7 +180,12 @@ impl<'t> Context<'t> {
         ensures { result ≡ spec.in_directive awaits hash (state_of self.now) class word.now }
     {
         match (awaits, class) {
-            (Awaits::Word, Class::Word) => directive_word(hash, word),
+            (Awaits::Word, Class::Word) if word == b"include".as_slice() => {
+                only(Mode::Directive(hash, Awaits::Header))
+            }
+            (Awaits::Word, Class::Word) if word == b"define".as_slice() => {
+                only(Mode::Directive(hash, Awaits::Name))
+            }
             (Awaits::Header, Class::Header(_)) => only(Mode::Directive(hash, Awaits::LineEnd)),
             (Awaits::Name, Class::Word) => {
                 if Keyword::from_spelling(word).is_some() || self.is_defined(word) {
@@ -225,7 +196,10 @@ impl<'t> Context<'t> {
                     action: Action::Name,
                 })
             }
-            (Awaits::Value, Class::Number) => definition_value(hash, word),
+            (Awaits::Value, Class::Number) => Some(Effect {
+                mode: Mode::Directive(hash, Awaits::LineEnd),
+                action: Action::Value(Constant::from_integer(word)?),
+            }),
             (Awaits::LineEnd, Class::LineFeed) => only(Mode::LineStart),
             _ => None,
         }
