@@ -58,6 +58,5 @@ pub fn pass_arguments(
     };
     let value = lower_expression(alloc, homes, block, argument)?;
     put_there(alloc, block, home, local.ty, &value)?;
-    pass_arguments(alloc, homes, block, room, locals, arguments)?;
-    Ok(())
+    pass_arguments(alloc, homes, block, room, locals, arguments)
 }

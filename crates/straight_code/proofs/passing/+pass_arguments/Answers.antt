@@ -1,5 +1,5 @@
 use Rattle.std.proofs.Common.{◌≡◌, ◌+◌, ◌-◌, ◌*◌, ◌≤◌, List, [], ◌∷◌, length, get_or, take, drop, refl, ap, ◌∙◌, arith}
-use Rattle.std.proofs.lemmas.Result.{err_from_is_err_and}
+use Rattle.std.proofs.lemmas.Result.{IfErr-weaker, IfOk-weaker, err_from_is_err_and}
 use Rattle.std.proofs.lemmas.List.Sums.{sum_by-cons}
 use Rattle.hls_ints.specs.Types.{IntegerType}
 use Rattle.c_program.specs.declared.tree.Expression.{Expression as ExpressionTree}
@@ -61,15 +61,21 @@ returns-in_default-locals-clause-passes t c =
 
 pub returns-clause-passes : goal.returns-clause-passes
 returns-clause-passes t c =
+    IfOk-weaker c.pass_arguments.result _ _
+    (λ _ rest.
     one_more c.args.homes.now c.args.room.now _ c.args.locals.now _ c.args.arguments.now _ _ _ c.local-item.result c.argument-item.result c.args.block.now
     c.lower_expression.new.block c.put_there.new.block c.pass_arguments.new.block c.in_ok-value.value c.in-len1-up.len_at_least c.in-len1-up-room.len_at_least c.in-len1-up-locals.len_at_least
-    c.argument-item.is refl c.local-item.is refl refl refl c.in_ok-value.ensures.value c.in_ok-put_there.ensures c.in_ok-pass_arguments.ensures.passes
+    c.argument-item.is refl c.local-item.is refl refl refl c.in_ok-value.ensures.value c.in_ok-put_there.ensures rest)
+    c.pass_arguments.ensures.passes
 
 pub returns-clause-typed : goal.returns-clause-typed
 returns-clause-typed t c =
+    IfOk-weaker c.pass_arguments.result _ _
+    (λ _ rest.
     one_more_works c.args.homes.now c.args.room.now _ c.args.locals.now _ c.args.arguments.now _ _ _ c.local-item.result c.argument-item.result c.args.block.now
     c.lower_expression.new.block c.put_there.new.block c.pass_arguments.new.block c.in_ok-value.value c.in-len1-up.len_at_least c.in-len1-up-room.len_at_least c.in-len1-up-locals.len_at_least
-    c.argument-item.is refl c.local-item.is refl refl refl c.in_ok-value.ensures.value c.in_ok-put_there.ensures c.in_ok-pass_arguments.ensures.typed
+    c.argument-item.is refl c.local-item.is refl refl refl c.in_ok-value.ensures.value c.in_ok-put_there.ensures rest)
+    c.pass_arguments.ensures.typed
 
 pub returns-in_default-clause-full : goal.returns-in_default-clause-full
 returns-in_default-clause-full t c = tt
@@ -81,7 +87,12 @@ pub returns-in_default-locals-clause-full : goal.returns-in_default-locals-claus
 returns-in_default-locals-clause-full t c = tt
 
 pub returns-clause-full : goal.returns-clause-full
-returns-clause-full t c = tt
+returns-clause-full t c =
+    IfErr-weaker c.pass_arguments.result _ _
+    (λ fault.
+    rest_needs c.args.homes.now c.args.room.now _ _ c.local-item.result.ty c.argument-item.result c.args.arguments.now _ c.args.block.now c.lower_expression.new.block c.put_there.new.block
+    c.in_ok-value.value fault c.in-len1-up.len_at_least c.argument-item.is refl refl c.in_ok-value.ensures.value c.in_ok-put_there.ensures)
+    c.pass_arguments.ensures.full
 
 pub returns-in_err-value-clause-passes : goal.returns-in_err-value-clause-passes
 returns-in_err-value-clause-passes t c =
@@ -103,16 +114,6 @@ returns-in_err-put_there-clause-typed t c =
     let p = err_from_is_err_and c.from_residual-in_err-put_there.result c.from_residual-in_err-put_there.ensures.1 in
     rw p.1 tt
 
-pub returns-in_err-pass_arguments-clause-passes : goal.returns-in_err-pass_arguments-clause-passes
-returns-in_err-pass_arguments-clause-passes t c =
-    let p = err_from_is_err_and c.from_residual-in_err-pass_arguments.result c.from_residual-in_err-pass_arguments.ensures.1 in
-    rw p.1 tt
-
-pub returns-in_err-pass_arguments-clause-typed : goal.returns-in_err-pass_arguments-clause-typed
-returns-in_err-pass_arguments-clause-typed t c =
-    let p = err_from_is_err_and c.from_residual-in_err-pass_arguments.result c.from_residual-in_err-pass_arguments.ensures.1 in
-    rw p.1 tt
-
 pub returns-in_err-put_there-clause-full : goal.returns-in_err-put_there-clause-full
 returns-in_err-put_there-clause-full t c =
     let p = err_from_is_err_and c.from_residual-in_err-put_there.result c.from_residual-in_err-put_there.ensures.1 in
@@ -122,10 +123,3 @@ pub returns-in_err-value-clause-full : goal.returns-in_err-value-clause-full
 returns-in_err-value-clause-full t c =
     let p = err_from_is_err_and c.from_residual.result c.from_residual.ensures.1 in
     rw (p.1, p.2) (first_needs c.argument-item.result c.args.arguments.now c.args.block.now _ c.in-len1-up.len_at_least c.argument-item.is c.in_err-value.ensures.full)
-
-pub returns-in_err-pass_arguments-clause-full : goal.returns-in_err-pass_arguments-clause-full
-returns-in_err-pass_arguments-clause-full t c =
-    let p = err_from_is_err_and c.from_residual-in_err-pass_arguments.result c.from_residual-in_err-pass_arguments.ensures.1 in
-    rw (p.1, p.2)
-    (rest_needs c.args.homes.now c.args.room.now _ _ c.local-item.result.ty c.argument-item.result c.args.arguments.now _ c.args.block.now c.lower_expression.new.block c.put_there.new.block
-    c.in_ok-value.value _ c.in-len1-up.len_at_least c.argument-item.is refl refl c.in_ok-value.ensures.value c.in_ok-put_there.ensures c.in_err-pass_arguments.ensures.full)
