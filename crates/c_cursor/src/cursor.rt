@@ -141,7 +141,12 @@ impl<'a> Cursor<'a> {
         ensures { result ≡ sees spec.begins_argument self.now }
     {
         match self.rest {
-            [token, ..] => tokens::begins_argument(token),
+            [token, ..] => {
+                tokens::begins_cast(token)
+                    || tokens::is_text(token)
+                    || tokens::is(token, Sign::Mark(Punctuator::And))
+                    || tokens::is(token, Sign::Word(Keyword::Null))
+            }
             [] => false,
         }
     }
@@ -181,7 +186,7 @@ impl<'a> Cursor<'a> {
         ensures { result ≡ sees spec.begins_item self.now }
     {
         match self.rest {
-            [token, ..] => tokens::begins_item(token),
+            [token, ..] => tokens::type_word(token).is_some() || tokens::begins_statement(token),
             [] => false,
         }
     }

@@ -7,27 +7,14 @@ ghost use Rattle.c_reading.specs.Tokens as begins;
 use c_token::{Keyword, Kind, Punctuator, Token};
 use c_tree::{AssignmentOperator, BinaryOperator, Direction, Sign, TypeWord, UnaryOperator};
 
-#[tactic(auto, unfolding(c_tree::specs::Tokens::same_keyword))]
-fn same_keyword(a: Keyword, b: Keyword) -> bool
-    ensures { result ≡ spec.same_keyword a b }
-{
-    a == b
-}
-
-#[tactic(auto, unfolding(c_tree::specs::Tokens::same_punctuator))]
-fn same_punctuator(a: Punctuator, b: Punctuator) -> bool
-    ensures { result ≡ spec.same_punctuator a b }
-{
-    a == b
-}
-
 /// Whether the token is of the sign.
+#[tactic(auto, unfolding(c_tree::specs::Tokens::same_keyword, c_tree::specs::Tokens::same_punctuator))]
 pub fn is(token: &Token, sign: Sign) -> bool
     ensures { result ≡ spec.is sign token.now }
 {
     match (&token.kind, sign) {
-        (Kind::Keyword(found), Sign::Word(word)) => same_keyword(word, *found),
-        (Kind::Punctuator(found), Sign::Mark(mark)) => same_punctuator(mark, *found),
+        (Kind::Keyword(found), Sign::Word(word)) => word == *found,
+        (Kind::Punctuator(found), Sign::Mark(mark)) => mark == *found,
         (Kind::End, Sign::End) => true,
         _ => false,
     }
@@ -51,31 +38,22 @@ pub fn is_text(token: &Token) -> bool
     matches!(&token.kind, Kind::StringLiteral(_))
 }
 
-fn word_type(word: Keyword) -> Option<TypeWord>
-    ensures { result ≡ spec.word_type word }
-{
-    match word {
-        Keyword::Static => Some(TypeWord::Static),
-        Keyword::Const => Some(TypeWord::Const),
-        Keyword::Void => Some(TypeWord::Void),
-        Keyword::Char => Some(TypeWord::Char),
-        Keyword::Short => Some(TypeWord::Short),
-        Keyword::Int => Some(TypeWord::Int),
-        Keyword::Long => Some(TypeWord::Long),
-        Keyword::Signed => Some(TypeWord::Signed),
-        Keyword::Unsigned => Some(TypeWord::Unsigned),
-        Keyword::ThreadId => Some(TypeWord::ThreadId),
-        Keyword::Mutex => Some(TypeWord::Mutex),
-        Keyword::Barrier => Some(TypeWord::Barrier),
-        _ => None,
-    }
-}
-
 pub fn type_word(token: &Token) -> Option<TypeWord>
     ensures { result ≡ spec.type_word_at token.now }
 {
     match &token.kind {
-        Kind::Keyword(word) => word_type(*word),
+        Kind::Keyword(Keyword::Static) => Some(TypeWord::Static),
+        Kind::Keyword(Keyword::Const) => Some(TypeWord::Const),
+        Kind::Keyword(Keyword::Void) => Some(TypeWord::Void),
+        Kind::Keyword(Keyword::Char) => Some(TypeWord::Char),
+        Kind::Keyword(Keyword::Short) => Some(TypeWord::Short),
+        Kind::Keyword(Keyword::Int) => Some(TypeWord::Int),
+        Kind::Keyword(Keyword::Long) => Some(TypeWord::Long),
+        Kind::Keyword(Keyword::Signed) => Some(TypeWord::Signed),
+        Kind::Keyword(Keyword::Unsigned) => Some(TypeWord::Unsigned),
+        Kind::Keyword(Keyword::ThreadId) => Some(TypeWord::ThreadId),
+        Kind::Keyword(Keyword::Mutex) => Some(TypeWord::Mutex),
+        Kind::Keyword(Keyword::Barrier) => Some(TypeWord::Barrier),
         _ => None,
     }
 }
@@ -132,9 +110,12 @@ pub fn operator_at(level: usize, token: &Token) -> Option<BinaryOperator>
     }
 }
 
-fn mark_assignment(mark: Punctuator) -> Option<AssignmentOperator>
-    ensures { result ≡ spec.mark_assignment mark }
+pub fn assignment_operator(token: &Token) -> Option<AssignmentOperator>
+    ensures { result ≡ spec.assignment_at token.now }
 {
+    let Kind::Punctuator(mark) = &token.kind else {
+        return None;
+    };
     match mark {
         Punctuator::Assign => Some(AssignmentOperator::Set),
         Punctuator::StarAssign => Some(AssignmentOperator::Compound(BinaryOperator::Multiply)),
@@ -155,15 +136,6 @@ fn mark_assignment(mark: Punctuator) -> Option<AssignmentOperator>
     }
 }
 
-pub fn assignment_operator(token: &Token) -> Option<AssignmentOperator>
-    ensures { result ≡ spec.assignment_at token.now }
-{
-    match &token.kind {
-        Kind::Punctuator(mark) => mark_assignment(*mark),
-        _ => None,
-    }
-}
-
 pub fn direction(token: &Token) -> Option<Direction>
     ensures { result ≡ spec.direction_of token.now }
 {
@@ -174,26 +146,14 @@ pub fn direction(token: &Token) -> Option<Direction>
     }
 }
 
-fn begins_primary(token: &Token) -> bool
-    ensures { result ≡ begins.begins_primary token.now }
-{
-    is_name(token) || is_constant(token) || is(token, Sign::Mark(Punctuator::OpenRound))
-}
-
 /// Whether the token begins an operand: a unary operator, a name, a constant or a parenthesis.
 pub fn begins_cast(token: &Token) -> bool
     ensures { result ≡ begins.begins_cast token.now }
 {
-    unary_operator(token).is_some() || begins_primary(token)
-}
-
-pub fn begins_argument(token: &Token) -> bool
-    ensures { result ≡ begins.begins_argument token.now }
-{
-    begins_cast(token)
-        || is_text(token)
-        || is(token, Sign::Mark(Punctuator::And))
-        || is(token, Sign::Word(Keyword::Null))
+    unary_operator(token).is_some()
+        || is_name(token)
+        || is_constant(token)
+        || is(token, Sign::Mark(Punctuator::OpenRound))
 }
 
 pub fn begins_simple(token: &Token) -> bool
@@ -213,29 +173,13 @@ pub fn begins_compound(token: &Token) -> bool
         || is(token, Sign::Word(Keyword::For))
 }
 
-fn begins_jump(token: &Token) -> bool
-    ensures { result ≡ begins.begins_jump token.now }
-{
-    is(token, Sign::Word(Keyword::Break))
-        || is(token, Sign::Word(Keyword::Continue))
-        || is(token, Sign::Word(Keyword::Return))
-}
-
-fn begins_plain(token: &Token) -> bool
-    ensures { result ≡ begins.begins_plain token.now }
-{
-    is(token, Sign::Mark(Punctuator::Semicolon)) || begins_jump(token) || begins_simple(token)
-}
-
 pub fn begins_statement(token: &Token) -> bool
     ensures { result ≡ begins.begins_statement token.now }
 {
-    begins_compound(token) || begins_plain(token)
-}
-
-/// Whether the token begins a declaration or a statement.
-pub fn begins_item(token: &Token) -> bool
-    ensures { result ≡ begins.begins_item token.now }
-{
-    type_word(token).is_some() || begins_statement(token)
+    begins_compound(token)
+        || is(token, Sign::Mark(Punctuator::Semicolon))
+        || is(token, Sign::Word(Keyword::Break))
+        || is(token, Sign::Word(Keyword::Continue))
+        || is(token, Sign::Word(Keyword::Return))
+        || begins_simple(token)
 }
