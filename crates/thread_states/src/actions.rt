@@ -1,7 +1,7 @@
 // What an edge does.
 
 ghost use Rattle.std.specs.Prelude.{◌≡◌, ◌∷◌, [], ◌++◌, map, IfOk, OnOk};
-ghost use Rattle.thread_states.specs.Actions.{set_action, sets_of, sets_from, actions_of};
+ghost use Rattle.thread_states.specs.Actions.{set_action, sets_from, actions_of};
 ghost use Rattle.thread_slots.specs.Cells.{store_action};
 
 use crate::control::Edge;
@@ -53,25 +53,11 @@ fn set_all(
     ensures { OnOk result (actions.new ≡ actions.old ++ sets_from condition nexts.now 0 registers.now) }
 {
     for (number, held) in registers.iter().enumerate() {
-        let next = at(nexts, number).copied();
-        set_by(alloc, actions, condition, *held, next)?;
+        if let Some(next) = at(nexts, number).copied() {
+            set_if(alloc, actions, condition, held.register, next)?;
+        }
     }
     Ok(())
-}
-
-fn set_by(
-    alloc: Global,
-    actions: &mut Items<Action>,
-    condition: usize,
-    held: Held,
-    next: Option<usize>,
-) -> Result<(), AllocError>
-    ensures { OnOk result (actions.new ≡ actions.old ++ sets_of condition held next) }
-{
-    match next {
-        Some(next) => set_if(alloc, actions, condition, held.register, next),
-        None => Ok(()),
-    }
 }
 
 fn set_if(

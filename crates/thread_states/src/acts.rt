@@ -1,7 +1,7 @@
 // The wires of acts and of meetings.
 
 ghost use Rattle.std.specs.Prelude.{OnOk};
-ghost use Rattle.thread_states.specs.Acts.{Idles, LeadsFrom, LeadsUnless, TakesWait, TakesAct};
+ghost use Rattle.thread_states.specs.Acts.{Idles, LeadsFrom, LeadsUnless, TakesAct};
 
 use block_datapath::registers::Registers;
 use block_datapath::states::at_stage;
@@ -30,35 +30,15 @@ pub fn take_act(
     let following = next.min(rest);
     let from = stage as u64;
     match act {
-        Act::BarrierWait { .. } => take_wait(
-            wires,
-            registers,
-            chains,
-            code,
-            stage,
-            following as u64,
-            told.barred,
-        ),
+        Act::BarrierWait { .. } => {
+            let number = meeting_stage(code, stage)?;
+            lead_to(wires, registers, chains, from, number)?;
+            let to = following as u64;
+            lead_unless(wires, registers, chains, number, to, told.barred)
+        }
         Act::Return => lead_to(wires, registers, chains, from, rest as u64),
         _ => lead_to(wires, registers, chains, from, following as u64),
     }
-}
-
-/// A wait at a barrier leads to its meeting, which leads to a stage unless a bit is set.
-fn take_wait(
-    wires: &mut Wires,
-    registers: &Registers,
-    chains: &mut Chains,
-    code: &ThreadCode,
-    stage: usize,
-    following: u64,
-    barred: usize,
-) -> Result<(), AllocError>
-    ensures { OnOk result (TakesWait code.now registers.now barred stage following wires.old.signals wires.new.signals chains.old chains.new) }
-{
-    let number = meeting_stage(code, stage)?;
-    lead_to(wires, registers, chains, stage as u64, number)?;
-    lead_unless(wires, registers, chains, number, following, barred)
 }
 
 /// At the number of one stage that of another follows.

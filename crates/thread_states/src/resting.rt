@@ -1,14 +1,13 @@
 // The wires of the rest, past all stages.
 
 ghost use Rattle.std.specs.Prelude.{OnOk};
-ghost use Rattle.thread_states.specs.Acts.{TakesArgument, EndsAt};
+ghost use Rattle.thread_states.specs.Acts.{EndsAt};
 
 use crate::acts::{idle, lead_unless};
 use block_datapath::registers::{Registers, set_next};
 use block_datapath::states::at_stage;
 use block_ir::code::ThreadCode;
 use operator_wires::wires::Wires;
-use sqlite_items::Items;
 use std::alloc::AllocError;
 use thread_slots::chains::Chains;
 use thread_slots::told::Told;
@@ -31,31 +30,10 @@ pub fn take_end(
     }
     let idle = wires.not(1, told.runs)?;
     lead_unless(wires, registers, chains, rest, 0, idle)?;
-    let variables = &mut chains.variables;
-    take_argument(
-        wires,
-        registers,
-        variables,
-        code.argument,
-        rest,
-        told.argument,
-    )
-}
-
-/// At a number of the stage the variable for the argument, if there is one, gets what a signal shows.
-fn take_argument(
-    wires: &mut Wires,
-    registers: &Registers,
-    variables: &mut Items<usize>,
-    variable: Option<u32>,
-    number: u64,
-    argument: usize,
-) -> Result<(), AllocError>
-    ensures { OnOk result (TakesArgument registers.now variable number argument wires.old.signals wires.new.signals variables.old variables.new) }
-{
-    let Some(variable) = variable else {
+    let Some(variable) = code.argument else {
         return Ok(());
     };
-    let at = at_stage(wires, registers, number)?;
-    set_next(wires, variables, variable as usize, 64, at, argument)
+    let at = at_stage(wires, registers, rest)?;
+    let variables = &mut chains.variables;
+    set_next(wires, variables, variable as usize, 64, at, told.argument)
 }

@@ -1,6 +1,5 @@
 use Rattle.std.proofs.Common.{List, refl, sym, subst}
 use Rattle.std.proofs.lemmas.Result.{on_ok_weaker}
-use Rattle.block_ir.specs.declared.plan.StagePlan.TheVariants as planned
 use Rattle.thread_states.proofs.Blocks.{block_stores}
 use Rattle.thread_states.proofs.Storing.{run_stored}
 use Rattle.block_datapath.specs.declared.operands.Given.{Given}
