@@ -1,7 +1,7 @@
 // What the calls of a board answer.
 
 /// Why a run ended.
-#[derive(Clone, Copy, Debug, PartialEq, Eq)]
+#[derive(Clone, Copy)]
 pub enum Verdict {
     /// `done` is shown.
     Done,
@@ -12,7 +12,7 @@ pub enum Verdict {
 }
 
 /// What a commit did.
-#[derive(Clone, Copy, Debug, PartialEq, Eq)]
+#[derive(Clone, Copy)]
 pub enum Answer {
     /// An entry was added.
     Committed,
@@ -24,7 +24,7 @@ pub enum Answer {
 }
 
 /// The thread to run next, or why there is none.
-#[derive(Clone, Copy, Debug, PartialEq, Eq)]
+#[derive(Clone, Copy)]
 pub enum Next {
     Thread(usize),
     Ended(Verdict),
