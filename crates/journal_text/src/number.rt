@@ -1,7 +1,6 @@
 // Numbers of a journal.
 
-ghost use Rattle.std.specs.Prelude.{◌≡◌, ℕ, ◌+◌, ◌-◌, ◌*◌, ◌^◌, ◌<◌, ◌≤◌, length, slice_index, MatchOption, MatchBool, decimal};
-ghost use Rattle.std.specs.Str.{bytes_eq};
+ghost use Rattle.std.specs.Prelude.{◌≡◌, ℕ, ◌+◌, ◌-◌, ◌*◌, ◌^◌, ◌≤◌, MatchOption, MatchBool};
 ghost use Rattle.journal_text.specs.Numbers.{read_on, IsNumber};
 
 use itoa::Buffer;
@@ -16,20 +15,13 @@ fn shifted(value: u64, byte: u8) -> Option<u64>
     }
 }
 
-fn byte_at(text: &[u8], number: usize) -> u8
-    requires { number < length text.now }
-    ensures { result ≡ slice_index text.now number }
-{
-    text[number]
-}
-
 /// The number whose digits these are. Other bytes count as digits too.
 fn value_of(text: &[u8]) -> Option<u64>
     ensures { MatchOption result (2 ^ 64 ≤ read_on 0 text.now) (λ n. n ≡ read_on 0 text.now) }
 {
     let mut value = 0;
     for number in 0..text.len() {
-        match shifted(value, byte_at(text, number)) {
+        match shifted(value, text[number]) {
             Some(next) => value = next,
             None => return None,
         }
@@ -37,17 +29,11 @@ fn value_of(text: &[u8]) -> Option<u64>
     Some(value)
 }
 
-fn is_written(text: &[u8], number: u64) -> bool
-    ensures { result ≡ bytes_eq (decimal number) text.now }
-{
-    let mut buffer = Buffer::new();
-    buffer.format(number).as_bytes() == text
-}
-
 fn is_number(text: &[u8], number: u64) -> bool
     ensures { MatchBool result (IsNumber text.now number) (IsNumber text.now number → ⊥) }
 {
-    number < 10_000_000_000 && is_written(text, number)
+    let mut buffer = Buffer::new();
+    number < 10_000_000_000 && buffer.format(number).as_bytes() == text
 }
 
 /// The number that a text is, in decimal without leading zeros and of 1 to 10 digits.

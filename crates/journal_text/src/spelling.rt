@@ -135,16 +135,6 @@ pub fn entry_of(line: &[u8]) -> Option<Entry>
     }
 }
 
-fn mark_text(opened: bool) -> &'static [u8]
-    ensures { result.now ≡ mark opened ∷ [] }
-{
-    if opened {
-        "s".as_bytes()
-    } else {
-        "-".as_bytes()
-    }
-}
-
 fn put_line(text: &mut Bytes, entry: Entry) -> Result<(), AllocError>
     ensures { OnOk result (text.new ≡ text.old ++ line_of entry) }
 {
@@ -153,7 +143,7 @@ fn put_line(text: &mut Bytes, entry: Entry) -> Result<(), AllocError>
     text.put(" ".as_bytes())?;
     put_dec(text, entry.closed as i128)?;
     text.put(" ".as_bytes())?;
-    text.put(mark_text(entry.opened))?;
+    text.push(if entry.opened { b's' } else { b'-' })?;
     text.put("\n".as_bytes())
 }
 
