@@ -51,34 +51,6 @@ pub fn signed(cursor: &mut Cursor<'_>) -> Result<Identifier, Fault>
     Ok(name)
 }
 
-#[tactic(auto, unfolding(verilog_rules::specs::Reading::read_binary))]
-fn binary(cursor: &mut Cursor<'_>, left: Identifier) -> Result<Expression, Fault>
-    ensures { Steps (spec.read_binary left cursor.old) result cursor.new }
-{
-    let operator = cursor.operator()?;
-    let right = cursor.name()?;
-    Ok(Expression::Binary {
-        operator,
-        left,
-        right,
-    })
-}
-
-#[tactic(auto, unfolding(verilog_rules::specs::Reading::read_conditional))]
-fn conditional(cursor: &mut Cursor<'_>, condition: Identifier) -> Result<Expression, Fault>
-    ensures { Steps (spec.read_conditional condition cursor.old) result cursor.new }
-{
-    cursor.mark(Mark::Question)?;
-    let if_true = cursor.name()?;
-    cursor.mark(Mark::Colon)?;
-    let if_false = cursor.name()?;
-    Ok(Expression::Conditional {
-        condition,
-        if_true,
-        if_false,
-    })
-}
-
 #[tactic(auto, unfolding(verilog_rules::specs::Reading::read_select, verilog_rules::specs::Reading::read_bit_end, verilog_rules::specs::Reading::read_part_end))]
 fn select(cursor: &mut Cursor<'_>, of: Identifier) -> Result<Expression, Fault>
     ensures { Steps (spec.read_select of cursor.old) result cursor.new }
@@ -95,15 +67,29 @@ fn select(cursor: &mut Cursor<'_>, of: Identifier) -> Result<Expression, Fault>
     Ok(Expression::PartSelect { of, high, low })
 }
 
-#[tactic(auto, unfolding(verilog_rules::specs::Reading::read_named, verilog_rules::specs::Reading::read_behind_name))]
+#[tactic(auto, unfolding(verilog_rules::specs::Reading::read_named, verilog_rules::specs::Reading::read_behind_name, verilog_rules::specs::Reading::read_binary, verilog_rules::specs::Reading::read_conditional))]
 fn named(cursor: &mut Cursor<'_>) -> Result<Expression, Fault>
     ensures { Steps (spec.read_named cursor.old) result cursor.new }
 {
     let name = cursor.name()?;
     if cursor.sees_operator() {
-        binary(cursor, name)
+        let operator = cursor.operator()?;
+        let right = cursor.name()?;
+        Ok(Expression::Binary {
+            operator,
+            left: name,
+            right,
+        })
     } else if cursor.sees_mark(Mark::Question) {
-        conditional(cursor, name)
+        cursor.mark(Mark::Question)?;
+        let if_true = cursor.name()?;
+        cursor.mark(Mark::Colon)?;
+        let if_false = cursor.name()?;
+        Ok(Expression::Conditional {
+            condition: name,
+            if_true,
+            if_false,
+        })
     } else if cursor.sees_mark(Mark::OpenSquare) {
         select(cursor, name)
     } else {
@@ -237,14 +223,6 @@ fn guarded(cursor: &mut Cursor<'_>) -> Result<Expression, Fault>
     }
 }
 
-#[tactic(auto, unfolding(verilog_rules::specs::Reading::read_next))]
-fn next_name(cursor: &mut Cursor<'_>) -> Result<Identifier, Fault>
-    ensures { Steps (spec.read_next spec.read_name cursor.old) result cursor.new }
-{
-    cursor.mark(Mark::Comma)?;
-    cursor.name()
-}
-
 /// The names behind the first one.
 fn more_names(
     alloc: Global,
@@ -259,43 +237,29 @@ fn more_names(
         if !cursor.sees_mark(Mark::Comma) {
             return Ok(found);
         }
-        found.push(next_name(cursor)?)?;
+        cursor.mark(Mark::Comma)?;
+        found.push(cursor.name()?)?;
     }
     Ok(found)
 }
 
-#[tactic(auto, unfolding(verilog_rules::specs::Reading::read_concatenation, verilog_rules::specs::Reading::read_listed))]
-fn concatenation(alloc: Global, cursor: &mut Cursor<'_>) -> Result<Expression, Fault>
-    ensures { Steps (spec.read_concatenation cursor.old) result cursor.new }
+#[tactic(auto, unfolding(verilog_rules::specs::Reading::read_braced, verilog_rules::specs::Reading::read_concatenation, verilog_rules::specs::Reading::read_listed, verilog_rules::specs::Reading::read_replication))]
+fn braced(alloc: Global, cursor: &mut Cursor<'_>) -> Result<Expression, Fault>
+    ensures { Steps (spec.read_braced cursor.old) result cursor.new }
 {
-    let first = cursor.name()?;
-    let parts = more_names(alloc, cursor, first)?;
-    cursor.mark(Mark::CloseCurly)?;
-    Ok(Expression::Concatenation(parts))
-}
-
-#[tactic(auto, unfolding(verilog_rules::specs::Reading::read_replication))]
-fn replication(cursor: &mut Cursor<'_>) -> Result<Expression, Fault>
-    ensures { Steps (spec.read_replication cursor.old) result cursor.new }
-{
+    cursor.mark(Mark::OpenCurly)?;
+    if cursor.sees_name() {
+        let first = cursor.name()?;
+        let parts = more_names(alloc, cursor, first)?;
+        cursor.mark(Mark::CloseCurly)?;
+        return Ok(Expression::Concatenation(parts));
+    }
     let count = cursor.number()?;
     cursor.mark(Mark::OpenCurly)?;
     let of = cursor.name()?;
     cursor.mark(Mark::CloseCurly)?;
     cursor.mark(Mark::CloseCurly)?;
     Ok(Expression::Replication { count, of })
-}
-
-#[tactic(auto, unfolding(verilog_rules::specs::Reading::read_braced))]
-fn braced(alloc: Global, cursor: &mut Cursor<'_>) -> Result<Expression, Fault>
-    ensures { Steps (spec.read_braced cursor.old) result cursor.new }
-{
-    cursor.mark(Mark::OpenCurly)?;
-    if cursor.sees_name() {
-        concatenation(alloc, cursor)
-    } else {
-        replication(cursor)
-    }
 }
 
 /// The right side of an assign.
