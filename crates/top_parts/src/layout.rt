@@ -4,7 +4,7 @@ use sqlite_items::Items;
 use verilog_tree::name::Identifier;
 
 /// Numbers that each thread hands to a core with a request: how many, and of how many bits each.
-#[derive(Clone, Copy, PartialEq, Eq)]
+#[derive(Clone, Copy)]
 pub struct Group {
     pub count: usize,
     pub width: u64,
