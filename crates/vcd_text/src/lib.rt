@@ -1,28 +1,21 @@
 //! The lines of a value change dump: identifiers of registers, changes, and what a cycle changes.
 #![tactic(auto)]
 
-ghost use Rattle.std.specs.Prelude.{◌≡◌, ◌++◌, ◌∷◌, [], ◌+◌, ◌%◌, ◌^◌, ◌<◌, false, length, OnOk};
-ghost use Rattle.std.specs.Fmt.{digits};
+ghost use Rattle.std.specs.Prelude.{◌≡◌, ◌++◌, ◌^◌, ◌<◌, length, OnOk};
 ghost use Rattle.vcd_text.specs.Dump as dump;
 ghost use Rattle.vcd_text.specs.Recover.{Recovers};
 
 use hls_io::{Bytes, put_dec};
 use std::alloc::{AllocError, Global};
 
-/// The byte of a digit in base 94: the printable ones but the blank, from `!`.
-fn digit(number: u64) -> u8
-    ensures { result ≡ 33 + number % 94 }
-{
-    33 + (number % 94) as u8
-}
-
-/// Appends the identifier of a register of this number: base 94, the least digit first.
+/// Appends the identifier of a register of this number: base 94, the least digit first. Its digits are the printable
+/// bytes but the blank, from `!`.
 pub fn put_id(out: &mut Bytes, number: u64) -> Result<(), AllocError>
     ensures { OnOk result (out.new ≡ out.old ++ dump.id_of number) }
 {
     let mut rest = number;
     for i in 0..10u64 {
-        out.push(digit(rest))?;
+        out.push(33 + (rest % 94) as u8)?;
         rest /= 94;
         if rest == 0 {
             return Ok(());
@@ -31,15 +24,7 @@ pub fn put_id(out: &mut Bytes, number: u64) -> Result<(), AllocError>
     Ok(())
 }
 
-/// Appends a number in base 2 without leading zeros.
-fn put_binary(alloc: Global, out: &mut Bytes, value: u64) -> Result<(), AllocError>
-    ensures { OnOk result (out.new ≡ out.old ++ digits 2 false value) }
-{
-    let text = format!(in alloc; "{value:b}")?;
-    out.put(text.as_bytes())
-}
-
-/// Appends the value of a register and what parts it from the identifier.
+/// Appends the value of a register, in base 2 without leading zeros, and what parts it from the identifier.
 fn put_value(alloc: Global, out: &mut Bytes, width: u64, value: u64) -> Result<(), AllocError>
     requires { value < 2 ^ width }
     ensures { OnOk result (out.new ≡ out.old ++ dump.value width value) }
@@ -47,9 +32,8 @@ fn put_value(alloc: Global, out: &mut Bytes, width: u64, value: u64) -> Result<(
     if width == 1 {
         return out.push(48 + value as u8);
     }
-    out.push(b'b')?;
-    put_binary(alloc, out, value)?;
-    out.push(b' ')
+    let text = format!(in alloc; "b{value:b} ")?;
+    out.put(text.as_bytes())
 }
 
 /// Appends the line that says that the register of this number and width has this value.
