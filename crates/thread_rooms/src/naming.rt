@@ -18,17 +18,11 @@ fn is_letter(byte: u8) -> bool
     byte.is_ascii_alphabetic() || byte == b'_'
 }
 
-fn is_letter_or_digit(byte: u8) -> bool
-    ensures { result ≡ is_letter_or_digit byte }
-{
-    is_letter(byte) || byte.is_ascii_digit()
-}
-
 fn are_letters_or_digits(bytes: &[u8]) -> bool
     ensures { result ≡ list_all is_letter_or_digit bytes.now }
 {
     for byte in bytes {
-        if !is_letter_or_digit(*byte) {
+        if !is_letter(*byte) && !byte.is_ascii_digit() {
             return false;
         }
     }

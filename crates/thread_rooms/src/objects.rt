@@ -21,82 +21,54 @@ pub struct Objects {
     pub barriers: Items<u32>,
 }
 
-/// The numbers of the first elements of objects of one kind, and the number after all their elements.
-#[derive(Drop)]
-struct Counted {
-    numbers: Items<u32>,
-    next: u32,
-}
-
-/// The number after those of so many elements from that number on.
-fn number_after(number: u32, length: u64) -> Result<u32, LoweringFault>
+/// The first element of an object of that length has this number. The answer is the number after its last.
+fn push_object(numbers: &mut Items<u32>, number: u32, length: u64) -> Result<u32, LoweringFault>
+    ensures numbers { OnOk result (numbers.new ≡ numbers.old ++ number ∷ []) }
     ensures sum { IfOk result (λ next. next ≡ number + length) }
     ensures few { IfOk result (λ next. next < 2 ^ 32) }
     ensures full { IfErr result (IsFull (number + length)) }
 {
-    let room = u64::from(u32::MAX - number);
-    if length > room {
+    if length > u64::from(u32::MAX - number) {
         return Err(LoweringFault::TooLarge);
     }
+    numbers.push(number)?;
     Ok(number + length as u32)
-}
-
-impl Counted {
-    fn new(alloc: Global, first: u32) -> Counted
-        ensures numbers { result.numbers ≡ [] }
-        ensures next { result.next ≡ first }
-    {
-        Counted {
-            numbers: Items::new(alloc),
-            next: first,
-        }
-    }
-
-    /// An object of that length comes next.
-    fn add(&mut self, length: u64) -> Result<(), LoweringFault>
-        ensures numbers { OnOk result (self.new.numbers ≡ self.old.numbers ++ self.old.next ∷ []) }
-        ensures next { OnOk result (self.new.next ≡ self.old.next + length) }
-        ensures few { OnOk result (self.new.next < 2 ^ 32) }
-        ensures full { IfErr result (IsFull (self.old.next + length)) }
-    {
-        let next = number_after(self.next, length)?;
-        self.numbers.push(self.next)?;
-        self.next = next;
-        Ok(())
-    }
 }
 
 fn threads_of(alloc: Global, threads: &[ThreadObject]) -> Result<Items<u32>, LoweringFault>
     ensures numbers { IfOk result (objects.AreNumbers 1 (λ object. object.length) threads.now) }
     ensures full { IfErr result (IsFull (1 + sum_by (λ object. object.length) threads.now)) }
 {
-    let mut counted = Counted::new(alloc, 1);
+    let mut numbers = Items::new(alloc);
+    let mut next = 1;
     for object in threads {
-        counted.add(object.length)?;
+        next = push_object(&mut numbers, next, object.length)?;
     }
-    Ok(counted.numbers)
+    Ok(numbers)
 }
 
 fn mutexes_of(alloc: Global, mutexes: &[MutexObject]) -> Result<Items<u32>, LoweringFault>
     ensures numbers { IfOk result (objects.AreNumbers 0 (λ object. object.length) mutexes.now) }
     ensures full { IfErr result (IsFull (sum_by (λ object. object.length) mutexes.now)) }
 {
-    let mut counted = Counted::new(alloc, 0);
+    let mut numbers = Items::new(alloc);
+    let mut next = 0;
     for object in mutexes {
-        counted.add(object.length)?;
+        next = push_object(&mut numbers, next, object.length)?;
     }
-    Ok(counted.numbers)
+    Ok(numbers)
 }
 
 fn barriers_of(alloc: Global, barriers: &[BarrierObject]) -> Result<Items<u32>, LoweringFault>
     ensures numbers { IfOk result (objects.AreNumbers 0 (λ object. object.length) barriers.now) }
     ensures full { IfErr result (IsFull (sum_by (λ object. object.length) barriers.now)) }
 {
-    let mut counted = Counted::new(alloc, 0);
+    let mut numbers = Items::new(alloc);
+    let mut next = 0;
     for object in barriers {
-        counted.add(object.length)?;
+        next = push_object(&mut numbers, next, object.length)?;
     }
-    Ok(counted.numbers)
+    Ok(numbers)
 }
 
 /// The numbers of a program's objects.

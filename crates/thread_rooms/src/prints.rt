@@ -1,7 +1,7 @@
 // How many printf calls statements have, and how many words they need.
 
 ghost use Rattle.std.specs.Prelude.{◌≡◌, ◌+◌, map, IfOk, IfErr};
-ghost use Rattle.c_program.specs.Plain.{function_of, returned_of, right_side_of, statement_of, thread_call_of};
+ghost use Rattle.c_program.specs.Plain.{function_of, right_side_of, statement_of, thread_call_of};
 ghost use Rattle.c_program.specs.Limits.{print_count};
 ghost use Rattle.straight_code.specs.Room.{IsFull};
 ghost use Rattle.thread_rooms.specs.Values as values;
@@ -54,15 +54,6 @@ fn right_values(right: &RightSide) -> usize
     }
 }
 
-fn returned_values(right: &Option<RightSide>) -> usize
-    ensures { result ≡ values.returned_values (returned_of right.now) }
-{
-    match right {
-        None => 0,
-        Some(right) => right_values(right),
-    }
-}
-
 /// The operands of a pthread call: the number of an object, and the argument of a create or the count of a barrier.
 fn operand_count(call: &ThreadCall) -> usize
     ensures { result ≡ values.operand_count (thread_call_of call.now) }
@@ -95,8 +86,7 @@ pub fn most_values(statement: &Statement) -> usize
             head.max(most_values(body))
         }
         Statement::Print(_, _, arguments) => arguments.len(),
-        Statement::Assign(_, _, right) => right_values(right),
-        Statement::Return(_, right) => returned_values(right),
+        Statement::Assign(_, _, right) | Statement::Return(_, Some(right)) => right_values(right),
         Statement::Call(_, _, _) => 1,
         Statement::Thread(_, call) => operand_count(call),
         _ => 0,
