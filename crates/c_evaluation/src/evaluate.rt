@@ -1,11 +1,11 @@
 // The value of an expression: the operands from left to right, then the operator (C99 6.5).
 ghost use Rattle.std.specs.Prelude.{◌≡◌, ◌&&◌, not, pos, int_le, IfOk};
 ghost use Rattle.hls_ints.specs.Residues.{bit_of};
-ghost use Rattle.hls_ints.specs.Operators.{less_of, equal_of};
+ghost use Rattle.hls_ints.specs.Operators.{equal_of};
 ghost use Rattle.hls_ints.specs.Types.{HasType, wrapped};
 ghost use Rattle.c_program.specs.Plain.{expression_of, expressions_of};
 ghost use Rattle.thread_semantics.specs.Value.{value, values, load, checked_index, unary_result, binary_result, right_operand, unary_value, binary_value};
-ghost use Rattle.c_evaluation.specs.Outcome.{outcome, memory_of, element_at, list_result};
+ghost use Rattle.c_evaluation.specs.Outcome.{outcome, memory_of, list_result};
 
 use c_program::tree::{BinaryOperator, Expression, Storage, UnaryOperator};
 use hls_ints::{ArithmeticFault, CType, c_and, c_not, c_or, c_xor, operators, wrap};
@@ -30,13 +30,6 @@ pub fn unary(operator: UnaryOperator, ty: CType, a: i128) -> Result<i128, Undefi
     ensures { result ≡ outcome (unary_value operator ty a) }
 {
     unary_result(operator, ty, wrap(ty, a)).map_err(UndefinedCause::Arithmetic)
-}
-
-/// a < b: the int 1 or 0
-fn less(a: i128, b: i128) -> i128
-    ensures { result ≡ less_of a b }
-{
-    (a < b) as i128
 }
 
 /// a <= b: the int 1 or 0
@@ -79,8 +72,8 @@ fn binary_result(
         BinaryOperator::Subtract => operators::subtract(ty, a, b),
         BinaryOperator::ShiftLeft => operators::shift_left(ty, a, right),
         BinaryOperator::ShiftRight => operators::shift_right(ty, a, right),
-        BinaryOperator::Less => Ok(less(a, b)),
-        BinaryOperator::Greater => Ok(less(b, a)),
+        BinaryOperator::Less => Ok((a < b) as i128),
+        BinaryOperator::Greater => Ok((b < a) as i128),
         BinaryOperator::LessEqual => Ok(at_most(a, b)),
         BinaryOperator::GreaterEqual => Ok(at_most(b, a)),
         BinaryOperator::Equal => Ok(equal(a, b)),
@@ -142,21 +135,6 @@ pub fn loaded(
     }
 }
 
-/// An element of an array, whose index is evaluated.
-fn loaded_at(
-    storage: Storage,
-    variable: u32,
-    length: u64,
-    index: i128,
-    locals: &[Vec<Option<i128>>],
-    globals: &[Vec<i128>],
-) -> Result<i128, UndefinedCause>
-    ensures { result ≡ outcome (element_at (memory_of locals.now globals.now) storage variable length index) }
-{
-    let j = index_within(length, index)?;
-    loaded(storage, variable, j, locals, globals)
-}
-
 /// The value of an expression, given the locals of the call at hand and the globals, or the first cause why it has
 /// none.
 pub fn evaluate(
@@ -173,7 +151,8 @@ pub fn evaluate(
         }
         Expression::Element(storage, variable, length, _, index) => {
             let i = evaluate(index, locals, globals)?;
-            loaded_at(*storage, *variable, *length, i, locals, globals)
+            let j = index_within(*length, i)?;
+            loaded(*storage, *variable, j, locals, globals)
         }
         Expression::Unary(operator, ty, operand) => {
             let a = evaluate(operand, locals, globals)?;

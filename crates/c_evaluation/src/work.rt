@@ -115,16 +115,7 @@ fn takes_step(statement: &Statement) -> bool
         | Statement::Call(_, _, _)
         | Statement::Print(_, _, _)
         | Statement::Thread(_, _) => true,
-        Statement::Done
-        | Statement::Sequence(_, _)
-        | Statement::Empty
-        | Statement::Block(_)
-        | Statement::If(_, _, _)
-        | Statement::While(_, _)
-        | Statement::DoWhile(_, _)
-        | Statement::For(_, _, _, _)
-        | Statement::Break
-        | Statement::Continue => false,
+        _ => false,
     }
 }
 
