@@ -2,7 +2,7 @@
 //! `rt plant`: all 4 wrong bodies in 1 function are refused.
 #![tactic(auto)]
 
-ghost use Rattle.std.specs.Prelude.{◌≡◌, ◌==◌, map, nat_eq, nat_le, slice_index, IfOk};
+ghost use Rattle.std.specs.Prelude.{◌≡◌, ◌==◌, map, nat_le, IfOk};
 ghost use Rattle.std.specs.List.{slice_split};
 ghost use Rattle.turns.specs.Turns.{all_turns, most_steps, number_of, read_number, steps_of, times_of, turn_of, turns_of};
 
@@ -26,17 +26,11 @@ fn read_number(text: &str) -> Option<u32>
     text.parse().ok()
 }
 
-fn has_plus(text: &str) -> bool
-    ensures { result ≡ nat_eq (slice_index text.now 0) 43 }
-{
-    text.as_bytes().first() == Some(&b'+')
-}
-
 /// The number that 1 to 10 decimal digits write, if it is one of 32 bits.
 fn number(text: &str) -> Option<u32>
     ensures { result ≡ number_of text.now }
 {
-    if has_plus(text) || text.len() > 10 {
+    if text.as_bytes().first() == Some(&b'+') || text.len() > 10 {
         None
     } else {
         read_number(text)
