@@ -1,5 +1,5 @@
 // The state of a program between two steps, and the one at the start.
-ghost use Rattle.std.specs.Prelude.{◌≡◌, ◌++◌, ◌∷◌, map, replicate, IfOk, None, slice_get};
+ghost use Rattle.std.specs.Prelude.{◌≡◌, ◌++◌, ◌∷◌, map, replicate, IfOk, slice_get};
 ghost use Rattle.std.specs.List.{flat_map};
 ghost use Rattle.c_program.specs.Plain.{function_of, global_of, program_of};
 ghost use Rattle.thread_semantics.specs.State.{fresh_locals, begun, started, first_values, first_mutex, first_mutexes, start, Unused, Running, NoBarrier};
@@ -82,14 +82,6 @@ impl Drop for Barrier {
     }
 }
 
-/// So many elements that aren't written.
-fn unwritten(alloc: Global, length: u64) -> Result<Vec<Option<i128>>, AllocError>
-    ensures { IfOk result (λ row. row.items ≡ replicate length None) }
-{
-    let row: Vec<Option<i128>> = vec![in alloc; None; length as usize]?;
-    Ok(row)
-}
-
 /// A local of a call: a parameter with its argument, or no element is written.
 fn fresh_local(
     alloc: Global,
@@ -99,7 +91,10 @@ fn fresh_local(
     ensures { IfOk result (λ row. row.items ≡ fresh_row local argument) }
 {
     match argument {
-        None => unwritten(alloc, local.length),
+        None => {
+            let row: Vec<Option<i128>> = vec![in alloc; None; local.length as usize]?;
+            Ok(row)
+        }
         Some(v) => {
             let mut row = Vec::new(alloc);
             row.push(Some(wrap(local.ty, v)))?;

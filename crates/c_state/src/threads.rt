@@ -56,21 +56,14 @@ fn all_unused(slots: &[Slot]) -> bool
     true
 }
 
-/// The threads but main.
-fn created<'a, 'p>(slots: &'a [Slot<'p>]) -> &'a [Slot<'p>]
-    ensures { map slot_of result.now ≡ created_slots (map slot_of slots.now) }
-{
-    match slots {
-        [] => slots,
-        [_, others @ ..] => others,
-    }
-}
-
 /// Whether each created thread is joined, so that main may return.
 pub fn all_joined(s: &State) -> bool
     ensures { result ≡ list_all is_unused (created_slots (state_of s.now).slots) }
 {
-    all_unused(created(&s.slots))
+    match s.slots.as_slice() {
+        [] => true,
+        [_, others @ ..] => all_unused(others),
+    }
 }
 
 fn is_among(i: u128, threads: &[u32]) -> bool
