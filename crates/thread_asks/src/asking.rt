@@ -1,24 +1,20 @@
 // What is asked of cores, stage by stage, by wires that read registers alone.
 
-ghost use Rattle.std.specs.Prelude.{ℕ, List, [], ◌∷◌, length, slice_get, Option, Some, IfOk, OnOk};
+ghost use Rattle.std.specs.Prelude.{ℕ, List, [], ◌∷◌, slice_get, Option, Some, IfOk, OnOk};
 ghost use Rattle.block_ir.specs.declared.code.Stage.TheVariants as taken;
 ghost use Rattle.block_ir.specs.declared.plan.StagePlan.{StagePlan as PlanOfStage};
-ghost use Rattle.block_ir.specs.declared.plan.StagePlan.TheVariants as stage_plan;
-ghost use Rattle.block_ir.specs.declared.code.Act.TheVariants as act_taken;
 ghost use Rattle.hls_ints.specs.Types.{IntegerType};
 ghost use Rattle.bank_partition.specs.declared.banks.Spread.{Spread as SpreadOf};
 ghost use Rattle.block_ir.specs.Asked.{Mutexes, Barriers, Ids, Prints};
-ghost use Rattle.thread_asks.specs.declared.asking.Caller.{Caller as CallerOf};
-ghost use Rattle.thread_asks.specs.Asking.{call_of, Calls, CallsPlain, AsksRequest, AsksStage, AsksFirst, AsksAllWired};
+ghost use Rattle.thread_asks.specs.Asking.{call_of, Calls, CallsPlain, AsksRequest, AsksStage, AsksAllWired};
 
 use crate::fields::{ask_number, ask_values, name_object};
 use bank_partition::banks::Spread;
 use block_datapath::accesses::ask_block;
 use block_datapath::registers::Registers;
 use block_datapath::states::at_stage;
-use block_ir::block::Block;
 use block_ir::code::{Act, ActOperand, Stage, ThreadCode};
-use block_ir::plan::{BlockPlan, Planned, StagePlan};
+use block_ir::plan::{Planned, StagePlan};
 use hls_ints::CType;
 use operator_wires::wires::Wires;
 use std::alloc::AllocError;
@@ -48,33 +44,15 @@ pub fn ask_stages(
 ) -> Result<usize, AllocError>
     ensures { IfOk result (AsksAllWired globals.now spreads.now code.now registers.now caller planned.now wires.old.signals wires.new.signals requests.old requests.new) }
 {
-    ask_each(
-        wires, registers, requests, code, globals, spreads, caller, planned,
-    )?;
-    at_stage(wires, registers, code.stages.len() as u64)
-}
-
-fn ask_each(
-    wires: &mut Wires,
-    registers: &Registers,
-    requests: &mut Requests,
-    code: &ThreadCode,
-    globals: &[CType],
-    spreads: &[Spread],
-    caller: Caller,
-    planned: &Planned,
-) -> Result<(), AllocError>
-    ensures { OnOk result (AsksFirst globals.now spreads.now code.now registers.now caller planned.now wires.old.signals wires.new.signals requests.old requests.new
-        (length code.now.stages)) }
-{
     for (number, stage) in code.stages.as_slice().iter().enumerate() {
         ask_stage(
             wires, registers, requests, code, globals, spreads, caller, planned, number, stage,
         )?;
     }
-    Ok(())
+    at_stage(wires, registers, code.stages.len() as u64)
 }
 
+/// A block by its plan, where the stage's plan is one of a block; or what an act asks.
 fn ask_stage(
     wires: &mut Wires,
     registers: &Registers,
@@ -93,68 +71,20 @@ fn ask_stage(
 {
     match stage {
         Stage::Run(block) => match planned.stages.get(number) {
-            Some(plan) => ask_run(
-                wires, registers, requests, code, globals, spreads, number, block, plan,
-            ),
-            None => Ok(()),
+            Some(StagePlan::Run(plan)) => {
+                let banks = &mut requests.banks;
+                let number = number as u64;
+                ask_block(
+                    wires, registers, banks, code, globals, spreads, number, block, plan,
+                )
+            }
+            _ => Ok(()),
         },
         Stage::Act { act, .. } => ask_act(wires, registers, requests, code, caller, number, act),
     }
 }
 
-/// A block by its plan, where the stage's plan is one of a block.
-fn ask_run(
-    wires: &mut Wires,
-    registers: &Registers,
-    requests: &mut Requests,
-    code: &ThreadCode,
-    globals: &[CType],
-    spreads: &[Spread],
-    number: usize,
-    block: &Block,
-    plan: &StagePlan,
-) -> Result<(), AllocError>
-    ensures { OnOk result ((caller : CallerOf) → AsksStage globals.now spreads.now code.now registers.now caller number (taken.Run block.now)
-        (Some plan.now) wires.old.signals
-        wires.new.signals requests.old requests.new) }
-{
-    match plan {
-        StagePlan::Run(plan) => ask_operations(
-            wires, registers, requests, code, globals, spreads, number, block, plan,
-        ),
-        StagePlan::Act => Ok(()),
-    }
-}
-
-fn ask_operations(
-    wires: &mut Wires,
-    registers: &Registers,
-    requests: &mut Requests,
-    code: &ThreadCode,
-    globals: &[CType],
-    spreads: &[Spread],
-    number: usize,
-    block: &Block,
-    plan: &BlockPlan,
-) -> Result<(), AllocError>
-    ensures { OnOk result ((caller : CallerOf) → AsksStage globals.now spreads.now code.now registers.now caller number (taken.Run block.now)
-        (Some (stage_plan.Run plan.now))
-        wires.old.signals wires.new.signals requests.old requests.new) }
-{
-    ask_block(
-        wires,
-        registers,
-        &mut requests.banks,
-        code,
-        globals,
-        spreads,
-        number as u64,
-        block,
-        plan,
-    )
-}
-
-/// What an act asks, by the table of acts (`request_of`); the return of main asks nothing.
+/// What an act asks, by the table of acts (`request_of`). A return finishes the thread's id; that of main asks nothing.
 fn ask_act(
     wires: &mut Wires,
     registers: &Registers,
@@ -234,27 +164,13 @@ fn ask_act(
             *barrier,
             &[],
         ),
-        Act::Return => ask_return(wires, registers, requests, code, caller, number),
-    }
-}
-
-/// A return finishes the thread's id; that of main asks nothing.
-fn ask_return(
-    wires: &mut Wires,
-    registers: &Registers,
-    requests: &mut Requests,
-    code: &ThreadCode,
-    caller: Caller,
-    number: usize,
-) -> Result<(), AllocError>
-    ensures { OnOk result ((globals : List IntegerType) (spreads : List SpreadOf) (next : ℕ) (plan : Option PlanOfStage) →
-        AsksStage globals spreads code.now registers.now caller number
-        (taken.Act act_taken.Return next) plan wires.old.signals wires.new.signals requests.old requests.new) }
-{
-    if caller.is_main {
-        Ok(())
-    } else {
-        ask_ids(wires, registers, requests, code, caller, number, 2, &[])
+        Act::Return => {
+            if caller.is_main {
+                Ok(())
+            } else {
+                ask_ids(wires, registers, requests, code, caller, number, 2, &[])
+            }
+        }
     }
 }
 

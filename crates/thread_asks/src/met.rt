@@ -1,14 +1,12 @@
 // Which barrier a thread meets others at.
 
-ghost use Rattle.std.specs.Prelude.{◌≡◌, ℕ, length, Some, IfOk};
-ghost use Rattle.block_ir.specs.declared.code.Stage.TheVariants as taken;
-ghost use Rattle.block_ir.specs.declared.code.Act.TheVariants as acts;
+ghost use Rattle.std.specs.Prelude.{length, IfOk};
 ghost use Rattle.thread_asks.specs.Met.{NamesStage, NamesMet};
 
 use crate::fields::name_object;
 use block_datapath::registers::Registers;
 use block_datapath::states::at_stage;
-use block_ir::code::{Act, ActOperand, Stage, ThreadCode};
+use block_ir::code::{Act, Stage, ThreadCode};
 use operator_wires::wires::Wires;
 use std::alloc::AllocError;
 use thread_slots::meetings::meeting_stage;
@@ -40,40 +38,14 @@ fn name_stage(
     ensures { IfOk result (NamesStage code.now registers.now number stage.now wires.old.signals wires.new.signals object) }
 {
     match stage {
-        Stage::Act { act, .. } => name_act(wires, registers, code, number, act, object),
         Stage::Run(_) => Ok(object),
+        Stage::Act { act, .. } => match act {
+            Act::BarrierWait { barrier } => {
+                let meeting = meeting_stage(code, number)?;
+                let at = at_stage(wires, registers, meeting)?;
+                name_object(wires, registers, object, code, at, *barrier)
+            }
+            _ => Ok(object),
+        },
     }
-}
-
-fn name_act(
-    wires: &mut Wires,
-    registers: &Registers,
-    code: &ThreadCode,
-    number: usize,
-    act: &Act,
-    object: usize,
-) -> Result<usize, AllocError>
-    ensures { IfOk result (λ after. (next : ℕ) → NamesStage code.now registers.now number (taken.Act act.now next) wires.old.signals wires.new.signals object after) }
-{
-    match act {
-        Act::BarrierWait { barrier } => {
-            name_meeting(wires, registers, code, number, *barrier, object)
-        }
-        _ => Ok(object),
-    }
-}
-
-fn name_meeting(
-    wires: &mut Wires,
-    registers: &Registers,
-    code: &ThreadCode,
-    number: usize,
-    barrier: ActOperand,
-    object: usize,
-) -> Result<usize, AllocError>
-    ensures { IfOk result (λ after. (next : ℕ) → NamesStage code.now registers.now number (taken.Act (acts.BarrierWait barrier) next) wires.old.signals wires.new.signals object after) }
-{
-    let meeting = meeting_stage(code, number)?;
-    let at = at_stage(wires, registers, meeting)?;
-    name_object(wires, registers, object, code, at, barrier)
 }

@@ -1,4 +1,4 @@
-use Rattle.std.proofs.Common.{◌≡◌, ℕ, List, [], ◌∷◌, Option, Some, sym, ap, subst, ◌∙◌}
+use Rattle.std.proofs.Common.{◌≡◌, ℕ, List, [], ◌∷◌, Option, Some, refl, sym, ap, subst, ◌∙◌}
 use Rattle.std.specs.Prelude.{Result, OnOk}
 use Rattle.std.proofs.lemmas.Result.{on_ok_weaker}
 use Rattle.hls_ints.specs.Types.{IntegerType}
@@ -14,7 +14,8 @@ use Rattle.netlist.specs.declared.netlist.Signal.{Signal}
 use Rattle.block_datapath.specs.declared.registers.Registers.{Registers}
 use Rattle.thread_slots.specs.declared.requests.Requests.{Requests}
 use Rattle.thread_asks.specs.declared.asking.Caller.{Caller}
-use Rattle.thread_asks.specs.Asking.{call_of, AsksStage, AsksRequest}
+use Rattle.thread_asks.specs.Asking.{is_asked, call_of, AsksStage, AsksRequest}
+use Rattle.thread_asks.proofs.Asks.{nothing_stage}
 use Rattle.thread_asks.proofs.asking.ask_act.Goals as goal
 
 module _ {A E : Type 0} (x : Result A E) (code : ThreadCode) (registers : Registers) (caller : Caller) (l : ℕ) (act : Act) (call : Call) (a b : List Signal)
@@ -88,10 +89,15 @@ returns-in-BarrierDestroy c =
     c.ask_barrier-in-BarrierDestroy.new.wires.signals c.args.requests.now c.ask_barrier-in-BarrierDestroy.new.requests
     (ap (request_of c.args.caller.is_main) c.in-BarrierDestroy.is) c.ask_barrier-in-BarrierDestroy.ensures
 
-pub returns-in-Return : goal.returns-in-Return
-returns-in-Return c =
-    on_ok_weaker c.ask_return.result
-    (λ t globals spreads next plan.
+pub returns-then-caller : goal.returns-then-caller
+returns-then-caller c = λ globals spreads next plan.
     subst (λ (a : Act). AsksStage globals spreads c.args.code.now c.args.registers.now c.args.caller c.args.number (stage.Act a next) plan c.args.wires.now.signals
-    c.ask_return.new.wires.signals c.args.requests.now c.ask_return.new.requests) (sym c.in-Return.is) (t globals spreads next plan))
-    c.ask_return.ensures
+    c.args.wires.now.signals c.args.requests.now c.args.requests.now) (sym c.in-Return.is)
+    (nothing_stage globals spreads c.args.code.now c.args.registers.now c.args.caller c.args.number (stage.Act act_taken.Return next) plan c.args.wires.now.signals
+    c.args.requests.now c.args.requests.now refl (λ k. ap (λ b. is_asked b (Some (stage.Act act_taken.Return next)) k) c.if-caller.true) (λ b p e. absurd cc))
+
+pub returns-else-caller : goal.returns-else-caller
+returns-else-caller c =
+    by_table c.ask_ids-else-caller.result c.args.code.now c.args.registers.now c.args.caller c.args.number c.args.act.now (call_of Ids 2 []) c.args.wires.now.signals
+    c.ask_ids-else-caller.new.wires.signals c.args.requests.now c.ask_ids-else-caller.new.requests
+    (ap (request_of c.args.caller.is_main) c.in-Return.is ∙ ap (λ b. request_of b act_taken.Return) c.if-caller.false) c.ask_ids-else-caller.ensures

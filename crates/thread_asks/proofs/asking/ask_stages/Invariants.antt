@@ -1,5 +1,5 @@
 use Rattle.thread_asks.specs.Asking.{AsksFirst}
-use Rattle.thread_asks.proofs.asking.ask_each.Given as goal
+use Rattle.thread_asks.proofs.asking.ask_stages.Given as goal
 
 abbrev pub invariant-loop-number : goal.invariant-loop-number
 invariant-loop-number l =
