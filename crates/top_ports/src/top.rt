@@ -20,32 +20,16 @@ pub fn is_top(module: &Module) -> bool
     module.name.as_str() == "top"
 }
 
-/// Whether an output `done` of one bit.
-fn is_done(port: &Port) -> bool
-    ensures { result ≡ spec.is_done port.now }
-{
-    port.name.as_str() == "done" && !is_input(port.direction) && width_of(port.high) == 1
-}
-
-/// Whether an input `en`.
-fn is_enable(port: &Port) -> bool
-    ensures { result ≡ spec.is_enable port.now }
-{
-    port.name.as_str() == "en" && is_input(port.direction)
-}
-
-/// Whether an input of 4 bits or more with one of these names.
-fn is_pref(prefs: &NameSet<'_>, port: &Port) -> bool
-    ensures { result ≡ spec.is_pref prefs.now port.now }
-{
-    prefs.contains(&port.name) && is_input(port.direction) && width_of(port.high) >= 4
-}
-
-/// Whether `top` may have the port, by the names that its prefs may have.
+/// Whether `top` may have the port: `clk`, an output `done` of one bit, an input `en`, or an input of 4 bits or more with
+/// one of these names.
 fn is_wanted(prefs: &NameSet<'_>, port: &Port) -> bool
     ensures { result ≡ spec.is_wanted prefs.now port.now }
 {
-    is_clk(&port.name) || is_done(port) || is_enable(port) || is_pref(prefs, port)
+    let name = port.name.as_str();
+    is_clk(&port.name)
+        || (name == "done" && !is_input(port.direction) && width_of(port.high) == 1)
+        || (name == "en" && is_input(port.direction))
+        || (prefs.contains(&port.name) && is_input(port.direction) && width_of(port.high) >= 4)
 }
 
 fn names<'n>(alloc: Global, ports: &'n [Port]) -> Result<NameSet<'n>, AllocError>
