@@ -9,19 +9,11 @@ ghost use Rattle.loop_path.specs.Dotted as spec;
 
 use crate::find::{Looped, first_looped};
 use cycle_sim::net::top_number;
-use netlist::netlist::{Instance, Module};
+use netlist::netlist::Module;
 use sim_layout::wires::module_signals;
 use sim_values::tree::module_instances;
 use sqlite_items::at;
 use std::alloc::{AllocError, Global};
-
-/// Appends the name of an instance and a dot.
-fn put_name(text: &mut String, instance: &Instance) -> Result<(), AllocError>
-    ensures { OnOk result (string_bytes text.new ≡ string_bytes text.old ++ instance.now.name ++ 46 ∷ []) }
-{
-    text.push_str(instance.name.as_str())?;
-    text.push_str(".")
-}
 
 /// Appends the name of an instance of a module and a dot, and gives the number of the instance's module.
 fn put_instance(
@@ -35,7 +27,8 @@ fn put_instance(
 {
     match at(module_instances(modules, kind), instance) {
         Some(instance) => {
-            put_name(text, instance)?;
+            text.push_str(instance.name.as_str())?;
+            text.push_str(".")?;
             Ok(instance.of)
         }
         None => {
@@ -64,21 +57,6 @@ fn put_path(
     Ok(kind)
 }
 
-/// Appends the name of a signal of a module.
-fn put_signal(
-    text: &mut String,
-    modules: &[Module],
-    kind: usize,
-    signal: usize,
-) -> Result<(), AllocError>
-    ensures { OnOk result (string_bytes text.new ≡ string_bytes text.old ++ spec.signal_name (spec.signal_in (slice_get modules.now kind) signal)) }
-{
-    match at(module_signals(modules, kind), signal) {
-        Some(signal) => text.push_str(signal.name.as_str()),
-        None => Ok(()),
-    }
-}
-
 /// The names of the instances that a signal stands in, the outermost first, and the signal's, with dots between them.
 fn dotted(
     alloc: Global,
@@ -91,7 +69,9 @@ fn dotted(
 {
     let mut text = String::new(alloc);
     let kind = put_path(&mut text, modules, top, looped.path.as_slice())?;
-    put_signal(&mut text, modules, kind, looped.signal)?;
+    if let Some(signal) = at(module_signals(modules, kind), looped.signal) {
+        text.push_str(signal.name.as_str())?;
+    }
     Ok(text)
 }
 
