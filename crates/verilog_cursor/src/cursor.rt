@@ -14,27 +14,14 @@ use verilog_tree::name::{Identifier, Quoted};
 use verilog_tree::token::{Mark, Token, Word};
 use verilog_tree::tree::{BinaryOperator, Direction, DivisionOperator};
 
-#[tactic(auto, unfolding(verilog_rules::specs::Signs::same_word))]
-fn same_word(a: Word, b: Word) -> bool
-    ensures { result ≡ signs.same_word a b }
-{
-    a == b
-}
-
-#[tactic(auto, unfolding(verilog_rules::specs::Signs::same_mark))]
-fn same_mark(a: Mark, b: Mark) -> bool
-    ensures { result ≡ signs.same_mark a b }
-{
-    a == b
-}
-
 /// Whether the token is of the sign.
+#[tactic(auto, unfolding(verilog_rules::specs::Signs::same_word, verilog_rules::specs::Signs::same_mark))]
 fn is(sign: Sign, token: &Token) -> bool
     ensures { result ≡ signs.is sign token.now }
 {
     match (sign, token) {
-        (Sign::Word(word), Token::Word(found)) => same_word(word, *found),
-        (Sign::Mark(mark), Token::Mark(found)) => same_mark(mark, *found),
+        (Sign::Word(word), Token::Word(found)) => word == *found,
+        (Sign::Mark(mark), Token::Mark(found)) => mark == *found,
         (Sign::Zero, Token::Number(number)) => *number == 0,
         (Sign::Clock, Token::Name(name)) => name.as_str() == "clk",
         _ => false,
@@ -45,12 +32,6 @@ fn is_name(token: &Token) -> bool
     ensures { result ≡ signs.is_name token.now }
 {
     matches!(token, Token::Name(_))
-}
-
-fn is_number(token: &Token) -> bool
-    ensures { result ≡ signs.is_number token.now }
-{
-    matches!(token, Token::Number(_))
 }
 
 fn operator_of(mark: Mark) -> Option<BinaryOperator>
@@ -71,30 +52,12 @@ fn operator_of(mark: Mark) -> Option<BinaryOperator>
     }
 }
 
-fn operator_at(token: &Token) -> Option<BinaryOperator>
-    ensures { result ≡ signs.operator_at token.now }
-{
-    match token {
-        Token::Mark(mark) => operator_of(*mark),
-        _ => None,
-    }
-}
-
 fn division_of(mark: Mark) -> Option<DivisionOperator>
     ensures { result ≡ signs.division_of mark }
 {
     match mark {
         Mark::Slash => Some(DivisionOperator::Quotient),
         Mark::Percent => Some(DivisionOperator::Remainder),
-        _ => None,
-    }
-}
-
-fn division_at(token: &Token) -> Option<DivisionOperator>
-    ensures { result ≡ signs.division_at token.now }
-{
-    match token {
-        Token::Mark(mark) => division_of(*mark),
         _ => None,
     }
 }
@@ -107,32 +70,6 @@ fn direction_of(word: Word) -> Option<Direction>
         Word::Output => Some(Direction::Output),
         _ => None,
     }
-}
-
-fn direction_at(token: &Token) -> Option<Direction>
-    ensures { result ≡ signs.direction_at token.now }
-{
-    match token {
-        Token::Word(word) => direction_of(*word),
-        _ => None,
-    }
-}
-
-fn begins_statement(token: &Token) -> bool
-    ensures { result ≡ spec.begins_statement token.now }
-{
-    is(Sign::Word(Word::If), token) || is_name(token) || is(Sign::Mark(Mark::Write), token)
-}
-
-fn begins_item(token: &Token) -> bool
-    ensures { result ≡ spec.begins_item token.now }
-{
-    is(Sign::Word(Word::Wire), token)
-        || is(Sign::Word(Word::Reg), token)
-        || is(Sign::Word(Word::Assign), token)
-        || is(Sign::Word(Word::Initial), token)
-        || is(Sign::Word(Word::Always), token)
-        || is_name(token)
 }
 
 /// The tokens that are not read yet. Contracts see them.
@@ -202,7 +139,7 @@ impl<'a> Cursor<'a> {
         ensures { result ≡ sees signs.is_number self.now }
     {
         match self.rest {
-            [token, ..] => is_number(token),
+            [token, ..] => matches!(token, Token::Number(_)),
             [] => false,
         }
     }
@@ -212,7 +149,10 @@ impl<'a> Cursor<'a> {
         ensures { result ≡ sees signs.is_operator self.now }
     {
         match self.rest {
-            [token, ..] => operator_at(token).is_some(),
+            [token, ..] => match token {
+                Token::Mark(mark) => operator_of(*mark).is_some(),
+                _ => false,
+            },
             [] => false,
         }
     }
@@ -222,7 +162,11 @@ impl<'a> Cursor<'a> {
         ensures { result ≡ sees spec.begins_statement self.now }
     {
         match self.rest {
-            [token, ..] => begins_statement(token),
+            [token, ..] => {
+                is(Sign::Word(Word::If), token)
+                    || is_name(token)
+                    || is(Sign::Mark(Mark::Write), token)
+            }
             [] => false,
         }
     }
@@ -232,7 +176,14 @@ impl<'a> Cursor<'a> {
         ensures { result ≡ sees spec.begins_item self.now }
     {
         match self.rest {
-            [token, ..] => begins_item(token),
+            [token, ..] => {
+                is(Sign::Word(Word::Wire), token)
+                    || is(Sign::Word(Word::Reg), token)
+                    || is(Sign::Word(Word::Assign), token)
+                    || is(Sign::Word(Word::Initial), token)
+                    || is(Sign::Word(Word::Always), token)
+                    || is_name(token)
+            }
             [] => false,
         }
     }
@@ -321,7 +272,10 @@ impl<'a> Cursor<'a> {
         let [token, rest @ ..] = self.rest else {
             return Err(Fault::Syntax);
         };
-        let Some(operator) = operator_at(token) else {
+        let Token::Mark(mark) = token else {
+            return Err(Fault::Syntax);
+        };
+        let Some(operator) = operator_of(*mark) else {
             return Err(Fault::Syntax);
         };
         self.rest = rest;
@@ -336,7 +290,10 @@ impl<'a> Cursor<'a> {
         let [token, rest @ ..] = self.rest else {
             return Err(Fault::Syntax);
         };
-        let Some(operator) = division_at(token) else {
+        let Token::Mark(mark) = token else {
+            return Err(Fault::Syntax);
+        };
+        let Some(operator) = division_of(*mark) else {
             return Err(Fault::Syntax);
         };
         self.rest = rest;
@@ -351,7 +308,10 @@ impl<'a> Cursor<'a> {
         let [token, rest @ ..] = self.rest else {
             return Err(Fault::Syntax);
         };
-        let Some(direction) = direction_at(token) else {
+        let Token::Word(word) = token else {
+            return Err(Fault::Syntax);
+        };
+        let Some(direction) = direction_of(*word) else {
             return Err(Fault::Syntax);
         };
         self.rest = rest;
