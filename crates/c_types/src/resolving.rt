@@ -17,10 +17,8 @@ use c_definitions::tables::Tables;
 use c_program::tree::Program;
 use c_rules::fault::{ResolveError, first};
 use c_rules::findings::Findings;
-use c_rules::level::{Definitions, Level, LocalNames};
-use c_rules::names::{Gives, Scope};
+use c_rules::names::Scope;
 use c_tree::{ExternalDeclaration, TranslationUnit};
-use sqlite_items::Items;
 use std::alloc::{AllocError, Global};
 
 /// What is known behind a text: the number of main's definition, what was found, and the declarations.
@@ -29,23 +27,6 @@ struct Text {
     main: Option<u32>,
     found: Findings,
     tables: Tables,
-}
-
-/// The scope of a file that defines these functions, where no name is declared yet.
-fn file_scope<'t>(alloc: Global, definitions: Definitions<'t>) -> Scope<'t>
-    ensures { result ≡ spec.scope_with definitions.entry }
-{
-    Scope {
-        definitions,
-        outer: Items::new(alloc),
-        inner: Level::new(alloc),
-        headers: Items::new(alloc),
-        function: None,
-        gives: Gives::Unlisted,
-        locals: Items::new(alloc),
-        local_names: LocalNames::new(alloc),
-        loops: 0,
-    }
 }
 
 /// No declaration.
@@ -68,7 +49,9 @@ fn go_through(alloc: Global, declarations: &[ExternalDeclaration]) -> Result<Tex
     ensures found { IfOk result (λ t. t.found ≡ (spec.behind declarations.now).found) }
     ensures tables { IfOk result (λ t. tables_of t.tables ≡ (spec.behind declarations.now).tables) }
 {
-    let mut scope = file_scope(alloc, definitions_of(alloc, declarations)?);
+    let definitions = definitions_of(alloc, declarations)?;
+    let mut scope = Scope::new(alloc);
+    scope.definitions = definitions;
     let mut found = Findings::new(alloc);
     let mut tables = no_tables(alloc);
     walk(alloc, &mut scope, &mut found, &mut tables, declarations)?;
