@@ -1,5 +1,6 @@
 -- An entry done again.
 use Rattle.std.specs.Prelude.{◌≡◌, ℕ, zero, suc, ◌+◌, ◌<◌, ◌≤◌, ◌⊎◌, Bool, true, false, MatchBool, MatchOption, List, ◌++◌, length, Option, Some, None, if◌then◌else◌, refl}
+use Rattle.std.specs.Int.{from_bool}
 use Rattle.std.proofs.Common.{ap, sym, ◌∙◌, subst, ⊎_elim, arith}
 use Rattle.std.proofs.lemmas.List.{append-nil, append_assoc}
 use Rattle.netlist.specs.declared.netlist.Module.{Module}
@@ -48,6 +49,10 @@ long_times modules top n (suc k) c = ap suc (long_times modules top n k c)
 sums : (k : ℕ) (b : Bool) → k + needed b ≡ (if b then k + 1 else k)
 sums k true = refl
 sums k false = let e : k + 0 ≡ k = omega arith in e
+
+pub from_needed : (b : Bool) → from_bool b ≡ needed b
+from_needed true = refl
+from_needed false = refl
 
 at_most_one : (b : Bool) → needed b ≤ 1
 at_most_one true = omega arith

@@ -5,7 +5,7 @@ ghost use Rattle.sim_layout.specs.Rounds.{threads_of};
 ghost use Rattle.sim_layout.specs.Running.{state_of, IsSameNet, IsSameState};
 ghost use Rattle.slot_sim.specs.Slots.{IsThreadedIn};
 ghost use Rattle.journal_laws.specs.Steps.{OfTop};
-ghost use Rattle.journal_replay.specs.Replays.{needed, MayStep, AreRedone, CannotRedo, IsEntryRedone, IsNoEntry};
+ghost use Rattle.journal_replay.specs.Replays.{MayStep, AreRedone, CannotRedo, IsEntryRedone, IsNoEntry};
 
 use hls_io::Bytes;
 use journal_laws::enter::has_cycle;
@@ -57,13 +57,6 @@ fn redo_steps(
     Ok(true)
 }
 
-/// How many open cycles an entry has.
-fn open_count(opened: bool) -> u64
-    ensures { result ≡ needed opened }
-{
-    if opened { 1 } else { 0 }
-}
-
 /// Does an entry again, where it is legal, and says how many cycles it has.
 pub fn redo(sim: &mut SlotSim, output: &mut Bytes, entry: Entry) -> Result<Option<u64>, AllocError>
     requires threaded { IsThreadedIn sim.old.modules (threads_of sim.old.modules) }
@@ -85,7 +78,7 @@ pub fn redo(sim: &mut SlotSim, output: &mut Bytes, entry: Entry) -> Result<Optio
     if !redo_steps(sim, output, thread, entry.closed, false)? {
         return Ok(None);
     }
-    let open = open_count(entry.opened);
+    let open = u64::from(entry.opened);
     if !redo_steps(sim, output, thread, open, true)? {
         return Ok(None);
     }

@@ -1,11 +1,11 @@
-use Rattle.std.proofs.Common.{ℕ, true, List, sym, subst, arith}
+use Rattle.std.proofs.Common.{ℕ, true, List, ◌∙◌, sym, subst, arith}
 use Rattle.netlist.specs.declared.netlist.Module.{Module}
 use Rattle.sim_layout.specs.Running.{state_of}
 use Rattle.sim_layout.specs.Rounds.{threads_of}
 use Rattle.slot_sim.specs.Slots.{IsThreadedIn}
 use Rattle.journal_laws.specs.Steps.{OfTop}
 use Rattle.journal_replay.specs.Replays.{AreRedone, CannotRedo}
-use Rattle.journal_replay.proofs.Entries.{said, denied, no_open, entry_done}
+use Rattle.journal_replay.proofs.Entries.{said, denied, from_needed, no_open, entry_done}
 use Rattle.journal_replay.proofs.steps.redo.Goals as goal
 
 pub redo_steps-requires-2-clause-threaded : goal.redo_steps-requires-2-clause-threaded
@@ -17,7 +17,8 @@ returns-then-not-branch-2-clause-redone c =
     let z = c.in_ok-redo_steps-2.ensures in
     let r = c.redo_steps.new.sim in
     no_open c.args.sim.now r c.threads.ensures.stands c.args.entry y.net c.args.output.now c.redo_steps.new.output (said _ _ _ c.if-not-branch.false y.redone)
-    (subst (λ (k : ℕ). OfTop r (λ ms top n. CannotRedo ms top n c.args.entry.thread true k (state_of r))) c.open_count-open.ensures (denied _ _ _ c.if-not-branch-2.true z.redone))
+    (subst (λ (k : ℕ). OfTop r (λ ms top n. CannotRedo ms top n c.args.entry.thread true k (state_of r)))
+    (c.from-open.ensures ∙ from_needed c.args.entry.opened) (denied _ _ _ c.if-not-branch-2.true z.redone))
 
 pub returns-clause-redone : goal.returns-clause-redone
 returns-clause-redone c =
@@ -29,7 +30,7 @@ returns-clause-redone c =
     let a = c.if-entry-threads.false in
     let b = c.threads.ensures.threads in
     let f = c.if-entry-gt4096.false in
-    let o = c.open_count-open.ensures in
+    let o = c.from-open.ensures ∙ from_needed c.args.entry.opened in
     entry_done c.args.sim.now r c.threads.ensures.stands e y.net c.args.output.now c.redo_steps.new.output (said _ _ _ c.if-not-branch.false y.redone) new
     c.redo_steps-2.new.output _
     (subst (λ (k : ℕ). OfTop r (λ ms top n. AreRedone ms top n e.thread true k (state_of r) (state_of new) c.redo_steps.new.output c.redo_steps-2.new.output)) o
