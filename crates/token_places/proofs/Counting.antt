@@ -75,7 +75,7 @@ more_connections : (xs : List Connection) → length (g.more g.connection xs) �
 more_connections [] = refl
 more_connections (x ∷ xs) = let e = more_connections xs in omega (arith, e)
 
-pub connections_length : (xs : List Connection) → length (g.commas g.connection xs) ≡ 6 * length xs - 1
+connections_length : (xs : List Connection) → length (g.commas g.connection xs) ≡ 6 * length xs - 1
 connections_length [] = refl
 connections_length (x ∷ xs) = let e = more_connections xs in omega (arith, e)
 
@@ -165,11 +165,12 @@ initials_length x = let a = length-append (g.all g.initial_constant x.constants)
 pub always_length : (x : Always) → length (g.item (i.Always x)) ≡ 8 + length (g.all g.statement x.body)
 always_length x = let a = length-append (g.all g.statement x.body) (g.word w.End) in omega (arith, a)
 
-pub instance_length : (x : Instance) → length (g.item (i.Instance x)) ≡ 5 + length (g.commas g.connection x.connections)
+pub instance_length : (x : Instance) → length (g.item (i.Instance x)) ≡ 5 + (6 * length x.connections - 1)
 instance_length x =
+    let e = connections_length x.connections in
     let a = length-append (g.commas g.connection x.connections) (g.mark m.CloseRound) in
     let b = length-append (g.commas g.connection x.connections ++ g.mark m.CloseRound) (g.mark m.Semicolon) in
-    omega (arith, a, b)
+    omega (arith, a, b, e)
 
 pub ruleset item_lengths = (wire_length, register_length, assign_length, initials_length, always_length, instance_length)
 

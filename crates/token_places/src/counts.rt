@@ -1,26 +1,17 @@
 // How many tokens the parts of a net have.
 
-ghost use Rattle.std.specs.Prelude.{◌≡◌, ◌+◌, ◌-◌, length, IfOk};
+ghost use Rattle.std.specs.Prelude.{◌≡◌, ◌+◌, length, IfOk};
 ghost use Rattle.verilog_tree.specs.Grammar as g;
 ghost use Rattle.token_places.specs.Before.{port_and_comma};
 
 use std::alloc::AllocError;
-use verilog_tree::tree::{
-    Connection, Expression, InitialConstant, Item, Port, Statement, WriteArgument,
-};
+use verilog_tree::tree::{Expression, InitialConstant, Item, Port, Statement, WriteArgument};
 
 /// The sum, or want of memory where it does not fit, which comes of no text that fits.
 pub(crate) fn sum(a: usize, b: usize) -> Result<usize, AllocError>
     ensures { IfOk result (λ n. n ≡ a + b) }
 {
     a.checked_add(b).ok_or(AllocError)
-}
-
-/// How many tokens names with commas between them have, of which there are so many.
-fn of_names(count: usize) -> Result<usize, AllocError>
-    ensures { IfOk result (λ n. n ≡ count + (count - 1)) }
-{
-    sum(count, count.saturating_sub(1))
 }
 
 fn of_range(high: Option<u64>) -> usize
@@ -47,7 +38,10 @@ fn of_expression(value: &Expression) -> Result<usize, AllocError>
         Expression::Division { .. } => Ok(15),
         Expression::MemoryRead { .. } => Ok(16),
         Expression::SignedDivision { .. } => Ok(21),
-        Expression::Concatenation(parts) => sum(2, of_names(parts.len())?),
+        Expression::Concatenation(parts) => {
+            let names = parts.len();
+            sum(2, sum(names, names.saturating_sub(1))?)
+        }
         Expression::Replication { .. } => Ok(6),
     }
 }
@@ -134,18 +128,6 @@ fn of_initials(constants: &[InitialConstant]) -> Result<usize, AllocError>
     Ok(count)
 }
 
-/// The tokens of connections, of which each has five, with commas between them.
-#[tactic(auto, using(crate::proofs::Counting::connections_length))]
-fn of_connections(connections: &[Connection]) -> Result<usize, AllocError>
-    ensures { IfOk result (λ n. n ≡ length (g.commas g.connection connections.now)) }
-{
-    let mut count = 0;
-    for _connection in connections {
-        count = sum(count, 6)?;
-    }
-    Ok(count.saturating_sub(1))
-}
-
 #[tactic(auto, using(crate::proofs::Counting::item_lengths))]
 fn of_item(item: &Item) -> Result<usize, AllocError>
     ensures { IfOk result (λ n. n ≡ length (g.item item.now)) }
@@ -157,7 +139,11 @@ fn of_item(item: &Item) -> Result<usize, AllocError>
         Item::Assign(x) => sum(4, of_expression(&x.value)?),
         Item::Initial(x) => sum(3, of_initials(x.constants.as_slice())?),
         Item::Always(x) => sum(8, of_statements(x.body.as_slice())?),
-        Item::Instance(x) => sum(5, of_connections(x.connections.as_slice())?),
+        Item::Instance(x) => {
+            // Each connection has five tokens, and there are commas between them.
+            let connections = x.connections.len().checked_mul(6).ok_or(AllocError)?;
+            sum(5, connections.saturating_sub(1))
+        }
     }
 }
 
