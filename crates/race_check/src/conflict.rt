@@ -3,7 +3,7 @@ ghost use Rattle.std.specs.Prelude.{◌≡◌, Option};
 ghost use Rattle.std.specs.Option.{option_map};
 ghost use Rattle.std.specs.List.{list_any};
 ghost use Rattle.race_check.specs.Access.{location_of, touch_of, touches_of};
-ghost use Rattle.race_check.specs.Conflict.{Conflict, Hits, IsLeast, precedes, is_at, hit, lesser, least};
+ghost use Rattle.race_check.specs.Conflict.{Conflict, Hits, IsLeast, precedes, is_at, hit, least};
 
 use crate::access::{Access, Location};
 
@@ -43,12 +43,6 @@ fn hit(access: &Access, others: &[Access]) -> Option<Location>
     }
 }
 
-fn lesser(a: Location, b: Location) -> Location
-    ensures { location_of result ≡ lesser (location_of a) (location_of b) }
-{
-    if precedes(a, b) { a } else { b }
-}
-
 /// The lesser of two locations, or the one that is there.
 fn least(a: Option<Location>, b: Option<Location>) -> Option<Location>
     ensures { option_map location_of result ≡ least (option_map location_of a) (option_map location_of b) }
@@ -57,7 +51,7 @@ fn least(a: Option<Location>, b: Option<Location>) -> Option<Location>
         None => b,
         Some(p) => match b {
             None => Some(p),
-            Some(q) => Some(lesser(p, q)),
+            Some(q) => if precedes(p, q) { Some(p) } else { Some(q) },
         },
     }
 }

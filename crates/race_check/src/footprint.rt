@@ -6,7 +6,6 @@ ghost use Rattle.thread_semantics.specs.State.{Frame as Frames, Running};
 ghost use Rattle.thread_semantics.specs.Move.{move};
 ghost use Rattle.thread_semantics.specs.Races.{write_of, footprint};
 ghost use Rattle.c_state.specs.View.{slot_of, state_of};
-ghost use Rattle.c_state.specs.Change.{change_write};
 ghost use Rattle.race_check.specs.Access.{touch_of, touches_of};
 ghost use Rattle.race_check.specs.Reads.{Callers, MoveAdds};
 ghost use Rattle.race_check.specs.Planned.{plan_write, may_end, may_return, may_touch, has_callers};
@@ -21,39 +20,24 @@ use c_step_parts::plan::{Plan, next_plan};
 use sqlite_items::Items;
 use std::alloc::{AllocError, Global};
 
-/// What a change writes to a global.
-fn push_change(change: &Change, list: &mut Items<Access>) -> Result<(), AllocError>
-    ensures { IfOk result (λ _. touches_of list.new ≡ touches_of list.old ++ write_of (change_write change.now)) }
-{
-    match change {
-        Change::Nothing => Ok(()),
-        Change::Blanked(_) => Ok(()),
-        Change::Stored(stored) => match stored.target.storage {
-            Storage::Automatic => Ok(()),
-            Storage::Static => {
-                list.push(Access {
-                    location: Location {
-                        global: stored.target.variable,
-                        index: stored.target.index,
-                    },
-                    written: true,
-                })
-            }
-        },
-    }
-}
-
 /// What a step by this plan writes to a global.
 fn push_write(plan: &Plan, list: &mut Items<Access>) -> Result<(), AllocError>
     ensures { IfOk result (λ _. touches_of list.new ≡ touches_of list.old ++ write_of (plan_write plan.now)) }
 {
-    match plan {
-        Plan::Onward(_, _, change) => push_change(change, list),
-        Plan::Enter(_, _) => Ok(()),
-        Plan::Return(_, _) => Ok(()),
-        Plan::Perform(_, _, _) => Ok(()),
-        Plan::Fault(_, _) => Ok(()),
-        Plan::Impossible => Ok(()),
+    let Plan::Onward(_, _, Change::Stored(stored)) = plan else {
+        return Ok(());
+    };
+    match stored.target.storage {
+        Storage::Automatic => Ok(()),
+        Storage::Static => {
+            list.push(Access {
+                location: Location {
+                    global: stored.target.variable,
+                    index: stored.target.index,
+                },
+                written: true,
+            })
+        }
     }
 }
 
