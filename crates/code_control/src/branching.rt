@@ -104,8 +104,7 @@ pub fn turn_choice(
     ensures { OnOk result (branching.TurnsChoice labels code.old code.new) }
 {
     code.leap(alloc, labels.join)?;
-    code.bind(alloc, labels.if_false)?;
-    Ok(())
+    code.bind(alloc, labels.if_false)
 }
 
 /// The head of a loop.
@@ -141,8 +140,7 @@ pub fn close_turn(alloc: Global, code: &mut Lowering, labels: LoopLabels) -> Res
     ensures { OnOk result (branching.ClosesTurn labels code.old code.new) }
 {
     code.leap(alloc, labels.head)?;
-    code.bind(alloc, labels.leaving)?;
-    Ok(())
+    code.bind(alloc, labels.leaving)
 }
 
 /// The condition at the end of a do, if it is reached.
@@ -194,8 +192,7 @@ pub fn open_for(
         (IsFullAt (condition_of condition.now) (code.old.site + print_count (statement_of last.now)) code.old) }
 {
     code.skip_sites(print_count(last)?)?;
-    let labels = open_turn(alloc, code, condition)?;
-    Ok(labels)
+    open_turn(alloc, code, condition)
 }
 
 /// The place of the last part of a for, whose first printf has that number.
@@ -210,8 +207,7 @@ pub fn turn_for(
     ensures { OnOk result (control.Binds labels.turning (doing.at_site site code.old) code.new) }
 {
     code.set_site(site);
-    code.bind(alloc, labels.turning)?;
-    Ok(())
+    code.bind(alloc, labels.turning)
 }
 
 /// The end of a for, after whose body that is the number of the next printf.
@@ -227,6 +223,5 @@ pub fn close_for(
     ensures { OnOk result (branching.ClosesTurn labels (doing.at_site site code.old) code.new) }
 {
     code.set_site(site);
-    close_turn(alloc, code, labels)?;
-    Ok(())
+    close_turn(alloc, code, labels)
 }

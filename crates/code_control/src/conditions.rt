@@ -52,19 +52,14 @@ pub fn lower_condition(
             let next = code.new_label()?;
             lower_condition(alloc, code, first, next, if_false)?;
             code.begin(alloc, next)?;
-            lower_condition(alloc, code, second, if_true, if_false)?;
-            Ok(())
+            lower_condition(alloc, code, second, if_true, if_false)
         }
         Condition::Either(first, second) => {
             let next = code.new_label()?;
             lower_condition(alloc, code, first, if_true, next)?;
             code.begin(alloc, next)?;
-            lower_condition(alloc, code, second, if_true, if_false)?;
-            Ok(())
+            lower_condition(alloc, code, second, if_true, if_false)
         }
-        Condition::Opposite(inner) => {
-            lower_condition(alloc, code, inner, if_false, if_true)?;
-            Ok(())
-        }
+        Condition::Opposite(inner) => lower_condition(alloc, code, inner, if_false, if_true),
     }
 }

@@ -1,5 +1,5 @@
 use Rattle.std.proofs.Common.{sym, ap, ◌∙◌, subst}
-use Rattle.std.proofs.lemmas.Result.{err_from_is_err_and}
+use Rattle.std.proofs.lemmas.Result.{MatchResult-weaker, err_from_is_err_and}
 use Rattle.c_program.specs.Plain.{condition_of, expression_of}
 use Rattle.c_program.specs.Tree.{Condition}
 use Rattle.c_program.specs.Weight.{condition_weight}
@@ -8,27 +8,51 @@ use Rattle.code_control.proofs.Deciding.{operand_decides, opposite_decides, both
 use Rattle.code_control.proofs.Filling.{opposite_at, first_at, second_at}
 use Rattle.code_control.proofs.conditions.+lower_condition.Goals as goal
 
-pub returns-in_ok-lower_condition-in-Both-2 : goal.returns-in_ok-lower_condition-in-Both-2
-returns-in_ok-lower_condition-in-Both-2 t c =
+pub returns-in_ok-begin-in-Both : goal.returns-in_ok-begin-in-Both
+returns-in_ok-begin-in-Both t c =
+    let is =
+    ap condition_of c.in-Both.is ∙ ap (λ z. Condition.Both (condition_of z) (condition_of c.in-Both.second.value)) (sym c.deref-in-Both.ensures)
+    ∙ ap (λ z. Condition.Both (condition_of c.deref-in-Both.result.now) (condition_of z)) (sym c.deref-in-Both-2.ensures) in
+    MatchResult-weaker c.lower_condition-in-Both.result c.lower_condition-in-Both.ensures
+    (λ _ decides.
     both_decides (condition_of c.args.condition.now) (condition_of c.deref-in-Both.result.now) (condition_of c.deref-in-Both-2.result.now) c.in_ok-next-in-Both.next c.args.if_true c.args.if_false
     c.args.code.now c.new_label.new.self c.lower_condition.new.code c.begin.new.self c.lower_condition-in-Both.new.code
-    (ap condition_of c.in-Both.is ∙ ap (λ z. Condition.Both (condition_of z) (condition_of c.in-Both.second.value)) (sym c.deref-in-Both.ensures)
-    ∙ ap (λ z. Condition.Both (condition_of c.deref-in-Both.result.now) (condition_of z)) (sym c.deref-in-Both-2.ensures))
-    c.in_ok-next-in-Both.ensures.label c.in_ok-next-in-Both.ensures.after c.in_ok-lower_condition-in-Both.ensures c.in_ok-begin-in-Both.ensures c.in_ok-lower_condition-in-Both-2.ensures
+    is
+    c.in_ok-next-in-Both.ensures.label c.in_ok-next-in-Both.ensures.after c.in_ok-lower_condition-in-Both.ensures c.in_ok-begin-in-Both.ensures decides)
+    (λ fault full.
+    second_at (condition_of c.args.condition.now) (condition_of c.deref-in-Both.result.now) (condition_of c.deref-in-Both-2.result.now) c.in_ok-next-in-Both.next
+    c.in_ok-next-in-Both.next c.args.if_false
+    c.args.code.now c.new_label.new.self c.lower_condition.new.code c.begin.new.self fault
+    (ap condition_weight is) (λ S ok. subst (IsCondition S.program S.function) is ok) c.in_ok-next-in-Both.ensures.after c.in_ok-lower_condition-in-Both.ensures
+    c.in_ok-begin-in-Both.ensures full)
 
-pub returns-in_ok-lower_condition-in-Either-2 : goal.returns-in_ok-lower_condition-in-Either-2
-returns-in_ok-lower_condition-in-Either-2 t c =
+pub returns-in_ok-begin-in-Either : goal.returns-in_ok-begin-in-Either
+returns-in_ok-begin-in-Either t c =
+    let is =
+    ap condition_of c.in-Either.is ∙ ap (λ z. Condition.Either (condition_of z) (condition_of c.in-Either.second.value)) (sym c.deref-in-Either.ensures)
+    ∙ ap (λ z. Condition.Either (condition_of c.deref-in-Either.result.now) (condition_of z)) (sym c.deref-in-Either-2.ensures) in
+    MatchResult-weaker c.lower_condition-in-Either-2.result c.lower_condition-in-Either-2.ensures
+    (λ _ decides.
     either_decides (condition_of c.args.condition.now) (condition_of c.deref-in-Either.result.now) (condition_of c.deref-in-Either-2.result.now)
     c.in_ok-next-in-Either.next c.args.if_true c.args.if_false
     c.args.code.now c.new_label-in-Either.new.self c.lower_condition-in-Either.new.code c.begin-in-Either.new.self c.lower_condition-in-Either-2.new.code
-    (ap condition_of c.in-Either.is ∙ ap (λ z. Condition.Either (condition_of z) (condition_of c.in-Either.second.value)) (sym c.deref-in-Either.ensures)
-    ∙ ap (λ z. Condition.Either (condition_of c.deref-in-Either.result.now) (condition_of z)) (sym c.deref-in-Either-2.ensures))
-    c.in_ok-next-in-Either.ensures.label c.in_ok-next-in-Either.ensures.after c.in_ok-lower_condition-in-Either.ensures c.in_ok-begin-in-Either.ensures c.in_ok-lower_condition-in-Either-2.ensures
+    is
+    c.in_ok-next-in-Either.ensures.label c.in_ok-next-in-Either.ensures.after c.in_ok-lower_condition-in-Either.ensures c.in_ok-begin-in-Either.ensures decides)
+    (λ fault full.
+    second_at (condition_of c.args.condition.now) (condition_of c.deref-in-Either.result.now)
+    (condition_of c.deref-in-Either-2.result.now) c.in_ok-next-in-Either.next c.args.if_true c.in_ok-next-in-Either.next
+    c.args.code.now c.new_label-in-Either.new.self c.lower_condition-in-Either.new.code c.begin-in-Either.new.self fault
+    (ap condition_weight is) (λ S ok. subst (IsCondition S.program S.function) is ok) c.in_ok-next-in-Either.ensures.after c.in_ok-lower_condition-in-Either.ensures
+    c.in_ok-begin-in-Either.ensures full)
 
-pub returns-in_ok-lower_condition-in-Opposite : goal.returns-in_ok-lower_condition-in-Opposite
-returns-in_ok-lower_condition-in-Opposite t c =
+pub returns-in-Opposite : goal.returns-in-Opposite
+returns-in-Opposite t c =
+    let is = ap condition_of c.in-Opposite.is ∙ ap (λ z. Condition.Opposite (condition_of z)) (sym c.deref-in-Opposite.ensures) in
+    MatchResult-weaker c.lower_condition-in-Opposite.result c.lower_condition-in-Opposite.ensures
+    (λ _ decides.
     opposite_decides (condition_of c.args.condition.now) (condition_of c.deref-in-Opposite.result.now) c.args.if_true c.args.if_false c.args.code.now c.lower_condition-in-Opposite.new.code
-    (ap condition_of c.in-Opposite.is ∙ ap (λ z. Condition.Opposite (condition_of z)) (sym c.deref-in-Opposite.ensures)) c.in_ok-lower_condition-in-Opposite.ensures
+    is decides)
+    (λ fault full. opposite_at (condition_of c.args.condition.now) (condition_of c.deref-in-Opposite.result.now) c.args.code.now fault is full)
 
 pub returns-in_ok-lower_test-in-Operand : goal.returns-in_ok-lower_test-in-Operand
 returns-in_ok-lower_test-in-Operand t c =
@@ -43,19 +67,6 @@ returns-in_err-lower_condition-in-Both t c =
     (first_at (condition_of c.args.condition.now) (condition_of c.deref-in-Both.result.now) (condition_of c.in-Both.second.value) c.args.code.now c.new_label.new.self _
     (ap condition_weight is) (λ S ok. subst (IsCondition S.program S.function) is ok) c.in_ok-next-in-Both.ensures.after c.in_err-lower_condition-in-Both.ensures)
 
-pub returns-in_err-lower_condition-in-Both-2 : goal.returns-in_err-lower_condition-in-Both-2
-returns-in_err-lower_condition-in-Both-2 t c =
-    let p = err_from_is_err_and c.from_residual-in_err-lower_condition-in-Both-2.result c.from_residual-in_err-lower_condition-in-Both-2.ensures.1 in
-    let is =
-    ap condition_of c.in-Both.is ∙ ap (λ z. Condition.Both (condition_of z) (condition_of c.in-Both.second.value)) (sym c.deref-in-Both.ensures)
-    ∙ ap (λ z. Condition.Both (condition_of c.deref-in-Both.result.now) (condition_of z)) (sym c.deref-in-Both-2.ensures) in
-    rw (p.1, p.2)
-    (second_at (condition_of c.args.condition.now) (condition_of c.deref-in-Both.result.now) (condition_of c.deref-in-Both-2.result.now) c.in_ok-next-in-Both.next
-    c.in_ok-next-in-Both.next c.args.if_false
-    c.args.code.now c.new_label.new.self c.lower_condition.new.code c.begin.new.self _
-    (ap condition_weight is) (λ S ok. subst (IsCondition S.program S.function) is ok) c.in_ok-next-in-Both.ensures.after c.in_ok-lower_condition-in-Both.ensures
-    c.in_ok-begin-in-Both.ensures c.in_err-lower_condition-in-Both-2.ensures)
-
 pub returns-in_err-lower_condition-in-Either : goal.returns-in_err-lower_condition-in-Either
 returns-in_err-lower_condition-in-Either t c =
     let p = err_from_is_err_and c.from_residual-in_err-lower_condition-in-Either.result c.from_residual-in_err-lower_condition-in-Either.ensures.1 in
@@ -63,23 +74,3 @@ returns-in_err-lower_condition-in-Either t c =
     rw (p.1, p.2)
     (first_at (condition_of c.args.condition.now) (condition_of c.deref-in-Either.result.now) (condition_of c.in-Either.second.value) c.args.code.now c.new_label-in-Either.new.self _
     (ap condition_weight is) (λ S ok. subst (IsCondition S.program S.function) is ok) c.in_ok-next-in-Either.ensures.after c.in_err-lower_condition-in-Either.ensures)
-
-pub returns-in_err-lower_condition-in-Either-2 : goal.returns-in_err-lower_condition-in-Either-2
-returns-in_err-lower_condition-in-Either-2 t c =
-    let p = err_from_is_err_and c.from_residual-in_err-lower_condition-in-Either-2.result c.from_residual-in_err-lower_condition-in-Either-2.ensures.1 in
-    let is =
-    ap condition_of c.in-Either.is ∙ ap (λ z. Condition.Either (condition_of z) (condition_of c.in-Either.second.value)) (sym c.deref-in-Either.ensures)
-    ∙ ap (λ z. Condition.Either (condition_of c.deref-in-Either.result.now) (condition_of z)) (sym c.deref-in-Either-2.ensures) in
-    rw (p.1, p.2)
-    (second_at (condition_of c.args.condition.now) (condition_of c.deref-in-Either.result.now)
-    (condition_of c.deref-in-Either-2.result.now) c.in_ok-next-in-Either.next c.args.if_true c.in_ok-next-in-Either.next
-    c.args.code.now c.new_label-in-Either.new.self c.lower_condition-in-Either.new.code c.begin-in-Either.new.self _
-    (ap condition_weight is) (λ S ok. subst (IsCondition S.program S.function) is ok) c.in_ok-next-in-Either.ensures.after c.in_ok-lower_condition-in-Either.ensures
-    c.in_ok-begin-in-Either.ensures c.in_err-lower_condition-in-Either-2.ensures)
-
-pub returns-in_err-lower_condition-in-Opposite : goal.returns-in_err-lower_condition-in-Opposite
-returns-in_err-lower_condition-in-Opposite t c =
-    let p = err_from_is_err_and c.from_residual-in_err-lower_condition-in-Opposite.result c.from_residual-in_err-lower_condition-in-Opposite.ensures.1 in
-    rw (p.1, p.2)
-    (opposite_at (condition_of c.args.condition.now) (condition_of c.deref-in-Opposite.result.now) c.args.code.now _
-    (ap condition_of c.in-Opposite.is ∙ ap (λ z. Condition.Opposite (condition_of z)) (sym c.deref-in-Opposite.ensures)) c.in_err-lower_condition-in-Opposite.ensures)

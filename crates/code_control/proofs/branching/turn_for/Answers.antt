@@ -1,0 +1,7 @@
+use Rattle.std.proofs.lemmas.Result.{on_ok_weaker}
+use Rattle.code_control.proofs.Growing.{turns_for}
+use Rattle.code_control.proofs.branching.turn_for.Goals as goal
+
+pub returns : goal.returns
+returns c =
+    on_ok_weaker c.bind.result (turns_for c.args.labels.turning c.args.site c.args.code.now c.set_site.new.self c.bind.new.self c.set_site.ensures) c.bind.ensures
