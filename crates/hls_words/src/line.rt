@@ -2,16 +2,15 @@ ghost use Rattle.std.specs.Prelude.{◌≡◌, Ok, Option, Some, None, false, ma
 ghost use Rattle.clap.specs.Words.{app_of, rule_of, rows_of, one_of, first_of, found_of, kind_of, subcommand_rows_of, with_rule, with_subcommand};
 ghost use Rattle.clap.specs.declared.builder.command.Command.TheViews.{out-Command as fields_of};
 ghost use Rattle.clap.specs.declared.error.kind.ErrorKind.TheVariants.{OutOfMemory};
-ghost use Rattle.hls_words.specs.Line.{build_in, build_line, command_line, in_range, number_in, number_of, number_rule, required};
+ghost use Rattle.hls_words.specs.Line.{build_in, build_line, command_line, number_in, number_of, number_rule, required};
 ghost use Rattle.hls_words.specs.Line.{flag_rule, is_set, replay_line, run_in, run_line, sim_in, sim_line, step_in, step_line, task_in, task_of};
-ghost use Rattle.hls_words.specs.Line.{text_rule, turns_in, walk_in, walk_line};
+ghost use Rattle.hls_words.specs.Line.{walk_in, walk_line};
 
 use crate::{Task, WordsError};
 use clap::error::ErrorKind;
 use clap::{Arg, ArgAction, ArgMatches, Command, Error, value_parser};
-use sqlite_items::Items;
 use std::alloc::{AllocError, Global};
-use turns::{Turn, turns};
+use turns::turns;
 
 /// The most threads that a build may take.
 const MOST_JOBS: u32 = 16;
@@ -84,19 +83,11 @@ fn replay_command<'a>(alloc: Global) -> Command<'a>
     Command::new(alloc, "replay")
 }
 
-/// `--NAME TEXT`, which has to be given.
-fn required_text<'a>(alloc: Global, name: &'a str) -> Arg<'a>
-    ensures rule { rule_of result ≡ required (text_rule name.entry.now) }
-    ensures local { result.global ≡ false }
-{
-    Arg::new(alloc, name).long(name).required(true)
-}
-
 fn walk_command<'a>(alloc: Global) -> Result<Command<'a>, AllocError>
     ensures line { IfOk result (λ c. app_of c ≡ walk_line) }
     ensures local { IfOk result (λ c. (fields_of c).has_globals ≡ false) }
 {
-    let threads = required_text(alloc, "threads");
+    let threads = Arg::new(alloc, "threads").long("threads").required(true);
     Command::new(alloc, "walk").arg(threads)
 }
 
@@ -144,15 +135,6 @@ fn value(matches: &ArgMatches<'_>, id: &str) -> Option<u32>
     matches.get_one(id)
 }
 
-fn within(low: u32, high: u32, n: Option<u32>) -> Option<u32>
-    ensures { result ≡ option_and_then (in_range low high) n }
-{
-    match n {
-        Some(n) if low <= n && n <= high => Some(n),
-        _ => None,
-    }
-}
-
 /// The number of an option, or its default where the option isn't given.
 fn number(
     matches: &ArgMatches<'_>,
@@ -163,10 +145,12 @@ fn number(
 ) -> Option<u32>
     ensures { result ≡ number_in low high default (one_of id.now (rows_of (found_of matches.now))) }
 {
-    if is_given(matches, id) {
-        within(low, high, value(matches, id))
-    } else {
-        default
+    if !is_given(matches, id) {
+        return default;
+    }
+    match value(matches, id) {
+        Some(n) if low <= n && n <= high => Some(n),
+        _ => None,
     }
 }
 
@@ -212,21 +196,13 @@ fn run_task(matches: &ArgMatches<'_>) -> Option<Task>
     Some(Task::Run { entries, journal })
 }
 
-/// The turns that a text lists, where it is there.
-fn listed(alloc: Global, list: Option<&str>) -> Result<Option<Items<Turn>>, AllocError>
-    ensures { IfOk result (λ turns. turns ≡ turns_in (option_map (λ t. t.now) list.entry)) }
-{
-    match list {
-        Some(list) => turns(alloc, list),
-        None => Ok(None),
-    }
-}
-
 fn walk_task(alloc: Global, matches: &ArgMatches<'_>) -> Result<Option<Task>, AllocError>
     ensures { IfOk result (λ r. r ≡ walk_in (rows_of (found_of matches.now))) }
 {
-    let turns = listed(alloc, text(matches, "threads"))?;
-    Ok(turns.map(Task::Walk))
+    let Some(list) = text(matches, "threads") else {
+        return Ok(None);
+    };
+    Ok(turns(alloc, list)?.map(Task::Walk))
 }
 
 fn sim_task(matches: &ArgMatches<'_>) -> Option<Task>
@@ -251,21 +227,15 @@ fn task(alloc: Global, name: &str, matches: &ArgMatches<'_>) -> Result<Option<Ta
     }
 }
 
-fn task_met(alloc: Global, matches: &ArgMatches<'_>) -> Result<Option<Task>, AllocError>
-    ensures { IfOk result (λ r. r ≡ option_and_then (λ p. task_in p.0 p.1) (subcommand_rows_of matches.now)) }
-{
-    match matches.subcommand() {
-        Some((name, inner)) => task(alloc, name, inner),
-        None => Ok(None),
-    }
-}
-
 /// What matched words ask for, and `Usage` only where they aren't of the table.
 fn task_or_usage(alloc: Global, matches: &ArgMatches<'_>) -> Result<Task, WordsError>
     ensures ok { IfOk result (λ r. option_and_then (λ p. task_in p.0 p.1) (subcommand_rows_of matches.now) ≡ Some r) }
     ensures usage { IsErrOf result WordsError.Usage → option_and_then (λ p. task_in p.0 p.1) (subcommand_rows_of matches.now) ≡ None }
 {
-    match task_met(alloc, matches) {
+    let Some((name, inner)) = matches.subcommand() else {
+        return Err(WordsError::Usage);
+    };
+    match task(alloc, name, inner) {
         Ok(Some(task)) => Ok(task),
         Ok(None) => Err(WordsError::Usage),
         Err(_) => Err(WordsError::Mem),
