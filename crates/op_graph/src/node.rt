@@ -11,7 +11,7 @@ use hls_ints::CType;
 use std::alloc::{AllocError, Global};
 
 /// What an operation needs: logic, a unit, or an access of an object.
-#[derive(Clone, Copy, PartialEq, Eq, Debug)]
+#[derive(Clone, Copy, PartialEq, Eq)]
 pub enum Kind {
     /// Logic alone, which two operations of one state may hand on once.
     Simple,
@@ -26,7 +26,7 @@ pub enum Kind {
 }
 
 /// An operation of a block, and the earlier ones whose values it uses.
-#[derive(Clone, Copy, PartialEq, Eq)]
+#[derive(Clone, Copy)]
 pub struct Node {
     pub kind: Kind,
     /// The left operand of an operator, or the index of an access.
@@ -51,39 +51,45 @@ fn make_node(number: usize, operation: &Operation) -> Node
     ensures { result ≡ node_of number operation.now }
 {
     match operation {
-        Operation::Unary { operand, .. } => of_one(Kind::Simple, value_below(number, operand)),
+        Operation::Unary { operand, .. } => new_node(
+            Kind::Simple,
+            value_below(number, operand),
+            None,
+        ),
         Operation::Binary {
             operator,
             ty,
             left,
             right,
-        } => of_two(
+        } => new_node(
             operator_kind(*operator, *ty),
             value_below(number, left),
             value_below(number, right),
         ),
         Operation::ReadGlobal { global, index, .. } => {
-            of_one(global_kind(*global, false), value_below(number, index))
+            let kind = global_kind(*global, false);
+            new_node(kind, value_below(number, index), None)
         }
         Operation::WriteGlobal {
             global,
             index,
             value,
             ..
-        } => of_two(
+        } => new_node(
             global_kind(*global, true),
             value_below(number, index),
             value_below(number, value),
         ),
         Operation::ReadArray { array, index, .. } => {
-            of_one(array_kind(*array, false), value_below(number, index))
+            let kind = array_kind(*array, false);
+            new_node(kind, value_below(number, index), None)
         }
         Operation::WriteArray {
             array,
             index,
             value,
             ..
-        } => of_two(
+        } => new_node(
             array_kind(*array, true),
             value_below(number, index),
             value_below(number, value),
@@ -91,13 +97,7 @@ fn make_node(number: usize, operation: &Operation) -> Node
     }
 }
 
-fn of_one(kind: Kind, left: Option<usize>) -> Node
-    ensures { result ≡ record { kind = kind; left = left; right = None } }
-{
-    of_two(kind, left, None)
-}
-
-fn of_two(kind: Kind, left: Option<usize>, right: Option<usize>) -> Node
+fn new_node(kind: Kind, left: Option<usize>, right: Option<usize>) -> Node
     ensures { result ≡ record { kind = kind; left = left; right = right } }
 {
     Node { kind, left, right }
