@@ -11,7 +11,7 @@ use sparse_pack::pack_some;
 use std::alloc::{AllocError, Global};
 
 /// How many units of a kind there are.
-#[derive(Clone, Copy, PartialEq, Eq, Debug)]
+#[derive(Clone, Copy, PartialEq, Eq)]
 pub struct UnitCount {
     pub kind: Kind,
     pub count: usize,
