@@ -1,7 +1,7 @@
 // What a name of a module is declared as.
 
 /// What a signal is declared as.
-#[derive(Clone, Copy, PartialEq, Eq)]
+#[derive(Clone, Copy)]
 pub enum SignalClass {
     Input,
     Output,
@@ -12,7 +12,7 @@ pub enum SignalClass {
 /// What a name of a module is declared as.
 ///
 /// A width is in bits, and 0 where the declaration's range is wider than 64 bits.
-#[derive(Clone, Copy, PartialEq, Eq)]
+#[derive(Clone, Copy)]
 pub enum Kind {
     /// The port `clk`.
     Clock,

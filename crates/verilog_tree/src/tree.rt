@@ -4,7 +4,7 @@ use crate::name::{Identifier, Quoted};
 use sqlite_items::Items;
 
 /// `width'd value`, or `width'sd value` (IEEE 1364-2005, 3.5.1).
-#[derive(Clone, Copy, PartialEq, Eq)]
+#[derive(Clone, Copy)]
 pub struct Constant {
     pub width: u64,
     pub value: u64,
@@ -26,7 +26,7 @@ pub enum BinaryOperator {
 }
 
 /// The operator of a guarded division.
-#[derive(Clone, Copy, PartialEq, Eq)]
+#[derive(Clone, Copy)]
 pub enum DivisionOperator {
     Quotient,
     Remainder,
@@ -109,7 +109,7 @@ pub enum Expression {
 }
 
 /// The direction of a port.
-#[derive(Clone, Copy, PartialEq, Eq)]
+#[derive(Clone, Copy)]
 pub enum Direction {
     Input,
     Output,
