@@ -1,6 +1,6 @@
 // The banks of a global, and the place of an element in them.
 
-ghost use Rattle.std.specs.Prelude.{◌≡◌, length, nat_lt, slice_get, codes};
+ghost use Rattle.std.specs.Prelude.{◌≡◌, slice_get};
 ghost use Rattle.global_banks.specs.Banks as banks;
 
 use crate::names::{is_decimal, is_rest, rest_of};
@@ -16,33 +16,12 @@ pub struct Location {
     pub word: u64,
 }
 
-fn is_memory(memory: &Memory, global: &[u8], digits: &[u8]) -> bool
-    ensures { result ≡ banks.is_rest (banks.rest_of (codes "bank_") global.now memory.now.name) digits.now }
-{
-    is_rest(
-        "bank_".as_bytes(),
-        global,
-        memory.name.as_str().as_bytes(),
-        digits,
-    )
-}
-
-fn is_instance(instance: &Instance, global: &[u8], digits: &[u8]) -> bool
-    ensures { result ≡ banks.is_rest (banks.rest_of (codes "u_") global.now instance.now.name) digits.now }
-{
-    is_rest(
-        "u_".as_bytes(),
-        global,
-        instance.name.as_str().as_bytes(),
-        digits,
-    )
-}
-
 fn memory_place(memories: &[Memory], global: &[u8], digits: &[u8]) -> usize
     ensures { result ≡ banks.memory_place global.now digits.now memories.now }
 {
     for number in 0..memories.len() {
-        if is_memory(&memories[number], global, digits) {
+        let name = memories[number].name.as_str().as_bytes();
+        if is_rest("bank_".as_bytes(), global, name, digits) {
             return number;
         }
     }
@@ -53,7 +32,8 @@ fn instance_place(instances: &[Instance], global: &[u8], digits: &[u8]) -> usize
     ensures { result ≡ banks.instance_place global.now digits.now instances.now }
 {
     for number in 0..instances.len() {
-        if is_instance(&instances[number], global, digits) {
+        let name = instances[number].name.as_str().as_bytes();
+        if is_rest("u_".as_bytes(), global, name, digits) {
             return number;
         }
     }
@@ -69,18 +49,14 @@ fn memories_of(modules: &[Module], number: usize) -> &[Memory]
     }
 }
 
-fn has_memory(memories: &[Memory], global: &[u8], digits: &[u8]) -> bool
-    ensures { result ≡ nat_lt (banks.memory_place global.now digits.now memories.now) (length memories.now) }
-{
-    memory_place(memories, global, digits) < memories.len()
-}
-
 fn is_bank(modules: &[Module], global: &[u8], instance: &Instance) -> bool
     ensures { result ≡ banks.is_bank modules.now global.now instance.now }
 {
     match rest_of("u_".as_bytes(), global, instance.name.as_str().as_bytes()) {
-        Some(digits) => is_decimal(digits)
-            && has_memory(memories_of(modules, instance.of), global, digits),
+        Some(digits) => {
+            let memories = memories_of(modules, instance.of);
+            is_decimal(digits) && memory_place(memories, global, digits) < memories.len()
+        }
         None => false,
     }
 }
@@ -106,19 +82,6 @@ fn kind_of(instances: &[Instance], place: usize, other: usize) -> usize
     }
 }
 
-fn word_in(memories: &[Memory], instance: usize, memory: usize, word: u64) -> Option<Location>
-    ensures { result ≡ banks.word_in instance memory word (slice_get memories.now memory) }
-{
-    match at(memories, memory) {
-        Some(found) if word < found.initial.len() as u64 => Some(Location {
-            instance,
-            memory,
-            word,
-        }),
-        Some(_) | None => None,
-    }
-}
-
 fn in_bank(
     modules: &[Module],
     instances: &[Instance],
@@ -130,12 +93,15 @@ fn in_bank(
 {
     let instance = instance_place(instances, global, digits);
     let memories = memories_of(modules, kind_of(instances, instance, modules.len()));
-    word_in(
-        memories,
-        instance,
-        memory_place(memories, global, digits),
-        word,
-    )
+    let memory = memory_place(memories, global, digits);
+    match at(memories, memory) {
+        Some(found) if word < found.initial.len() as u64 => Some(Location {
+            instance,
+            memory,
+            word,
+        }),
+        Some(_) | None => None,
+    }
 }
 
 /// The word that an element of a global stands in. None exactly where no bank has it. It takes no memory.

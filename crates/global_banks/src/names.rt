@@ -1,13 +1,11 @@
 // Names that are a stem, the name of a global, `_` and a number.
 
-ghost use Rattle.std.specs.Prelude.{◌≡◌, None, Some, MatchOption, slice_get, length, codes};
+ghost use Rattle.std.specs.Prelude.{◌≡◌, None, Some, MatchOption, codes};
 ghost use Rattle.global_banks.specs.Banks.{
   are_digits as digits_of,
   behind as bytes_behind,
   is_decimal as decimal_of,
-  is_digit as digit_of,
   is_rest as is_rest_of,
-  leads as leads_of,
   rest_of as bytes_rest,
 };
 
@@ -37,35 +35,23 @@ pub fn is_rest(stem: &[u8], global: &[u8], name: &[u8], digits: &[u8]) -> bool
     }
 }
 
-fn is_digit(byte: u8) -> bool
-    ensures { result ≡ digit_of byte }
-{
-    48 <= byte && byte <= 57
-}
-
 fn are_digits(text: &[u8]) -> bool
     ensures { result ≡ digits_of text.now }
 {
     for byte in text {
-        if !is_digit(*byte) {
+        if *byte < 48 || 57 < *byte {
             return false;
         }
     }
     true
 }
 
-fn leads(text: &[u8]) -> bool
-    ensures { result ≡ leads_of (slice_get text.now 0) (length text.now) }
-{
-    match at(text, 0) {
-        Some(byte) => 48 < *byte || text.len() == 1,
-        None => false,
-    }
-}
-
 /// Whether a text is a number in minimal decimals.
 pub fn is_decimal(text: &[u8]) -> bool
     ensures { result ≡ decimal_of text.now }
 {
-    are_digits(text) && leads(text)
+    match at(text, 0) {
+        Some(byte) => are_digits(text) && (48 < *byte || text.len() == 1),
+        None => false,
+    }
 }
