@@ -35,15 +35,6 @@ pub fn children_at(parts: &[Part], place: usize) -> usize
     }
 }
 
-fn inner_at<'a>(modules: &'a [Module], parts: &[Part], place: usize) -> &'a [Instance]
-    ensures { result.now ≡ inner_of modules.now (slice_get parts.now place) }
-{
-    match at(parts, place) {
-        Some(part) => module_instances(modules, part.module),
-        None => &[],
-    }
-}
-
 /// Adds the parts that stand in the one listed at a number.
 fn visit(
     places: &mut Vec<usize>,
@@ -55,12 +46,14 @@ fn visit(
     ensures { OnOk result (places.new.items ≡ places.old.items
         ++ places_from (children_of (slice_get parts.now (slice_index places.old.items number))) (inner_of modules.now (slice_get parts.now (slice_index places.old.items number)))) }
 {
-    let place = places[number];
-    push_places(
-        places,
-        children_at(parts, place),
-        inner_at(modules, parts, place),
-    )
+    match at(parts, places[number]) {
+        Some(part) => push_places(
+            places,
+            part.children,
+            module_instances(modules, part.module),
+        ),
+        None => Ok(()),
+    }
 }
 
 /// The part at a place, and all that stand in it.
