@@ -128,16 +128,7 @@ fn print_count(statement: &Statement) -> u32
             print_count(first),
             plus(print_count(last), print_count(body)),
         ),
-        Statement::Done
-        | Statement::Empty
-        | Statement::Declare(_, _, _)
-        | Statement::Assign(_, _, _)
-        | Statement::Update(_, _, _, _, _)
-        | Statement::Break
-        | Statement::Continue
-        | Statement::Return(_, _)
-        | Statement::Call(_, _, _)
-        | Statement::Thread(_, _) => 0,
+        _ => 0,
     }
 }
 
