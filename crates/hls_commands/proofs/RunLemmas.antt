@@ -2,7 +2,7 @@
 use Rattle.std.proofs.Common.{◌≡◌, ℕ, ◌<◌, ◌≤◌, ap, arith, ⊎_elim, Bool, true, false, List, Option, Some, None, inl, inr, refl, ◌∙◌, sym, subst}
 use Rattle.std.proofs.lemmas.Option.{same_Some}
 use Rattle.verilog_tree.specs.declared.tree.Net.{Net}
-use Rattle.verilog_tree.proofs.UniqueItems.{reads_one}
+use Rattle.verilog_rules.proofs.OneNet.{reads_one}
 use Rattle.netlist.specs.declared.netlist.Module.{Module}
 use Rattle.netlist.specs.declared.netlist.Netlist.{Netlist}
 use Rattle.netlist.specs.NetlistOf.{netlist_of}

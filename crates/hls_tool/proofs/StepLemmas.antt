@@ -4,7 +4,7 @@ use Rattle.std.specs.Prelude.{⊤, string_bytes}
 use Rattle.std.proofs.lemmas.Option.{same_Some}
 use Rattle.verilog_tree.specs.declared.tree.Net.{Net}
 use Rattle.verilog_tree.specs.Reads.{Reads}
-use Rattle.verilog_tree.proofs.UniqueItems.{reads_one}
+use Rattle.verilog_rules.proofs.OneNet.{reads_one}
 use Rattle.netlist.specs.declared.netlist.Module.{Module}
 use Rattle.netlist.specs.declared.netlist.Netlist.{Netlist}
 use Rattle.netlist.specs.NetlistOf.{netlist_of}

@@ -7,7 +7,7 @@ use Rattle.c_program.specs.Weight.{thread_count}
 use Rattle.thread_semantics.specs.Races.{IsGood}
 use Rattle.verilog_tree.specs.declared.tree.Net.{Net}
 use Rattle.verilog_tree.specs.Reads.{Reads}
-use Rattle.verilog_tree.proofs.UniqueItems.{reads_one}
+use Rattle.verilog_rules.proofs.OneNet.{reads_one}
 use Rattle.netlist.specs.declared.netlist.Module.{Module}
 use Rattle.netlist.specs.NetlistOf.{netlist_of}
 use Rattle.verilog_meaning.specs.Names.{top_of}

@@ -7,7 +7,7 @@ use Rattle.verilog_tree.specs.declared.tree.Net.{Net}
 use Rattle.verilog_tree.specs.Spelling.{Text}
 use Rattle.verilog_tree.specs.Grammar as g
 use Rattle.verilog_tree.specs.Reads.{IsFilled, IsFull, Reads}
-use Rattle.verilog_tree.proofs.UniqueItems.{reads_one}
+use Rattle.verilog_rules.proofs.OneNet.{reads_one}
 use Rattle.grammar.specs.Readers.{Syntax}
 use Rattle.net_check.specs.declared.fault.ModulePart.TheVariants as part
 use Rattle.verilog_rules.specs.Reading.{read_net}

@@ -8,3 +8,4 @@ pub mod Spelled
 pub mod SpelledItems
 pub mod SpelledModules
 pub mod Nets
+pub mod OneNet

@@ -2,8 +2,5 @@ pub mod Tests
 pub mod Names
 pub mod Fold
 pub mod Splitting
-pub mod Unique
-pub mod UniqueExpressions
-pub mod UniqueItems
 pub mod Fronts
 pub mod Examples

@@ -3,7 +3,6 @@
 #![tactic(auto)]
 
 pub mod kind;
-pub mod law;
 pub mod name;
 pub mod token;
 pub mod tree;
