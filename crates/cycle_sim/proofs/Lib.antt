@@ -22,3 +22,4 @@ pub mod Elements
 pub mod Taking
 pub mod Putting
 pub use Rattle.sim_values.proofs.Settles
+pub mod Rounding

@@ -11,3 +11,4 @@ pub use Rattle.sim_values.specs.Stands
 pub use Rattle.sim_values.specs.declared.edge.Part
 pub use Rattle.sim_values.specs.declared.settle.Feed
 pub use Rattle.sim_values.specs.declared.settle.Step
+pub mod Round

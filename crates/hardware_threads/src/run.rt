@@ -23,7 +23,7 @@ use std::marker::Brand;
 use std::sync::{Mutex, Wait};
 use std::thread;
 use std::thread::Threads;
-use threaded_sim::opening::open_threaded;
+use slot_sim::opening::open_threaded;
 
 const MOST: u32 = 4096;
 

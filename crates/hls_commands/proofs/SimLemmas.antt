@@ -3,8 +3,8 @@ use Rattle.std.proofs.Common.{◌≡◌, ℕ, ◌≤◌, Bool, true, false, List
 use Rattle.std.specs.declared.alloc.Global.{Global}
 use Rattle.netlist.specs.NetlistOf.{netlist_of}
 use Rattle.sim_layout.specs.Rounds.{threads_of as enabled_of}
-use Rattle.round_robin.specs.Round.{IsRound}
-use Rattle.round_robin.specs.declared.run.Ran.{Ran}
+use Rattle.cycle_sim.specs.Round.{IsRound}
+use Rattle.cycle_sim.specs.declared.run.Ran.{Ran}
 use Rattle.sim_command.specs.declared.sim.SimError.{SimError}
 use Rattle.sim_command.specs.declared.sim.SimError.TheVariants as error
 use Rattle.sim_command.specs.Simulated.{Fails, IsSimulatedRun}

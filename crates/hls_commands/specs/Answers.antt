@@ -18,7 +18,7 @@ use Rattle.netlist.specs.declared.netlist.Netlist.{Netlist}
 use Rattle.netlist.specs.NetlistOf.{netlist_of}
 use Rattle.hls_compile.specs.Compiled.{IsCompiled}
 use Rattle.sim_layout.specs.Rounds.{threads_of as enabled_of}
-use Rattle.round_robin.specs.Round.{IsRound}
+use Rattle.cycle_sim.specs.Round.{IsRound}
 use Rattle.verilog_reader.specs.Faults.{IsFault, IsRead}
 use Rattle.loop_path.specs.First.{IsLoopless}
 use Rattle.loop_path.specs.Dotted.{IsLoopPath}

@@ -6,7 +6,7 @@ use Rattle.hls_compile.specs.declared.CompileError.TheVariants as error
 use Rattle.journal_laws.specs.declared.verdict.Verdict.{Verdict}
 use Rattle.run_command.specs.declared.replay.ReplayAnswer.{ReplayAnswer}
 use Rattle.run_command.specs.declared.replay.ReplayAnswer.TheVariants.{Replayed, BadEntry}
-use Rattle.round_robin.specs.declared.run.Ran.{Ran}
+use Rattle.cycle_sim.specs.declared.run.Ran.{Ran}
 use Rattle.hls_status.specs.declared.status.Status.{Status}
 use Rattle.hls_status.specs.declared.status.Status.TheVariants as status
 use Rattle.hls_commands.specs.declared.commands.Stop.{Stop}

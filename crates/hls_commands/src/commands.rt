@@ -9,7 +9,7 @@ ghost use Rattle.hls_commands.specs.Answers.{Gave, IsBuilt, IsPlain, IsStepped, 
 ghost use Rattle.hls_commands.specs.Inside.{AnswersStop, StopsBy, due_of, line_bytes, stop_of};
 ghost use Rattle.hls_commands.specs.declared.commands.Stop.TheVariants.{Memory};
 ghost use Rattle.hls_compile.specs.Compiled.{IsCompiled};
-ghost use Rattle.round_robin.specs.Round.{IsRound};
+ghost use Rattle.cycle_sim.specs.Round.{IsRound};
 ghost use Rattle.vcd_trace.specs.Trace.{IsTraced};
 ghost use Rattle.cycle_sim.specs.declared.sim.OpenError.TheVariants as causes;
 
@@ -27,7 +27,7 @@ use hls_status::lines::{
 };
 use hls_status::status::{Status, WalkEnd};
 use hls_words::{Task, WordsError, parse};
-use round_robin::run::{Ran, run};
+use cycle_sim::run::{Ran, run};
 use run_command::Gate;
 use sqlite_items::Items;
 use std::alloc::{AllocError, Global};

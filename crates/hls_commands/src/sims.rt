@@ -11,7 +11,7 @@ use crate::commands::{Stop, plain, run_status};
 use hls_io::{Bytes, ReadAllError, Source, read_all};
 use hls_status::lines::{cycles_line, loop_line, not_net_line};
 use hls_status::status::Status;
-use round_robin::run::Ran;
+use cycle_sim::run::Ran;
 use sim_command::sim::{MOST_BYTES, SimError, sim};
 use sqlite_items::Items;
 use std::alloc::{AllocError, Global};

@@ -12,7 +12,7 @@ use Rattle.verilog_meaning.specs.Names.{top_of}
 use Rattle.verilog_meaning.specs.Ports.{HasPorts}
 use Rattle.verilog_meaning.specs.Threads.{Place, Depends}
 use Rattle.sim_layout.specs.Rounds.{threads_of as enabled_of}
-use Rattle.round_robin.specs.Round.{IsRound}
+use Rattle.cycle_sim.specs.Round.{IsRound}
 use Rattle.verilog_reader.specs.Faults.{IsRead}
 use Rattle.read_back.proofs.Back.{read_again}
 use Rattle.read_back.proofs.Once.{runs_alike}

@@ -5,3 +5,5 @@ pub mod Unique
 pub mod KeySets
 pub mod Vacated
 pub mod Placing
+pub mod Choosing
+pub mod SparsePacked

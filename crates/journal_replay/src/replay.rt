@@ -15,7 +15,7 @@ use journal_text::entry::Entry;
 use netlist::netlist::Module;
 use slot_sim::running::SlotSim;
 use std::alloc::{AllocError, Global};
-use threaded_sim::opening::open_threaded;
+use slot_sim::opening::open_threaded;
 
 /// What a journal gives that is done again, or the number of its first entry that isn't legal.
 #[derive(Drop)]

@@ -8,3 +8,9 @@ mod Whole
 mod StageLists
 mod Short
 mod Right
+mod Commute
+mod Sort
+mod OrdersAgree
+mod PlansAgree
+mod Lists
+mod Parts

@@ -5,7 +5,7 @@ use net_netlist::netlist;
 use netlist::netlist::Signal;
 use netlist_text::text_of;
 use std::alloc::Global;
-use verilog_cursor::cursor::Cursor;
+use verilog_expressions::cursor::Cursor;
 use verilog_lexer::tokens::lex;
 use verilog_parser::modules::net;
 use verilog_tree::tree::Net;

@@ -1,6 +1,6 @@
 // Rows of intervals.
 use interval_pack::{Interval, pack};
-use sparse_pack::pack_some;
+use interval_pack::pack_some;
 use std::test::Fail;
 
 #[test]

@@ -6,7 +6,7 @@ use block_ir::code::ThreadCode;
 use block_ir::plan::{Planned, StagePlan};
 use c_program::tree::BinaryOperator::Multiply;
 use least_plan::plan;
-use parallel_plan::plan_all;
+use least_plan::plan_all;
 use std::alloc::{AllocError, Global};
 use std::process::Abort;
 use std::test::Fail;

@@ -13,7 +13,7 @@ use Rattle.block_ir.specs.declared.code.ThreadCode.{ThreadCode}
 use Rattle.block_ir.specs.declared.plan.Planned.{Planned}
 use Rattle.code_following.specs.Typed.{IsTypedCode}
 use Rattle.least_plan.specs.Planned.{IsNumbered, IsNumberedCode, IsPlanned, PlannedIsRight}
-use Rattle.parallel_plan.specs.Plans as parallel
+use Rattle.least_plan.specs.Plans as parallel
 use Rattle.routine_plans.specs.Plans.{IsRoutine}
 use Rattle.program_plans.specs.declared.PlannedFunction.{PlannedFunction}
 use Rattle.program_plans.specs.Plans.{IsPlannedFunction, ArePlanned, routine_of, PlannedAreRoutines}

@@ -14,7 +14,7 @@ use Rattle.cycle_once.proofs.Once.{runs_once}
 use Rattle.fitting_net.proofs.Modules.{fits_of_well_formed}
 use Rattle.open_well_formed.proofs.Right.{right}
 use Rattle.sim_layout.specs.Rounds.{IsGoing, Tells, prefs_of}
-use Rattle.round_robin.specs.Round.{IsRound, turns}
+use Rattle.cycle_sim.specs.Round.{IsRound, turns}
 use Rattle.read_back.specs.Laws.{RunsOnce}
 
 in_order : (n m : ℕ) → (n < m) ⊎ ((m < n) ⊎ (n ≡ m))

@@ -8,7 +8,7 @@ use Rattle.netlist.specs.NetlistOf.{netlist_of}
 use Rattle.verilog_meaning.specs.Names.{top_of}
 use Rattle.verilog_meaning.specs.Ports.{HasPorts}
 use Rattle.verilog_meaning.specs.Follows.{IsDetermined}
-use Rattle.round_robin.specs.Round.{IsRound}
+use Rattle.cycle_sim.specs.Round.{IsRound}
 use Rattle.verilog_reader.specs.Faults.{IsRead}
 
 -- a text of a well-formed net whose outermost module has the ports of a net of threads is read as this net

@@ -10,8 +10,8 @@ use Rattle.interval_pack.specs.LeftEdge.{IsBefore}
 use Rattle.interval_pack.specs.Packing.{at, start_of, crowd_at}
 use Rattle.interval_pack.proofs.Counts.{holds}
 use Rattle.interval_pack.proofs.Unique.{same_numbers}
-use Rattle.sparse_pack.specs.Sparse.{Share, IsSparsePacking}
-use Rattle.sparse_pack.proofs.Choosing.{crowd-counted, count-same}
+use Rattle.interval_pack.specs.Sparse.{Share, IsSparsePacking}
+use Rattle.interval_pack.proofs.Choosing.{crowd-counted, count-same}
 use Rattle.op_graph.specs.declared.node.Node.{Node}
 use Rattle.op_graph.specs.Graph.{node, done}
 use Rattle.register_binding.specs.Registers.{needed_to, uses_value, life_end, Lives, LiveTogether, lives_at, live_at, register_at, number, AreRegisters, RegistersBelow}

@@ -6,8 +6,8 @@ use Rattle.netlist.specs.declared.netlist.Module.{Module}
 use Rattle.netlist.specs.declared.netlist.Netlist.{Netlist}
 use Rattle.netlist.specs.NetlistOf.{netlist_of}
 use Rattle.sim_layout.specs.Rounds.{threads_of}
-use Rattle.round_robin.specs.Round.{IsRound}
-use Rattle.round_robin.specs.declared.run.Ran.{Ran}
+use Rattle.cycle_sim.specs.Round.{IsRound}
+use Rattle.cycle_sim.specs.declared.run.Ran.{Ran}
 use Rattle.verilog_reader.specs.declared.read.ReadError.{ReadError}
 use Rattle.verilog_reader.specs.declared.read.ReadError.TheVariants as read
 use Rattle.verilog_reader.specs.Faults.{IsRead, IsFault}

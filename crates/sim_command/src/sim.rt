@@ -10,7 +10,7 @@ use cycle_sim::sim::OpenError;
 use loop_path::dotted::loop_path;
 use net_netlist::netlist;
 use netlist::netlist::{Module, Netlist};
-use round_robin::run::{Ran, run};
+use cycle_sim::run::{Ran, run};
 use std::alloc::{AllocError, Global};
 use thiserror::Error;
 use verilog_reader::read::{ReadError, read};

@@ -6,7 +6,7 @@ use crate::nets::{counter, looped, net_of};
 use cycle_sim::sim::{OpenError, Sim};
 use hls_io::Bytes;
 use netlist::netlist::Module;
-use round_robin::run::run;
+use cycle_sim::run::run;
 use std::alloc::{AllocError, Global};
 use std::process::Abort;
 use std::test::Fail;

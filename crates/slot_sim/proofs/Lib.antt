@@ -18,3 +18,4 @@ pub mod Moving
 pub use Rattle.cycle_once.proofs.Standing
 pub use Rattle.cycle_sim.proofs.Same
 pub use Rattle.cycle_sim.proofs.Turning
+pub mod Loopless

@@ -5,6 +5,7 @@
 pub mod changing;
 pub mod members;
 pub mod need;
+pub mod opening;
 pub mod running;
 pub mod same;
 pub mod slot;

@@ -2,3 +2,15 @@ pub mod Wholes
 pub mod Texts
 pub mod Good
 pub use Rattle.table_refine.proofs.Routines
+pub mod Naming
+pub mod Paths
+pub mod Insides
+pub mod Wrapped
+pub mod Turning
+pub mod Wrapping
+pub mod Alike
+pub mod Found
+pub mod Counting
+pub mod Stepped
+pub mod Rounded
+pub mod Prefs

@@ -20,7 +20,7 @@ use Rattle.net_tables.specs.Whole.{IsWholeTable, AreThreads}
 use Rattle.net_tables.specs.Nets.{IsNetOfTable}
 use Rattle.net_tables.proofs.Sound.{tables_are_sound}
 use Rattle.net_tables.proofs.Netting.{tables_are_nets}
-use Rattle.round_net.proofs.Rounded.{rounds_stand}
+use Rattle.table_net.proofs.Rounded.{rounds_stand}
 use Rattle.table_text.specs.Written.{IsWritten}
 use Rattle.table_net.specs.Texts.{IsNetOf, FollowsProgram, TextsAreNets, TextsAreGood}
 

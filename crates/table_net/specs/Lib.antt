@@ -4,3 +4,8 @@ pub mod Good
 pub use Rattle.table_refine.specs.Wired
 pub use Rattle.table_refine.specs.Follows
 pub use Rattle.table_text.specs.Written
+pub mod Alike
+pub mod Found
+pub mod Rounded
+pub mod Stepped
+pub mod Prefs

@@ -20,7 +20,7 @@ use Rattle.good_verilog.specs.Program.{seen_of}
 use Rattle.good_verilog.specs.GoodVerilog.{IsGoodVerilog}
 use Rattle.net_tables.specs.Tables.{Table, layout_of, modules_of}
 use Rattle.net_tables.specs.Whole.{IsWholeTable, AreThreads}
-use Rattle.round_net.specs.Rounded.{HasRound}
+use Rattle.table_net.specs.Rounded.{HasRound}
 use Rattle.table_text.specs.Written.{IsWritten}
 
 -- the netlist that a text reads as: it is sound, its `top` has the output `done`, no signal depends on itself, it takes the choices of

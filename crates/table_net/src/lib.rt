@@ -1,5 +1,8 @@
-//! The tables of modules of programs' hardware, and the texts of their nets.
+//! The tables of modules of programs' hardware, and the texts of their nets; and what `top_rr` does in these: its runs are those of `top` where all
+//! threads are enabled and each arbiter prefers the cycle's number modulo 16.
 #![tactic(auto)]
+
+pub mod law;
 
 ghost use Rattle.table_net.specs.Good.{LaidTablesAreGood, PlacedTablesAreLaid, ThreadsStand};
 ghost use Rattle.table_net.specs.Tables.{LaidTablesAreWhole};

@@ -6,4 +6,4 @@ pub mod Banking
 pub mod Spreading
 pub mod Wanted
 pub mod Wiring
-pub use Rattle.thread_needs.proofs.Needs
+pub mod Needs

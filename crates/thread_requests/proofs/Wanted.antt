@@ -24,7 +24,7 @@ use Rattle.thread_requests.specs.declared.early.Acts.{Acts}
 use Rattle.thread_requests.proofs.Opening.{stand_joined}
 use Rattle.thread_slots.specs.declared.requests.Requests.{Requests}
 use Rattle.thread_requests.specs.declared.early.Early.{Early}
-use Rattle.thread_needs.specs.Needing.{NeedsMore, FitStages, IsNeedOfFirst}
+use Rattle.thread_requests.specs.Needing.{NeedsMore, FitStages, IsNeedOfFirst}
 use Rattle.thread_slots.specs.Bits.{NotOf, BothOf, MakesBits, MakesAny, AreBitsOf, AddsNots, AddsBoths, AddsAny}
 use Rattle.thread_requests.specs.Early.{held_width, spread_out, wants_of, AsksGlobals, AsksBanks, OpensActs, IsLost, LaysEarlyWired}
 use Rattle.thread_slots.proofs.Gating.{of_bits_later}

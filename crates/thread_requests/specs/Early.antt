@@ -31,7 +31,7 @@ use Rattle.thread_requests.specs.declared.early.Early.{Early}
 use Rattle.thread_asks.specs.Met.{NamesMet, AllNamed}
 use Rattle.thread_asks.specs.Asking.{AsksAll}
 use Rattle.thread_slots.specs.Requests.{group, AreAskLinks, BeginsAsking, KeepsAskLinks}
-use Rattle.thread_needs.specs.Needing.{NeedsMore, FitStages, IsNeedOfFirst}
+use Rattle.thread_requests.specs.Needing.{NeedsMore, FitStages, IsNeedOfFirst}
 use Rattle.thread_slots.specs.Bits.{HasBit, HaveBits, NotOf, BothOf, WithOf, NumberOf, MakesBits, MakesAny, AreBitsOf, AddsNots, AddsBoths, AddsWiths, AddsNumbers}
 use Rattle.thread_slots.specs.Wired.{AreSlots, FitStates}
 

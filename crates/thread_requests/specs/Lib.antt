@@ -1,4 +1,4 @@
 pub mod Banks
 pub mod Early
 pub mod Outputs
-pub use Rattle.thread_needs.specs.Needing
+pub mod Needing

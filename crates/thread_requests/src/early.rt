@@ -8,6 +8,7 @@ ghost use Rattle.thread_slots.specs.Services.{if_ids};
 ghost use Rattle.thread_requests.specs.Early.{BeginsRequests, AsksBanks, OpensBanks, OpensActs, OpensObjects, IsLost, LaysEarlyWired, copies_of, spread_out, wants_of};
 
 use crate::banks::{one_bank_each, spread_places, spread_requests};
+use crate::needing::need_stages;
 use bank_partition::banks::Spread;
 use block_datapath::registers::Registers;
 use block_ir::code::ThreadCode;
@@ -18,7 +19,6 @@ use sqlite_items::{Boxed, Items};
 use std::alloc::{AllocError, Global};
 use thread_asks::asking::{Caller, ask_stages};
 use thread_asks::met::name_met;
-use thread_needs::needing::need_stages;
 use thread_slots::bits::{any_of, both_each, both_with, is_each, not_each};
 use thread_slots::requests::{Request, Requests};
 use thread_slots::shape::Served;

@@ -4,8 +4,10 @@
 
 // - banks: what each bank is asked, of what is asked of each global (`SpreadsRequests`);
 // - early: which cores are open (`LaysEarly`);
+// - needing: where a thread needs a core though none may be asked (`NeedsMore`);
 // - outputs: the ports, each a copy (`LaysOutputs`).
 
 pub mod banks;
 pub mod early;
+pub mod needing;
 pub mod outputs;

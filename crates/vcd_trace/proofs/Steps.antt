@@ -11,7 +11,7 @@ use Rattle.sim_layout.specs.Rounds.{threads_of, round, rounds}
 use Rattle.cycle_sim.specs.Lockstep.{IsTurned}
 use Rattle.cycle_sim.proofs.Same.{runs_from_same}
 use Rattle.cycle_sim.proofs.Turning.{takes_rounds, turned_none, IsTold, told, turned_on}
-use Rattle.round_robin.specs.Round.{IsBegun, turns}
+use Rattle.cycle_sim.specs.Round.{IsBegun, turns}
 use Rattle.vcd_text.specs.Dump.{AreValues, first_frame, frame}
 use Rattle.vcd_text.specs.Recover.{frames, recover}
 use Rattle.vcd_text.proofs.Recovering.{recovers}

@@ -4,7 +4,7 @@ use Rattle.netlist.specs.declared.netlist.Module.{Module}
 use Rattle.verilog_meaning.specs.Names.{top_of}
 use Rattle.verilog_meaning.specs.Cycles.{Valuation, Reaches, initial_state}
 use Rattle.sim_layout.specs.Rounds.{prefs_of, Tells, IsGoing}
-use Rattle.round_robin.specs.Round.{turns}
+use Rattle.cycle_sim.specs.Round.{turns}
 use Rattle.vcd_text.specs.Recover.{unlines, frames, recover}
 use Rattle.net_registers.specs.Marks.{Register, Mark, AreMarks, registers_of}
 use Rattle.net_registers.specs.Heads.{head_lines, width_of, number_in}

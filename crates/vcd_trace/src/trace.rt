@@ -2,7 +2,7 @@
 
 ghost use Rattle.std.specs.Prelude.{◌≡◌, ℕ, ◌+◌, ◌<◌, List, ◌++◌, [], map, length, slice_index, OnOk, IfOk, IfErr};
 ghost use Rattle.cycle_sim.specs.Opened.{IsOpenable, IsCause};
-ghost use Rattle.round_robin.specs.Round.{IsBegun};
+ghost use Rattle.cycle_sim.specs.Round.{IsBegun};
 ghost use Rattle.sim_layout.specs.Rounds.{threads_of, round};
 ghost use Rattle.sim_layout.specs.Running.{IsCycleOf, IsSameNet};
 ghost use Rattle.vcd_text.specs.Dump as dump;

@@ -3,10 +3,10 @@
 ghost use Rattle.grammar.specs.Steps.{Steps};
 ghost use Rattle.verilog_rules.specs.Reading as spec;
 
+use crate::cursor::Cursor;
 use grammar::Fault;
 use sqlite_items::Items;
 use std::alloc::Global;
-use verilog_cursor::cursor::Cursor;
 use verilog_rules::sign::Sign;
 use verilog_tree::name::Identifier;
 use verilog_tree::token::Mark;

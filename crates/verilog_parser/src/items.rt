@@ -7,7 +7,7 @@ use crate::statements::statements;
 use grammar::Fault;
 use sqlite_items::Items;
 use std::alloc::Global;
-use verilog_cursor::cursor::Cursor;
+use verilog_expressions::cursor::Cursor;
 use verilog_expressions::expressions::{constant, expression, optional_range};
 use verilog_rules::sign::Sign;
 use verilog_tree::name::Identifier;

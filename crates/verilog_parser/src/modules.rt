@@ -7,7 +7,7 @@ use crate::items::item;
 use grammar::Fault;
 use sqlite_items::Items;
 use std::alloc::Global;
-use verilog_cursor::cursor::Cursor;
+use verilog_expressions::cursor::Cursor;
 use verilog_expressions::expressions::optional_range;
 use verilog_tree::name::Identifier;
 use verilog_tree::token::{Mark, Word};

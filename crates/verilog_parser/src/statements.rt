@@ -7,7 +7,7 @@ ghost use Rattle.verilog_rules.specs.Reading as spec;
 use grammar::{Fault, too_deep};
 use sqlite_items::Items;
 use std::alloc::Global;
-use verilog_cursor::cursor::Cursor;
+use verilog_expressions::cursor::Cursor;
 use verilog_expressions::expressions::signed;
 use verilog_tree::token::{Mark, Word};
 use verilog_tree::tree::{Statement, WriteArgument};

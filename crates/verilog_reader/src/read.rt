@@ -18,7 +18,7 @@ use std::alloc::{AllocError, Global};
 use thiserror::Error;
 use token_places::parts::{item_place, name_place, port_place};
 use top_ports::top::{has_ports, is_top, unwanted};
-use verilog_cursor::cursor::Cursor;
+use verilog_expressions::cursor::Cursor;
 use verilog_lexer::tokens::{Lexed, lex};
 use verilog_parser::modules::net;
 use verilog_tree::tree::{Module, Net};

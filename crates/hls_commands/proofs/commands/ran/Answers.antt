@@ -2,7 +2,7 @@ use Rattle.std.proofs.Common.{subst, sym}
 use Rattle.c_program.specs.Plain.{program_of}
 use Rattle.cycle_sim.specs.Opened.{IsOpenable, IsCause}
 use Rattle.sim_layout.specs.Rounds.{threads_of}
-use Rattle.round_robin.specs.Round.{IsRound}
+use Rattle.cycle_sim.specs.Round.{IsRound}
 use Rattle.hls_commands.proofs.RunLemmas.{openable, threads_are, no_cause}
 use Rattle.hls_commands.proofs.commands.ran.Goals as goal
 

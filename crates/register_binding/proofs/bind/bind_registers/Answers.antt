@@ -1,5 +1,5 @@
 use Rattle.std.proofs.Common.{◌≡◌, length, arith, sym, ◌∙◌}
-use Rattle.sparse_pack.specs.Sparse.{IsSparsePacking}
+use Rattle.interval_pack.specs.Sparse.{IsSparsePacking}
 use Rattle.register_binding.specs.Used.{is_used_at_end}
 use Rattle.register_binding.specs.Steps.{AreLives, AreRows}
 use Rattle.register_binding.proofs.Binding.{lives_alike, are_registers, registers_below, are_crowded}

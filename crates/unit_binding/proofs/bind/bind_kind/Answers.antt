@@ -1,4 +1,4 @@
-use Rattle.sparse_pack.specs.Sparse.{IsSparsePacking}
+use Rattle.interval_pack.specs.Sparse.{IsSparsePacking}
 use Rattle.std.proofs.Common.{◌≡◌, length, arith}
 use Rattle.unit_binding.specs.Works.{IsTakenOver}
 use Rattle.unit_binding.proofs.OneKind.{bound_kind, greatest_use}

@@ -1,3 +1,0 @@
-mod Commute
-mod Sort
-mod Agree

@@ -1,3 +1,0 @@
-mod Agree
-mod Lists
-mod Parts

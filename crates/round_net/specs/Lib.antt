@@ -1,5 +1,0 @@
-pub mod Alike
-pub mod Found
-pub mod Rounded
-pub mod Stepped
-pub mod Prefs

@@ -1,5 +1,0 @@
-use Rattle.sparse_pack.proofs.Choosing.{AreChosen}
-use Rattle.sparse_pack.proofs.packing.pack_some.Given as goal
-
-abbrev pub invariant-loop-i : goal.invariant-loop-i
-invariant-loop-i l = AreChosen l.intervals l.i l.chosen.items l.solid.items

@@ -1,2 +1,0 @@
-pub mod Sparse
-pub mod Chosen

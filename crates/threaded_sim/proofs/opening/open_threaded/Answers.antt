@@ -1,5 +1,0 @@
-use Rattle.threaded_sim.proofs.Loopless.{no_loop}
-use Rattle.threaded_sim.proofs.opening.open_threaded.Goals as goal
-
-pub memory_alone-requires : goal.memory_alone-requires
-memory_alone-requires c = no_loop c.args.modules.now c.args.threads c.requires.threaded c.in-Err.error c.in-Err.ensures.cause
