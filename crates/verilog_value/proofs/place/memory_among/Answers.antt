@@ -9,11 +9,11 @@ returns-then-eq c =
     let named : bytes_eq c.args.name.now c.index-memories-number.result.name ≡ true =
     let e = c.eq.ensures in let x = c.as_str.ensures in let y = c.as_str-in-loop-number.ensures in let t = c.if-eq.true in cc in
     found (λ (s : MemoryValue). s.name) c.args.name.now c.args.memories.now c.loop-number.number
-        c.index-memories-number.result c.loop-number-test.true c.index-memories-number.is named c.loop-number.invariant
+    c.index-memories-number.result c.loop-number-test.true c.index-memories-number.is named c.loop-number.invariant
 
 pub loop-number-preserved : goal.loop-number-preserved
 loop-number-preserved c =
     let other : bytes_eq c.args.name.now c.index-memories-number.result.name ≡ false =
     let e = c.eq.ensures in let x = c.as_str.ensures in let y = c.as_str-in-loop-number.ensures in let t = c.if-eq.false in cc in
     passed (λ (s : MemoryValue). s.name) c.args.name.now c.args.memories.now c.loop-number.number
-        c.index-memories-number.result c.loop-number-test.true c.index-memories-number.is other c.loop-number.invariant
+    c.index-memories-number.result c.loop-number-test.true c.index-memories-number.is other c.loop-number.invariant
