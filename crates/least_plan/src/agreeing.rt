@@ -2,7 +2,7 @@
 
 ghost use Rattle.least_plan.specs.Plans.{AllPlansAgree};
 
-use least_plan::law::code_plans_agree;
+use crate::law::code_plans_agree;
 
 /// Codes each of whose blocks has fewer than 2 ^ 32 operations have at most one list of plans. So two answers of `plan_all`
 /// are equal, whatever their numbers of jobs.
