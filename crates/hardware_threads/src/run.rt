@@ -16,6 +16,7 @@ use hls_io::Bytes;
 use journal_laws::verdict::{Answer, Next, Verdict};
 use journal_text::entry::Entry;
 use netlist::netlist::Module;
+use slot_sim::opening::open_threaded;
 use slot_sim::running::SlotSim;
 use sqlite_items::Items;
 use std::alloc::{AllocError, Global};
@@ -23,7 +24,6 @@ use std::marker::Brand;
 use std::sync::{Mutex, Wait};
 use std::thread;
 use std::thread::Threads;
-use slot_sim::opening::open_threaded;
 
 const MOST: u32 = 4096;
 

@@ -19,6 +19,7 @@ use crate::sims::simulate;
 use c_interpreter::walk::{WalkEnd as Ends, walk};
 use c_profile::{Accepted, ProfileError, Refusal, accept};
 use c_program::threads::thread_count;
+use cycle_sim::run::{Ran, run};
 use cycle_sim::sim::OpenError;
 use hls_compile::{CompileError, Compiled, compile};
 use hls_io::{Bytes, ReadAllError, Source, read_all};
@@ -27,7 +28,6 @@ use hls_status::lines::{
 };
 use hls_status::status::{Status, WalkEnd};
 use hls_words::{Task, WordsError, parse};
-use cycle_sim::run::{Ran, run};
 use run_command::Gate;
 use sqlite_items::Items;
 use std::alloc::{AllocError, Global};

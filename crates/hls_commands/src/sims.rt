@@ -8,10 +8,10 @@ ghost use Rattle.hls_commands.specs.Inside.{IsPrinted, SimOwes, SimOwesFor, Stop
 
 use crate::answer::{Answer, Line, Out};
 use crate::commands::{Stop, plain, run_status};
+use cycle_sim::run::Ran;
 use hls_io::{Bytes, ReadAllError, Source, read_all};
 use hls_status::lines::{cycles_line, loop_line, not_net_line};
 use hls_status::status::Status;
-use cycle_sim::run::Ran;
 use sim_command::sim::{MOST_BYTES, SimError, sim};
 use sqlite_items::Items;
 use std::alloc::{AllocError, Global};

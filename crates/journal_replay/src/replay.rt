@@ -13,9 +13,9 @@ use journal_laws::judge::judge;
 use journal_laws::verdict::{Next, Verdict};
 use journal_text::entry::Entry;
 use netlist::netlist::Module;
+use slot_sim::opening::open_threaded;
 use slot_sim::running::SlotSim;
 use std::alloc::{AllocError, Global};
-use slot_sim::opening::open_threaded;
 
 /// What a journal gives that is done again, or the number of its first entry that isn't legal.
 #[derive(Drop)]

@@ -1,6 +1,5 @@
 // Rows of intervals.
-use interval_pack::{Interval, pack};
-use interval_pack::pack_some;
+use interval_pack::{Interval, pack, pack_some};
 use std::test::Fail;
 
 #[test]

@@ -7,8 +7,8 @@ ghost use Rattle.register_binding.specs.Used.{is_used_at_end};
 use crate::lives::{lives_of, rows_of};
 use crate::used::used_at_end;
 use block_ir::block::Block;
-use op_graph::node::Node;
 use interval_pack::pack_some;
+use op_graph::node::Node;
 use std::alloc::{AllocError, Global};
 
 /// The register of each value that has one, how many registers there are, and the first state that needs so many.

@@ -3,10 +3,10 @@
 ghost use Rattle.cycle_sim.specs.Opened.{IsOpenable};
 
 use crate::nets::{counter, looped, net_of};
+use cycle_sim::run::run;
 use cycle_sim::sim::{OpenError, Sim};
 use hls_io::Bytes;
 use netlist::netlist::Module;
-use cycle_sim::run::run;
 use std::alloc::{AllocError, Global};
 use std::process::Abort;
 use std::test::Fail;

@@ -6,8 +6,8 @@ ghost use Rattle.unit_binding.specs.Works.{IsBoundKind, AreBound};
 
 use crate::kinds::share_units;
 use crate::works::{take_over, works_of};
-use op_graph::node::{Kind, Node};
 use interval_pack::pack_some;
+use op_graph::node::{Kind, Node};
 use std::alloc::{AllocError, Global};
 
 /// How many units of a kind there are.
