@@ -17,32 +17,39 @@ pub fn sum_of(a: u32, b: u32) -> Result<u32, LoweringFault>
     a.checked_add(b).ok_or(LoweringFault::TooLarge)
 }
 
+/// The printf calls of a statement in the text come to those before it.
+pub(crate) fn count_prints(statement: &Statement, before: u32) -> Result<u32, LoweringFault>
+    ensures count { IfOk result (λ n. n ≡ before + print_count (statement_of statement.now)) }
+    ensures full { IfErr result (IsFull (before + print_count (statement_of statement.now))) }
+{
+    let mut count = before;
+    let mut rest = statement;
+    while let Statement::Sequence(first, next) = rest {
+        count = count_prints(first, count)?;
+        rest = next;
+    }
+    match rest {
+        Statement::Block(body) | Statement::While(_, body) | Statement::DoWhile(body, _) => {
+            count_prints(body, count)
+        }
+        Statement::If(_, consequent, alternative) => {
+            count_prints(alternative, count_prints(consequent, count)?)
+        }
+        Statement::For(first, _, last, body) => {
+            let head = count_prints(last, count_prints(first, count)?)?;
+            count_prints(body, head)
+        }
+        Statement::Print(_, _, _) => sum_of(count, 1),
+        _ => Ok(count),
+    }
+}
+
 /// How many printf calls a statement has in the text.
 pub fn print_count(statement: &Statement) -> Result<u32, LoweringFault>
     ensures count { IfOk result (λ n. n ≡ print_count (statement_of statement.now)) }
     ensures full { IfErr result (IsFull (print_count (statement_of statement.now))) }
 {
-    let mut before = 0u32;
-    let mut rest = statement;
-    while let Statement::Sequence(first, next) = rest {
-        before = sum_of(before, print_count(first)?)?;
-        rest = next;
-    }
-    let last = match rest {
-        Statement::Block(body) | Statement::While(_, body) | Statement::DoWhile(body, _) => {
-            print_count(body)?
-        }
-        Statement::If(_, consequent, alternative) => {
-            sum_of(print_count(consequent)?, print_count(alternative)?)?
-        }
-        Statement::For(first, _, last, body) => {
-            let turn = sum_of(print_count(last)?, print_count(body)?)?;
-            sum_of(print_count(first)?, turn)?
-        }
-        Statement::Print(_, _, _) => 1,
-        _ => 0,
-    };
-    sum_of(before, last)
+    count_prints(statement, 0)
 }
 
 fn right_values(right: &RightSide) -> usize

@@ -14,12 +14,12 @@ ghost use Rattle.thread_rooms.specs.Locals.{prints};
 ghost use Rattle.straight_code.specs.Room.{IsFull};
 
 use crate::naming::names_of;
-use crate::prints::{print_count, sum_of};
+use crate::prints::count_prints;
 use crate::reaching::{has, marks_of};
 use block_ir::code::Array;
 use c_program::tree::{Function, LocalVariable, Program};
 use hls_ints::CType;
-use sqlite_items::Items;
+use sqlite_items::{Items, at};
 use std::alloc::{AllocError, Global};
 use straight_code::fault::{LoweringFault, number_of};
 use straight_code::homes::Home;
@@ -98,7 +98,7 @@ impl Rooms {
         let homes = self.place_all(alloc, kept_locals(is_reached, function))?;
         let site = self.sites;
         self.rooms.push(Room { homes, site })?;
-        self.sites = sum_of(site, print_count(&function.body)?)?;
+        self.sites = count_prints(&function.body, site)?;
         Ok(())
     }
 }
@@ -141,8 +141,8 @@ pub fn rooms_of(alloc: Global, program: &Program, root: usize) -> Result<Housing
 {
     let functions = program.functions.as_slice();
     let marks = marks_of(alloc, functions, root)?;
-    let rooms = place_functions(alloc, functions, marks.as_slice())?;
     let names = names_of(alloc, functions, marks.as_slice())?;
+    let rooms = place_functions(alloc, functions, marks.as_slice())?;
     Ok(Housing { rooms, names })
 }
 
@@ -151,17 +151,13 @@ pub fn room_of(alloc: Global, rooms: &[Room], number: usize) -> Result<Room, All
     ensures homes { IfOk result (λ r. r.homes ≡ housing.homes_there (slice_get rooms.now number)) }
     ensures site { IfOk result (λ r. r.site ≡ housing.site_there (slice_get rooms.now number)) }
 {
-    match rooms.get(number) {
-        Some(room) => {
-            let homes = Items::from_slice(alloc, room.homes.as_slice())?;
-            Ok(Room {
-                homes,
-                site: room.site,
-            })
-        }
-        None => Ok(Room {
+    let Some(room) = at(rooms, number) else {
+        return Ok(Room {
             homes: Items::new(alloc),
             site: 0,
-        }),
-    }
+        });
+    };
+    let homes = Items::from_slice(alloc, room.homes.as_slice())?;
+    let site = room.site;
+    Ok(Room { homes, site })
 }
