@@ -1,5 +1,5 @@
 -- What is asked of cores, one stage after the other.
-use Rattle.std.proofs.Common.{◌≡◌, ◌≢◌, ℕ, suc, ◌+◌, ◌<◌, ◌≤◌, nat_eq, true, false, List, length, slice_get, Option, Some, ℤ, refl, sym, ap, subst, ◌∙◌, arith}
+use Rattle.std.proofs.Common.{◌≡◌, ◌≢◌, ℕ, suc, ◌+◌, ◌<◌, ◌≤◌, nat_eq, true, false, List, length, slice_get, Option, Some, None, ℤ, refl, sym, ap, subst, ◌∙◌, arith}
 use Rattle.std.proofs.Common.{⊎_elim}
 use Rattle.std.proofs.lemmas.Option.{slice_get_within}
 use Rattle.std.proofs.lemmas.Bool.{cases_eq, ne_eqb}
@@ -211,6 +211,60 @@ named_called a b d code registers w at number named v values before after n t = 
       }) in
       record { wires = wires_then base a b d p.wires k.wires; stands = k.stands };
 }
+
+-- a: before, b: the object, if there is one
+abbrev pub NamesIf : ThreadCode → Registers → List Signal → List Signal → ℕ → Option ActOperand → Request → Request → Type 0
+NamesIf code registers a b at None before middle = (b ≡ a) × (middle ≡ before)
+NamesIf code registers a b at (Some v) before middle = (named : ℕ) × NamesObject code registers a b at before.object v named × (middle ≡ record before { object = named })
+
+-- d: the call
+pub called_if : (a b d : List Signal) (code : ThreadCode) (registers : Registers) (w at number : ℕ) (object : Option ActOperand) (values : List ActOperand)
+    (before middle after : Request)
+    → NamesIf code registers a b at object before middle → CallsPlain code registers w at number values b d middle after → Calls code registers w at number object values a d before after
+called_if a b d code registers w at number None values before middle after n t =
+    subst (λ (z : List Signal). Calls code registers w at number None values z d before after) n.0
+    (subst (λ (q : Request). Calls code registers w at number None values b d q after) n.1 t.calls)
+called_if a b d code registers w at number (Some v) values before middle after n t =
+    named_called a b d code registers w at number n.0 v values before after n.1
+    (subst (λ (q : Request). CallsPlain code registers w at number values b d q after) n.2 t)
+
+-- ---- one of all requests
+
+abbrev pub put_group : Service → Requests → Request → Requests
+put_group Mutexes x own = record x { mutex = own }
+put_group Barriers x own = record x { barrier = own }
+put_group Ids x own = record x { ids = own }
+put_group Prints x own = record x { print = own }
+
+pub group_put : (s : Service) (x : Requests) (own : Request) → group (put_group s x own) s ≡ own
+group_put Mutexes x own = refl
+group_put Barriers x own = refl
+group_put Ids x own = refl
+group_put Prints x own = refl
+
+pub banks_put : (s : Service) (x : Requests) (own : Request) → (put_group s x own).banks ≡ x.banks
+banks_put Mutexes x own = refl
+banks_put Barriers x own = refl
+banks_put Ids x own = refl
+banks_put Prints x own = refl
+
+pub others_put : (s : Service) (x : Requests) (own : Request) (k : Service) → same_service s k ≡ false → group (put_group s x own) k ≡ group x k
+others_put Mutexes x own Mutexes off = absurd cc
+others_put Mutexes x own Barriers off = refl
+others_put Mutexes x own Ids off = refl
+others_put Mutexes x own Prints off = refl
+others_put Barriers x own Mutexes off = refl
+others_put Barriers x own Barriers off = absurd cc
+others_put Barriers x own Ids off = refl
+others_put Barriers x own Prints off = refl
+others_put Ids x own Mutexes off = refl
+others_put Ids x own Barriers off = refl
+others_put Ids x own Ids off = absurd cc
+others_put Ids x own Prints off = refl
+others_put Prints x own Mutexes off = refl
+others_put Prints x own Barriers off = refl
+others_put Prints x own Ids off = refl
+others_put Prints x own Prints off = absurd cc
 
 -- ---- readings
 

@@ -22,11 +22,12 @@ use Rattle.circuit.specs.Modules.{Obeys}
 use Rattle.operator_wires.specs.Gives.{Grows}
 use Rattle.operator_wires.specs.Words.{resized_word}
 use Rattle.operator_wires.specs.Built.{Base, IsEarlier}
+use Rattle.operator_wires.specs.Added.{NumberAdds}
 use Rattle.block_datapath.specs.Promise.{is_run}
 use Rattle.block_ir.specs.Asked.{act_value, Service, Mutexes, Barriers, Ids, Prints, Request as Call, request_of}
 use Rattle.block_datapath.specs.declared.registers.Held.{Held}
 use Rattle.block_datapath.specs.declared.registers.Registers.{Registers}
-use Rattle.block_datapath.specs.Chains.{next_number}
+use Rattle.block_datapath.specs.Chains.{next_number, TellsStage}
 use Rattle.block_datapath.specs.Leave.{HasStage, IsInStage}
 use Rattle.block_datapath.specs.Operations.{SeesSlot}
 use Rattle.block_datapath.specs.Requests.{asked_at, AreAsMany}
@@ -113,6 +114,14 @@ module _ (code : ThreadCode) (registers : Registers) where
   pub record CallsPlain (w at number : ℕ) (values : List ActOperand) (old new : List Signal) (before after : Request) : Type 0 where
     pub calls : Calls w at number None values old new before after
     pub object : after.object ≡ before.object
+
+  -- AT STAGE l, which a bit tells, a core is asked so
+  pub record CallsAt (l w number : ℕ) (object : Option ActOperand) (values : List ActOperand) (old new : List Signal) (before after : Request) : Type 0 where
+    pub with_at : List Signal
+    pub at : ℕ
+    pub told : TellsStage old with_at registers l at
+    pub told_wired : NumberAdds old with_at registers.stage.width registers.stage.register l at
+    pub calls : Calls w at number object values with_at new before after
 
 -- ---- readings
 

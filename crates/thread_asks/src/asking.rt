@@ -1,12 +1,11 @@
 // What is asked of cores, stage by stage, by wires that read registers alone.
 
-ghost use Rattle.std.specs.Prelude.{ℕ, List, [], ◌∷◌, slice_get, Option, Some, IfOk, OnOk};
+ghost use Rattle.std.specs.Prelude.{ℕ, List, slice_get, Option, IfOk, OnOk};
 ghost use Rattle.block_ir.specs.declared.code.Stage.TheVariants as taken;
 ghost use Rattle.block_ir.specs.declared.plan.StagePlan.{StagePlan as PlanOfStage};
 ghost use Rattle.hls_ints.specs.Types.{IntegerType};
 ghost use Rattle.bank_partition.specs.declared.banks.Spread.{Spread as SpreadOf};
-ghost use Rattle.block_ir.specs.Asked.{Mutexes, Barriers, Ids, Prints};
-ghost use Rattle.thread_asks.specs.Asking.{call_of, Calls, CallsPlain, AsksRequest, AsksStage, AsksAllWired};
+ghost use Rattle.thread_asks.specs.Asking.{CallsAt, AsksStage, AsksAllWired};
 
 use crate::fields::{ask_number, ask_values, name_object};
 use bank_partition::banks::Spread;
@@ -91,196 +90,93 @@ fn ask_act(
     requests: &mut Requests,
     code: &ThreadCode,
     caller: Caller,
-    number: usize,
+    stage: usize,
     act: &Act,
 ) -> Result<(), AllocError>
     ensures { OnOk result ((globals : List IntegerType) (spreads : List SpreadOf) (next : ℕ) (plan : Option PlanOfStage) →
-        AsksStage globals spreads code.now registers.now caller number
+        AsksStage globals spreads code.now registers.now caller stage
         (taken.Act act.now next) plan wires.old.signals wires.new.signals requests.old requests.new) }
 {
     match act {
         Act::Print { site, values } => {
+            let core = &mut requests.print;
+            let width = caller.served.printer.site_width;
             let values = values.as_slice();
-            ask_print(
-                wires, registers, requests, code, caller, number, *site, values,
+            call(
+                wires, registers, core, code, stage, width, *site, None, values,
             )
         }
         Act::Create { thread, argument } => {
+            let core = &mut requests.ids;
             let values = [*thread, *argument];
-            ask_ids(wires, registers, requests, code, caller, number, 0, &values)
+            call(wires, registers, core, code, stage, 2, 0, None, &values)
         }
-        Act::Join { thread } => ask_ids(
-            wires,
-            registers,
-            requests,
-            code,
-            caller,
-            number,
-            1,
-            &[*thread],
-        ),
-        Act::MutexInit { mutex } => ask_mutex(
-            wires, registers, requests, code, caller, number, 0, *mutex,
-        ),
-        Act::MutexLock { mutex } => ask_mutex(
-            wires, registers, requests, code, caller, number, 1, *mutex,
-        ),
-        Act::MutexUnlock { mutex } => ask_mutex(
-            wires, registers, requests, code, caller, number, 2, *mutex,
-        ),
-        Act::MutexDestroy { mutex } => ask_mutex(
-            wires, registers, requests, code, caller, number, 3, *mutex,
-        ),
-        Act::BarrierInit { barrier, count } => ask_barrier(
-            wires,
-            registers,
-            requests,
-            code,
-            caller,
-            number,
-            0,
-            *barrier,
-            &[*count],
-        ),
-        Act::BarrierWait { barrier } => ask_barrier(
-            wires,
-            registers,
-            requests,
-            code,
-            caller,
-            number,
-            1,
-            *barrier,
-            &[],
-        ),
-        Act::BarrierDestroy { barrier } => ask_barrier(
-            wires,
-            registers,
-            requests,
-            code,
-            caller,
-            number,
-            2,
-            *barrier,
-            &[],
-        ),
+        Act::Join { thread } => {
+            let core = &mut requests.ids;
+            call(wires, registers, core, code, stage, 2, 1, None, &[*thread])
+        }
+        Act::MutexInit { mutex } => {
+            let core = &mut requests.mutex;
+            call(wires, registers, core, code, stage, 2, 0, Some(*mutex), &[])
+        }
+        Act::MutexLock { mutex } => {
+            let core = &mut requests.mutex;
+            call(wires, registers, core, code, stage, 2, 1, Some(*mutex), &[])
+        }
+        Act::MutexUnlock { mutex } => {
+            let core = &mut requests.mutex;
+            call(wires, registers, core, code, stage, 2, 2, Some(*mutex), &[])
+        }
+        Act::MutexDestroy { mutex } => {
+            let core = &mut requests.mutex;
+            call(wires, registers, core, code, stage, 2, 3, Some(*mutex), &[])
+        }
+        Act::BarrierInit { barrier, count } => {
+            let core = &mut requests.barrier;
+            let object = Some(*barrier);
+            call(wires, registers, core, code, stage, 2, 0, object, &[*count])
+        }
+        Act::BarrierWait { barrier } => {
+            let core = &mut requests.barrier;
+            let object = Some(*barrier);
+            call(wires, registers, core, code, stage, 2, 1, object, &[])
+        }
+        Act::BarrierDestroy { barrier } => {
+            let core = &mut requests.barrier;
+            let object = Some(*barrier);
+            call(wires, registers, core, code, stage, 2, 2, object, &[])
+        }
         Act::Return => {
             if caller.is_main {
                 Ok(())
             } else {
-                ask_ids(wires, registers, requests, code, caller, number, 2, &[])
+                let core = &mut requests.ids;
+                call(wires, registers, core, code, stage, 2, 2, None, &[])
             }
         }
     }
 }
 
-/// A mutex is asked for an operation.
-fn ask_mutex(
-    wires: &mut Wires,
-    registers: &Registers,
-    requests: &mut Requests,
-    code: &ThreadCode,
-    caller: Caller,
-    number: usize,
-    operation: u32,
-    mutex: ActOperand,
-) -> Result<(), AllocError>
-    ensures { OnOk result (AsksRequest code.now registers.now caller number (call_of Mutexes operation (mutex ∷ [])) wires.old.signals wires.new.signals requests.old requests.new) }
-{
-    let at = at_stage(wires, registers, number as u64)?;
-    let request = &mut requests.mutex;
-    call_object(wires, registers, request, code, at, operation, mutex, &[])
-}
-
-/// A barrier is asked for an operation.
-fn ask_barrier(
-    wires: &mut Wires,
-    registers: &Registers,
-    requests: &mut Requests,
-    code: &ThreadCode,
-    caller: Caller,
-    number: usize,
-    operation: u32,
-    barrier: ActOperand,
-    values: &[ActOperand],
-) -> Result<(), AllocError>
-    ensures { OnOk result (AsksRequest code.now registers.now caller number (call_of Barriers operation (barrier ∷ values.now)) wires.old.signals wires.new.signals requests.old requests.new) }
-{
-    let at = at_stage(wires, registers, number as u64)?;
-    let request = &mut requests.barrier;
-    call_object(
-        wires, registers, request, code, at, operation, barrier, values,
-    )
-}
-
-/// The core of the thread ids is asked for an operation.
-fn ask_ids(
-    wires: &mut Wires,
-    registers: &Registers,
-    requests: &mut Requests,
-    code: &ThreadCode,
-    caller: Caller,
-    number: usize,
-    operation: u32,
-    values: &[ActOperand],
-) -> Result<(), AllocError>
-    ensures { OnOk result (AsksRequest code.now registers.now caller number (call_of Ids operation values.now) wires.old.signals wires.new.signals requests.old requests.new) }
-{
-    let at = at_stage(wires, registers, number as u64)?;
-    let request = &mut requests.ids;
-    call(wires, registers, request, code, at, 2, operation, values)
-}
-
-/// The caller is asked to print a site with its values.
-fn ask_print(
-    wires: &mut Wires,
-    registers: &Registers,
-    requests: &mut Requests,
-    code: &ThreadCode,
-    caller: Caller,
-    number: usize,
-    site: u32,
-    values: &[ActOperand],
-) -> Result<(), AllocError>
-    ensures { OnOk result (AsksRequest code.now registers.now caller number (call_of Prints site values.now) wires.old.signals wires.new.signals requests.old requests.new) }
-{
-    let at = at_stage(wires, registers, number as u64)?;
-    let request = &mut requests.print;
-    let width = caller.served.printer.site_width;
-    call(wires, registers, request, code, at, width, site, values)
-}
-
-/// Where a bit is set the core of an object is asked for an operation.
-fn call_object(
-    wires: &mut Wires,
-    registers: &Registers,
-    request: &mut Request,
-    code: &ThreadCode,
-    at: usize,
-    operation: u32,
-    object: ActOperand,
-    values: &[ActOperand],
-) -> Result<(), AllocError>
-    ensures { OnOk result (Calls code.now registers.now 2 at operation (Some object) values.now wires.old.signals wires.new.signals request.old request.new) }
-{
-    let named = name_object(wires, registers, request.object, code, at, object)?;
-    request.object = named;
-    call(wires, registers, request, code, at, 2, operation, values)
-}
-
-/// Where a bit is set a core is asked, by a number of this width and these values.
+/// At a stage a core is asked, by a number of this width and these values; of the cores of a kind that has objects the one of an
+/// object.
 fn call(
     wires: &mut Wires,
     registers: &Registers,
     request: &mut Request,
     code: &ThreadCode,
-    at: usize,
+    stage: usize,
     width: u64,
     number: u32,
+    object: Option<ActOperand>,
     values: &[ActOperand],
 ) -> Result<(), AllocError>
-    ensures { OnOk result (CallsPlain code.now registers.now width at number values.now wires.old.signals wires.new.signals request.old request.new) }
+    ensures { OnOk result (CallsAt code.now registers.now stage width number object values.now wires.old.signals wires.new.signals request.old request.new) }
 {
+    let at = at_stage(wires, registers, stage as u64)?;
+    if let Some(object) = object {
+        let named = name_object(wires, registers, request.object, code, at, object)?;
+        request.object = named;
+    }
     request.want(wires, at)?;
     let fields = &mut request.fields;
     ask_number(wires, fields, width, at, number)?;
