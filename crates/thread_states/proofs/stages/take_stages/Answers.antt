@@ -1,5 +1,7 @@
 use Rattle.std.proofs.Common.{◌≡◌, length, ap, subst, arith}
 use Rattle.block_datapath.proofs.Walking.{item_is}
+use Rattle.thread_states.specs.Cells.{StoresFirst}
+use Rattle.thread_states.specs.Stages.{WalksFirst}
 use Rattle.thread_states.specs.Stores.{StagesKeepStores}
 use Rattle.thread_states.proofs.Stepping.{walks_none, walks_more}
 use Rattle.thread_states.proofs.Blocks.{stages_none, stages_more}
@@ -35,6 +37,20 @@ loop-number-init c = record {
   puts = stages_none c.args.globals.now c.args.code.now c.args.registers.now c.args.planned.now c.args.wires.now.signals c.args.stores.now;
   stores = walk_begun c.args.code.now c.args.registers.now c.args.planned.now c.args.told.barred c.args.wires.now.signals c.args.chains.now c.args.stores.now;
 }
+
+pub returns-clause-walks : goal.returns-clause-walks
+returns-clause-walks c =
+    let same : length c.as_slice-stage-items.result.now ≡ length c.args.code.now.stages = ap length c.as_slice-stage-items.ensures in
+    let all : c.loop-number.number ≡ length c.args.code.now.stages = omega arith in
+    subst (λ n. WalksFirst c.args.globals.now c.args.code.now c.args.registers.now c.args.told c.args.planned.now c.args.wires.now.signals c.loop-number.wires.signals
+    c.args.chains.now c.loop-number.chains n) all c.loop-number.invariant.walks
+
+pub returns-clause-puts : goal.returns-clause-puts
+returns-clause-puts c =
+    let same : length c.as_slice-stage-items.result.now ≡ length c.args.code.now.stages = ap length c.as_slice-stage-items.ensures in
+    let all : c.loop-number.number ≡ length c.args.code.now.stages = omega arith in
+    subst (λ n. StoresFirst c.args.globals.now c.args.code.now c.args.registers.now c.args.planned.now c.args.wires.now.signals c.loop-number.wires.signals c.args.stores.now
+    c.loop-number.stores n) all c.loop-number.invariant.puts
 
 pub returns-clause-stores : goal.returns-clause-stores
 returns-clause-stores c =
