@@ -18,9 +18,9 @@ any-map f p [] = refl
 any-map f p (x ∷ xs) = ap (λ b. p (f x) || b) (any-map f p xs)
 
 -- a key that is new goes last
-pub with-map : {X Y : Type 0} (f : X → Y) (b : Bool) (ks : List X) (k : X) → b ≡ false → map f (cond b ks (ks ++ k ∷ [])) ≡ map f ks ++ f k ∷ []
-with-map f true ks k e = cc
-with-map f false ks k e = map_push f ks k
+pub with-map : {X Y : Type 0} (f : X → Y) (b : Bool) (ks : List X) (k : X) → map f (if b then ks else ks ++ k ∷ []) ≡ (if b then map f ks else map f ks ++ f k ∷ [])
+with-map f true ks k = refl
+with-map f false ks k = map_push f ks k
 
 -- ---- maps
 

@@ -1,6 +1,6 @@
 // The string of a `$write`.
 
-ghost use Rattle.std.specs.Prelude.{◌≡◌, ◌≤◌};
+ghost use Rattle.std.specs.Prelude.{◌≡◌};
 ghost use Rattle.verilog_tree.specs.Rules as rule;
 ghost use Rattle.net_rules.specs.Format.{formatting};
 
@@ -43,17 +43,6 @@ fn next(at: Formatting, byte: u8) -> Formatting
     }
 }
 
-/// The number of values that end here.
-fn count_at(at: Formatting) -> usize
-    ensures count { result ≡ rule.count_at (formatting at) }
-    ensures most { result ≤ 1 }
-{
-    match at {
-        Formatting::Value => 1,
-        _ => 0,
-    }
-}
-
 /// The number of `%0d` in a string; None where it has another `%` than that and `%%`, or a backslash with another
 /// byte than `n`, `t`, `\` and `"`.
 pub fn values_in(text: &[u8]) -> Option<usize>
@@ -63,7 +52,9 @@ pub fn values_in(text: &[u8]) -> Option<usize>
     let mut values = 0;
     for byte in text {
         at = next(at, *byte);
-        values += count_at(at);
+        if matches!(at, Formatting::Value) {
+            values += 1;
+        }
     }
     match at {
         Formatting::Between | Formatting::Value => Some(values),

@@ -1,10 +1,9 @@
 // What instances see of the modules that stand earlier.
 
-ghost use Rattle.std.specs.Prelude.{◌≡◌, ◌∷◌, ◌++◌, [], None, OnOk, IfOk, map};
+ghost use Rattle.std.specs.Prelude.{◌≡◌, ◌∷◌, ◌++◌, [], None, OnOk, IfOk};
 ghost use Rattle.std.specs.Option.{option_copied};
 ghost use Rattle.verilog_tree.specs.Facts.{interface_named};
 ghost use Rattle.verilog_tree.specs.Rules.{port_named};
-ghost use Rattle.net_rules.specs.Tables as table;
 
 use indexmap::IndexMap;
 use std::alloc::{AllocError, Global};
@@ -30,30 +29,19 @@ impl<'t> Model for Ports<'t> {
     ghost invariant = { λ p. map plain_port p.named.entries ≡ table_of p.list.now };
 }
 
-/// Adds each port, unless its name is there.
-fn add_ports<'t>(
-    named: &mut IndexMap<&'t [u8], &'t Port>,
-    ports: &'t [Port],
-) -> Result<(), AllocError>
-    ensures { OnOk result (map table.plain_port named.new.entries ≡ table.with_ports (map table.plain_port named.old.entries) ports.now) }
-{
-    for port in ports {
-        let name = port.name.as_str().as_bytes();
-        if named.get(&name).is_some() {
-            continue;
-        }
-        named.insert(name, port)?;
-    }
-    Ok(())
-}
-
 impl<'t> Ports<'t> {
-    /// The table of these ports.
+    /// The table of these ports: of each name the first.
     pub fn new(alloc: Global, list: &'t [Port]) -> Result<Ports<'t>, AllocError>
         ensures { IfOk result (λ p. p ≡ list.now) }
     {
         let mut named = IndexMap::new(alloc);
-        add_ports(&mut named, list)?;
+        for port in list {
+            let name = port.name.as_str().as_bytes();
+            if named.get(&name).is_some() {
+                continue;
+            }
+            named.insert(name, port)?;
+        }
         Ok(Ports { list, named })
     }
 

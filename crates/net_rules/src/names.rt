@@ -45,11 +45,7 @@ impl<'t> NameSet<'t> {
         ensures new { IfOk result (λ b. b ≡ not (is_known self.old name.now)) }
         ensures names { OnOk result (self.new ≡ with_name self.old name.now) }
     {
-        if self.contains(name) {
-            return Ok(false);
-        }
-        self.names.insert(name.as_str().as_bytes())?;
-        Ok(true)
+        Ok(self.names.insert(name.as_str().as_bytes())?)
     }
 }
 
@@ -88,11 +84,7 @@ impl<'t> PlaceSet<'t> {
         ensures new { IfOk result (λ b. b ≡ not (is_place self.old (name.now, word))) }
         ensures places { OnOk result (self.new ≡ with_place self.old (name.now, word)) }
     {
-        if self.contains(name, word) {
-            return Ok(false);
-        }
-        self.places.insert((name.as_str().as_bytes(), word))?;
-        Ok(true)
+        Ok(self.places.insert((name.as_str().as_bytes(), word))?)
     }
 }
 

@@ -10,7 +10,7 @@ use Rattle.verilog_tree.specs.Scope.{Name}
 use Rattle.net_rules.specs.Tables.{plain_port, is_named, with_port}
 use Rattle.net_rules.proofs.Tables.{new-entry}
 use Rattle.net_rules.proofs.PortTables.{lookup-ports, some_copied}
-use Rattle.net_rules.proofs.interfaces.add_ports.Goals as goal
+use Rattle.net_rules.proofs.interfaces.Ports.new.Goals as goal
 
 pub loop-port-preserved-then-is_some : goal.loop-port-preserved-then-is_some
 loop-port-preserved-then-is_some c =
