@@ -27,25 +27,21 @@ fn wire(cursor: &mut Cursor<'_>) -> Result<Item, Fault>
     Ok(Item::Wire(Wire { high, name }))
 }
 
-#[tactic(auto, unfolding(verilog_rules::specs::Reading::read_memory_end))]
-fn memory_end(cursor: &mut Cursor<'_>, high: u64, name: Identifier) -> Result<Item, Fault>
-    ensures { Steps (spec.read_memory_end high name cursor.old) result cursor.new }
-{
-    cursor.mark(Mark::OpenSquare)?;
-    cursor.expect(Sign::Zero)?;
-    cursor.mark(Mark::Colon)?;
-    let last = cursor.number()?;
-    cursor.mark(Mark::CloseSquare)?;
-    cursor.mark(Mark::Semicolon)?;
-    Ok(Item::Memory(Memory { high, name, last }))
-}
-
-#[tactic(auto, unfolding(verilog_rules::specs::Reading::read_stored_end, verilog_rules::specs::Reading::read_register_end))]
+/// What stands behind the name of a register or of a memory.
+#[tactic(auto, unfolding(verilog_rules::specs::Reading::read_stored_end, verilog_rules::specs::Reading::read_memory_end, verilog_rules::specs::Reading::read_register_end))]
 fn stored_end(cursor: &mut Cursor<'_>, high: Option<u64>, name: Identifier) -> Result<Item, Fault>
     ensures { Steps (spec.read_stored_end high name cursor.old) result cursor.new }
 {
     match high {
-        Some(bits) if cursor.sees_mark(Mark::OpenSquare) => memory_end(cursor, bits, name),
+        Some(high) if cursor.sees_mark(Mark::OpenSquare) => {
+            cursor.mark(Mark::OpenSquare)?;
+            cursor.expect(Sign::Zero)?;
+            cursor.mark(Mark::Colon)?;
+            let last = cursor.number()?;
+            cursor.mark(Mark::CloseSquare)?;
+            cursor.mark(Mark::Semicolon)?;
+            Ok(Item::Memory(Memory { high, name, last }))
+        }
         _ => {
             cursor.mark(Mark::Semicolon)?;
             Ok(Item::Register(Register { high, name }))
@@ -157,14 +153,6 @@ fn connection(cursor: &mut Cursor<'_>) -> Result<Connection, Fault>
     Ok(Connection { port, signal })
 }
 
-#[tactic(auto, unfolding(verilog_rules::specs::Reading::read_next))]
-fn next_connection(cursor: &mut Cursor<'_>) -> Result<Connection, Fault>
-    ensures { Steps (spec.read_next spec.read_connection cursor.old) result cursor.new }
-{
-    cursor.mark(Mark::Comma)?;
-    connection(cursor)
-}
-
 /// The connections behind the first one.
 fn more_connections(
     alloc: Global,
@@ -179,7 +167,8 @@ fn more_connections(
         if !cursor.sees_mark(Mark::Comma) {
             return Ok(found);
         }
-        found.push(next_connection(cursor)?)?;
+        cursor.mark(Mark::Comma)?;
+        found.push(connection(cursor)?)?;
     }
     Ok(found)
 }

@@ -9,7 +9,6 @@ use sqlite_items::Items;
 use std::alloc::Global;
 use verilog_expressions::cursor::Cursor;
 use verilog_expressions::expressions::optional_range;
-use verilog_tree::name::Identifier;
 use verilog_tree::token::{Mark, Word};
 use verilog_tree::tree::{Item, Module, Net, Port};
 
@@ -28,14 +27,6 @@ fn port(cursor: &mut Cursor<'_>) -> Result<Port, Fault>
     })
 }
 
-#[tactic(auto, unfolding(verilog_rules::specs::Reading::read_next))]
-fn next_port(cursor: &mut Cursor<'_>) -> Result<Port, Fault>
-    ensures { Steps (spec.read_next spec.read_port cursor.old) result cursor.new }
-{
-    cursor.mark(Mark::Comma)?;
-    port(cursor)
-}
-
 /// The ports behind the first one.
 fn more_ports(alloc: Global, cursor: &mut Cursor<'_>, first: Port) -> Result<Items<Port>, Fault>
     ensures { Steps (spec.read_more spec.read_port first cursor.old) result cursor.new }
@@ -46,24 +37,10 @@ fn more_ports(alloc: Global, cursor: &mut Cursor<'_>, first: Port) -> Result<Ite
         if !cursor.sees_mark(Mark::Comma) {
             return Ok(found);
         }
-        found.push(next_port(cursor)?)?;
+        cursor.mark(Mark::Comma)?;
+        found.push(port(cursor)?)?;
     }
     Ok(found)
-}
-
-/// The name and the ports of a module.
-#[tactic(auto, unfolding(verilog_rules::specs::Reading::read_module_head, verilog_rules::specs::Reading::read_listed))]
-fn module_head(alloc: Global, cursor: &mut Cursor<'_>) -> Result<(Identifier, Items<Port>), Fault>
-    ensures { Steps (spec.read_module_head cursor.old) result cursor.new }
-{
-    cursor.word(Word::Module)?;
-    let name = cursor.name()?;
-    cursor.mark(Mark::OpenRound)?;
-    let first = port(cursor)?;
-    let ports = more_ports(alloc, cursor, first)?;
-    cursor.mark(Mark::CloseRound)?;
-    cursor.mark(Mark::Semicolon)?;
-    Ok((name, ports))
 }
 
 fn items(alloc: Global, cursor: &mut Cursor<'_>, room: usize) -> Result<Items<Item>, Fault>
@@ -79,11 +56,17 @@ fn items(alloc: Global, cursor: &mut Cursor<'_>, room: usize) -> Result<Items<It
     Ok(found)
 }
 
-#[tactic(auto, unfolding(verilog_rules::specs::Reading::read_module))]
+#[tactic(auto, unfolding(verilog_rules::specs::Reading::read_module, verilog_rules::specs::Reading::read_module_head, verilog_rules::specs::Reading::read_listed))]
 fn module(alloc: Global, cursor: &mut Cursor<'_>, room: usize) -> Result<Module, Fault>
     ensures { Steps (spec.read_module (spec.read_statement room) cursor.old) result cursor.new }
 {
-    let (name, ports) = module_head(alloc, cursor)?;
+    cursor.word(Word::Module)?;
+    let name = cursor.name()?;
+    cursor.mark(Mark::OpenRound)?;
+    let first = port(cursor)?;
+    let ports = more_ports(alloc, cursor, first)?;
+    cursor.mark(Mark::CloseRound)?;
+    cursor.mark(Mark::Semicolon)?;
     let items = items(alloc, cursor, room)?;
     cursor.word(Word::EndModule)?;
     Ok(Module { name, ports, items })

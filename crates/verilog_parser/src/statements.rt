@@ -53,14 +53,6 @@ fn argument(cursor: &mut Cursor<'_>) -> Result<WriteArgument, Fault>
     }
 }
 
-#[tactic(auto, unfolding(verilog_rules::specs::Reading::read_next))]
-fn next_argument(cursor: &mut Cursor<'_>) -> Result<WriteArgument, Fault>
-    ensures { Steps (spec.read_next spec.read_argument cursor.old) result cursor.new }
-{
-    cursor.mark(Mark::Comma)?;
-    argument(cursor)
-}
-
 fn arguments(alloc: Global, cursor: &mut Cursor<'_>) -> Result<Items<WriteArgument>, Fault>
     ensures { Steps (spec.read_arguments cursor.old) result cursor.new }
 {
@@ -69,7 +61,8 @@ fn arguments(alloc: Global, cursor: &mut Cursor<'_>) -> Result<Items<WriteArgume
         if !cursor.sees_mark(Mark::Comma) {
             return Ok(found);
         }
-        found.push(next_argument(cursor)?)?;
+        cursor.mark(Mark::Comma)?;
+        found.push(argument(cursor)?)?;
     }
     Ok(found)
 }
@@ -103,18 +96,8 @@ fn branch(alloc: Global, cursor: &mut Cursor<'_>, room: usize) -> Result<Stateme
     Ok(Statement::If { condition, body })
 }
 
-#[tactic(auto, unfolding(verilog_rules::specs::Reading::read_plain))]
-fn plain(alloc: Global, cursor: &mut Cursor<'_>) -> Result<Statement, Fault>
-    ensures { Steps (spec.read_plain cursor.old) result cursor.new }
-{
-    if cursor.sees_name() {
-        written(cursor)
-    } else {
-        write(alloc, cursor)
-    }
-}
-
 #[cycle(statements)]
+#[tactic(auto, unfolding(verilog_rules::specs::Reading::read_plain))]
 fn statement(alloc: Global, cursor: &mut Cursor<'_>, room: usize) -> Result<Statement, Fault>
     ensures { Steps (spec.read_statement room cursor.old) result cursor.new }
 {
@@ -123,8 +106,10 @@ fn statement(alloc: Global, cursor: &mut Cursor<'_>, room: usize) -> Result<Stat
     }
     if cursor.sees_word(Word::If) {
         branch(alloc, cursor, room - 1)
+    } else if cursor.sees_name() {
+        written(cursor)
     } else {
-        plain(alloc, cursor)
+        write(alloc, cursor)
     }
 }
 

@@ -1,4 +1,4 @@
-use Rattle.std.proofs.Common.{rules, arith}
+use Rattle.std.proofs.Common.{arith}
 use Rattle.std.proofs.lemmas.Grind.{common_steps}
 use Rattle.grammar.specs.Readers.{reads_while, sees, appended}
 use Rattle.verilog_tree.specs.declared.token.Mark.TheVariants.{Comma}
@@ -10,32 +10,39 @@ use Rattle.verilog_parser.proofs.modules.more_ports.Goals as goal
 
 pub loop-turn-init : goal.loop-turn-init
 unfolding read_more
-loop-turn-init c = first_of (search rules, grind (arith, common_steps))
+loop-turn-init c = grind (arith, common_steps)
 
 pub returns : goal.returns
 unfolding reads_while
 returns c =
     let e = no_more (λ n. reads_while (sees (is (Mark Comma))) appended (read_next read_port) n c.loop-turn.found c.loop-turn.cursor) _ c.loop-turn._turn
     c.loop-turn-test.false c.loop-turn.invariant in
-    first_of (search rules, grind (arith, common_steps))
+    grind (arith, common_steps)
 
 pub returns-then-not-sees_mark : goal.returns-then-not-sees_mark
 unfolding reads_while
 returns-then-not-sees_mark c =
     let e = one_more (λ n. reads_while (sees (is (Mark Comma))) appended (read_next read_port) n c.loop-turn.found c.loop-turn.cursor) _ c.loop-turn._turn
     c.loop-turn-test.true c.loop-turn.invariant in
-    first_of (search rules, grind (arith, common_steps))
+    grind (arith, common_steps)
 
-pub returns-in_err-next_port : goal.returns-in_err-next_port
-unfolding reads_while
-returns-in_err-next_port c =
+pub returns-in_err-mark : goal.returns-in_err-mark
+unfolding reads_while read_next
+returns-in_err-mark c =
     let e = one_more (λ n. reads_while (sees (is (Mark Comma))) appended (read_next read_port) n c.loop-turn.found c.loop-turn.cursor) _ c.loop-turn._turn
     c.loop-turn-test.true c.loop-turn.invariant in
-    first_of (search rules, grind (arith, common_steps))
+    grind (arith, common_steps)
+
+pub returns-in_err-port : goal.returns-in_err-port
+unfolding reads_while read_next
+returns-in_err-port c =
+    let e = one_more (λ n. reads_while (sees (is (Mark Comma))) appended (read_next read_port) n c.loop-turn.found c.loop-turn.cursor) _ c.loop-turn._turn
+    c.loop-turn-test.true c.loop-turn.invariant in
+    grind (arith, common_steps)
 
 pub loop-turn-preserved : goal.loop-turn-preserved
-unfolding reads_while
+unfolding reads_while read_next
 loop-turn-preserved c =
     let e = one_more (λ n. reads_while (sees (is (Mark Comma))) appended (read_next read_port) n c.loop-turn.found c.loop-turn.cursor) _ c.loop-turn._turn
     c.loop-turn-test.true c.loop-turn.invariant in
-    first_of (search rules, grind (arith, common_steps))
+    grind (arith, common_steps)
