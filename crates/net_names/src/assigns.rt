@@ -1,6 +1,6 @@
 // The assigns of a module, found by their targets.
 
-ghost use Rattle.std.specs.Prelude.{◌≡◌, option_map, option_copied, IfOk};
+ghost use Rattle.std.specs.Prelude.{◌≡◌, option_copied, IfOk};
 ghost use Rattle.std.specs.List.{flat_map};
 ghost use Rattle.netlist.specs.NetlistOf as spec;
 
@@ -31,15 +31,6 @@ impl<'n> Model for Assigns<'n> {
     ghost invariant = { λ a. a.targets ≡ targets_of (behind a.list) };
 }
 
-fn value_of<'n>(assign: Option<&'n Assign>) -> Option<&'n Expression>
-    ensures { option_copied result ≡ option_map (λ a. a.value) (option_copied assign.entry) }
-{
-    match assign {
-        Some(assign) => Some(&assign.value),
-        None => None,
-    }
-}
-
 impl<'n> Assigns<'n> {
     /// The assigns among these items.
     pub fn of(alloc: Global, items: &'n [Item]) -> Result<Assigns<'n>, AllocError>
@@ -62,6 +53,9 @@ impl<'n> Assigns<'n> {
         ensures { option_copied result ≡ spec.assigned self.now name.now }
     {
         let at = self.targets.of_name(name);
-        value_of(self.list.get(at).copied())
+        match self.list.get(at).copied() {
+            Some(assign) => Some(&assign.value),
+            None => None,
+        }
     }
 }

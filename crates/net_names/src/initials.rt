@@ -48,21 +48,6 @@ fn add_constants<'n>(
     Ok(())
 }
 
-fn all_constants<'n>(
-    alloc: Global,
-    items: &'n [Item],
-) -> Result<Items<&'n InitialConstant>, AllocError>
-    ensures { IfOk result (λ list. behind list ≡ flat_map spec.initial_constants items.now) }
-{
-    let mut list = Items::new(alloc);
-    for item in items {
-        if let Item::Initial(initial) = item {
-            add_constants(&mut list, initial.constants.as_slice())?;
-        }
-    }
-    Ok(list)
-}
-
 /// The number of each place, put in from the last constant to the first, so that the first of a place stays.
 fn numbered<'n>(alloc: Global, list: &[&'n InitialConstant]) -> Result<Words<'n>, AllocError>
     ensures { IfOk result (λ words. AreConstants words.entries (behind list.now)) }
@@ -81,7 +66,12 @@ impl<'n> Initials<'n> {
     pub fn of(alloc: Global, items: &'n [Item]) -> Result<Initials<'n>, AllocError>
         ensures { IfOk result (λ c. c ≡ flat_map spec.initial_constants items.now) }
     {
-        let list = all_constants(alloc, items)?;
+        let mut list = Items::new(alloc);
+        for item in items {
+            if let Item::Initial(initial) = item {
+                add_constants(&mut list, initial.constants.as_slice())?;
+            }
+        }
         let words = numbered(alloc, list.as_slice())?;
         Ok(Initials { list, words })
     }

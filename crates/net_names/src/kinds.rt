@@ -1,6 +1,6 @@
 // The modules of a net, found by their names.
 
-ghost use Rattle.std.specs.Prelude.{◌≡◌, ◌≤◌, true, take, unwrap_or, option_map, slice_get, IfOk, length};
+ghost use Rattle.std.specs.Prelude.{◌≡◌, ◌≤◌, true, take, IfOk, length};
 ghost use Rattle.netlist.specs.NetlistOf as spec;
 ghost use Rattle.net_names.specs.Names as declared;
 ghost use Rattle.net_names.specs.Kinds.{IsKind};
@@ -57,24 +57,18 @@ fn input_count(ports: &[Port]) -> usize
     count
 }
 
-fn signal_count(items: &[Item]) -> usize
-    ensures { result ≡ length (declared.item_names items.now) }
-{
-    let mut count = 0;
-    for item in items {
-        if matches!(item, Item::Wire(_) | Item::Register(_)) {
-            count += 1;
-        }
-    }
-    count
-}
-
+/// How many signals stand before the outputs of a module: its inputs, wires and registers.
 fn first_output(module: &Module) -> Result<usize, AllocError>
     ensures { IfOk result (λ first. first ≡ declared.first_output module.now) }
 {
-    let inputs = input_count(module.ports.as_slice());
-    let signals = signal_count(module.items.as_slice());
-    inputs.checked_add(signals).ok_or(AllocError)
+    let mut count = input_count(module.ports.as_slice());
+    let items = module.items.as_slice();
+    for item in items {
+        if matches!(item, Item::Wire(_) | Item::Register(_)) {
+            count = count.checked_add(1).ok_or(AllocError)?;
+        }
+    }
+    Ok(count)
 }
 
 impl<'n> Kinds<'n> {
@@ -105,13 +99,6 @@ impl<'n> Kinds<'n> {
         self.names.of_name(name).min(before)
     }
 
-    /// How many signals stand before the outputs of the module at a place.
-    fn first_output(&self, place: usize) -> usize
-        ensures { result ≡ unwrap_or (option_map declared.first_output (slice_get self.now place)) 0 }
-    {
-        self.first_outputs.get(place).copied().unwrap_or(0)
-    }
-
     /// The first module of a name among those before one.
     pub fn get(&self, before: usize, name: &Identifier) -> Option<Kind<'n>>
         requires { before ≤ length self.now }
@@ -124,7 +111,7 @@ impl<'n> Kinds<'n> {
         match at(self.modules, place) {
             Some(module) => Some(Kind {
                 module,
-                first_output: self.first_output(place),
+                first_output: self.first_outputs.get(place).copied().unwrap_or(0),
             }),
             None => None,
         }

@@ -74,8 +74,8 @@ impl<'n> Tables<'n> {
         ensures { IfOk result (AreTables kinds.now before module.now) }
     {
         let names = Names::of(alloc, module)?;
-        let drivers = Drivers::of(alloc, kinds, before, module)?;
         let initials = Initials::of(alloc, module.items.as_slice())?;
+        let drivers = Drivers::of(alloc, kinds, before, module)?;
         Ok(Tables {
             names,
             drivers,

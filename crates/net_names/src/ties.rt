@@ -3,7 +3,6 @@
 ghost use Rattle.std.specs.Prelude.{◌≡◌, ◌≤◌, ◌++◌, length, OnOk, IfOk};
 ghost use Rattle.std.specs.List.{flat_map};
 ghost use Rattle.netlist.specs.NetlistOf as spec;
-ghost use Rattle.net_names.specs.Found.{behind};
 ghost use Rattle.net_names.specs.Ties as tied;
 
 use crate::connections::Connections;
@@ -90,30 +89,23 @@ fn add_instance<'n>(
     }
 }
 
-fn instances_of<'n>(alloc: Global, items: &'n [Item]) -> Result<Items<&'n Instance>, AllocError>
-    ensures { IfOk result (λ list. behind list ≡ flat_map (λ x. spec.some (spec.instance_item x)) items.now) }
-{
-    let mut instances = Items::new(alloc);
-    for item in items {
-        if let Item::Instance(instance) = item {
-            instances.push(instance)?;
-        }
-    }
-    Ok(instances)
-}
-
+/// What is tied to the outputs of the instances among these items, of which the first has number 0.
 fn all_ties<'n>(
     alloc: Global,
     kinds: &Kinds<'n>,
     before: usize,
-    instances: &[&'n Instance],
+    items: &'n [Item],
 ) -> Result<Items<Tie<'n>>, AllocError>
     requires { before ≤ length kinds.now }
-    ensures { IfOk result (λ ties. tied.ties_of ties ≡ tied.all_ties kinds.now before (behind instances.now) 0) }
+    ensures { IfOk result (λ ties. tied.ties_of ties ≡ tied.all_ties kinds.now before (flat_map (λ x. spec.some (spec.instance_item x)) items.now) 0) }
 {
     let mut ties = Items::new(alloc);
-    for number in 0..instances.len() {
-        add_instance(alloc, kinds, before, &mut ties, number, instances[number])?;
+    let mut number = 0;
+    for item in items {
+        if let Item::Instance(instance) = item {
+            add_instance(alloc, kinds, before, &mut ties, number, instance)?;
+            number += 1;
+        }
     }
     Ok(ties)
 }
@@ -129,8 +121,7 @@ impl<'n> Ties<'n> {
         requires { before ≤ length kinds.now }
         ensures { IfOk result (λ t. t ≡ tied.all_ties kinds.now before (flat_map (λ x. spec.some (spec.instance_item x)) items.now) 0) }
     {
-        let instances = instances_of(alloc, items)?;
-        let list = all_ties(alloc, kinds, before, instances.as_slice())?;
+        let list = all_ties(alloc, kinds, before, items)?;
         let mut names = Items::new(alloc);
         let ties = list.as_slice();
         for tie in ties {

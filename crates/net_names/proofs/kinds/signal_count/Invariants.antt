@@ -1,6 +1,0 @@
-use Rattle.std.proofs.Common.{◌≡◌, ◌≤◌, ◌+◌, length, drop}
-use Rattle.net_names.specs.Names.{item_names}
-use Rattle.net_names.proofs.kinds.signal_count.Given as goal
-
-abbrev pub invariant-loop-item : goal.invariant-loop-item
-invariant-loop-item l = (l.count ≤ l.item-index) × (l.count + length (item_names (drop l.item-index l.items)) ≡ length (item_names l.items))
