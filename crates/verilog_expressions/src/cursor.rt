@@ -1,8 +1,8 @@
 // A cursor over tokens.
 
-ghost use Rattle.std.specs.Prelude.{List, ◌≡◌, length};
+ghost use Rattle.std.specs.Prelude.{List, ◌≡◌, length, drop, Ok, Err, if◌then◌else◌};
 ghost use Rattle.verilog_tree.specs.declared.token.Token.{Token};
-ghost use Rattle.grammar.specs.Readers.{sees};
+ghost use Rattle.grammar.specs.Readers.{sees, Syntax};
 ghost use Rattle.grammar.specs.Steps.{Steps};
 ghost use Rattle.verilog_rules.specs.Reading as spec;
 ghost use Rattle.verilog_rules.specs.Signs as signs;
@@ -212,6 +212,22 @@ impl<'a> Cursor<'a> {
         self.expect(Sign::Mark(mark))
     }
 
+    /// Takes the mark where it is next, and says whether it is.
+    #[tactic(auto, unfolding(verilog_rules::specs::Reading::expect))]
+    pub fn takes_mark(&mut self, mark: Mark) -> bool
+        ensures sees { result ≡ sees (signs.is (Sign.Mark mark)) self.old }
+        ensures read { spec.expect (Sign.Mark mark) self.old ≡ (if result then Ok (tt, self.new) else Err (Syntax self.old)) }
+        ensures rest { self.new ≡ (if result then drop 1 self.old else self.old) }
+    {
+        match self.rest {
+            [token, rest @ ..] if is(Sign::Mark(mark), token) => {
+                self.rest = rest;
+                true
+            }
+            _ => false,
+        }
+    }
+
     /// Takes the keyword. `Syntax` where another token is next.
     pub fn word(&mut self, word: Word) -> Result<(), Fault>
         ensures { Steps (spec.expect (Sign.Word word) self.old) result self.new }
@@ -224,14 +240,13 @@ impl<'a> Cursor<'a> {
     pub fn name(&mut self) -> Result<Identifier, Fault>
         ensures { Steps (spec.read_name self.old) result self.new }
     {
-        let [token, rest @ ..] = self.rest else {
-            return Err(Fault::Syntax);
-        };
-        let Token::Name(name) = token else {
-            return Err(Fault::Syntax);
-        };
-        self.rest = rest;
-        Ok(name.clone()?)
+        match self.rest {
+            [Token::Name(name), rest @ ..] => {
+                self.rest = rest;
+                Ok(name.clone()?)
+            }
+            _ => Err(Fault::Syntax),
+        }
     }
 
     /// Takes a number. `Syntax` where another token is next.
@@ -239,14 +254,13 @@ impl<'a> Cursor<'a> {
     pub fn number(&mut self) -> Result<u64, Fault>
         ensures { Steps (spec.read_number self.old) result self.new }
     {
-        let [token, rest @ ..] = self.rest else {
-            return Err(Fault::Syntax);
-        };
-        let Token::Number(number) = token else {
-            return Err(Fault::Syntax);
-        };
-        self.rest = rest;
-        Ok(*number)
+        match self.rest {
+            [Token::Number(number), rest @ ..] => {
+                self.rest = rest;
+                Ok(*number)
+            }
+            _ => Err(Fault::Syntax),
+        }
     }
 
     /// Takes a string. `Syntax` where another token is next.
@@ -254,14 +268,13 @@ impl<'a> Cursor<'a> {
     pub fn quoted(&mut self) -> Result<Quoted, Fault>
         ensures { Steps (spec.read_quoted self.old) result self.new }
     {
-        let [token, rest @ ..] = self.rest else {
-            return Err(Fault::Syntax);
-        };
-        let Token::Quoted(text) = token else {
-            return Err(Fault::Syntax);
-        };
-        self.rest = rest;
-        Ok(text.clone()?)
+        match self.rest {
+            [Token::Quoted(text), rest @ ..] => {
+                self.rest = rest;
+                Ok(text.clone()?)
+            }
+            _ => Err(Fault::Syntax),
+        }
     }
 
     /// Takes a binary operator other than those of division. `Syntax` where another token is next.

@@ -17,10 +17,9 @@ use verilog_tree::tree::{Constant, Expression};
 pub fn optional_range(cursor: &mut Cursor<'_>) -> Result<Option<u64>, Fault>
     ensures { Steps (spec.read_optional_range cursor.old) result cursor.new }
 {
-    if !cursor.sees_mark(Mark::OpenSquare) {
+    if !cursor.takes_mark(Mark::OpenSquare) {
         return Ok(None);
     }
-    cursor.mark(Mark::OpenSquare)?;
     let high = cursor.number()?;
     cursor.mark(Mark::Colon)?;
     cursor.expect(Sign::Zero)?;
@@ -57,8 +56,7 @@ fn select(cursor: &mut Cursor<'_>, of: Identifier) -> Result<Expression, Fault>
 {
     cursor.mark(Mark::OpenSquare)?;
     let high = cursor.number()?;
-    if cursor.sees_mark(Mark::CloseSquare) {
-        cursor.mark(Mark::CloseSquare)?;
+    if cursor.takes_mark(Mark::CloseSquare) {
         return Ok(Expression::BitSelect { of, bit: high });
     }
     cursor.mark(Mark::Colon)?;
@@ -80,8 +78,7 @@ fn named(cursor: &mut Cursor<'_>) -> Result<Expression, Fault>
             left: name,
             right,
         })
-    } else if cursor.sees_mark(Mark::Question) {
-        cursor.mark(Mark::Question)?;
+    } else if cursor.takes_mark(Mark::Question) {
         let if_true = cursor.name()?;
         cursor.mark(Mark::Colon)?;
         let if_false = cursor.name()?;
@@ -102,8 +99,7 @@ fn of_signed(cursor: &mut Cursor<'_>) -> Result<Expression, Fault>
     ensures { Steps (spec.read_of_signed cursor.old) result cursor.new }
 {
     let left = signed(cursor)?;
-    if cursor.sees_mark(Mark::Less) {
-        cursor.mark(Mark::Less)?;
+    if cursor.takes_mark(Mark::Less) {
         let right = signed(cursor)?;
         return Ok(Expression::SignedLess { left, right });
     }
@@ -234,10 +230,9 @@ fn more_names(
     let mut found = Items::new(alloc);
     found.push(first)?;
     for _turn in 0..cursor.left() {
-        if !cursor.sees_mark(Mark::Comma) {
+        if !cursor.takes_mark(Mark::Comma) {
             return Ok(found);
         }
-        cursor.mark(Mark::Comma)?;
         found.push(cursor.name()?)?;
     }
     Ok(found)
@@ -272,8 +267,7 @@ pub fn expression(alloc: Global, cursor: &mut Cursor<'_>) -> Result<Expression, 
     } else if cursor.sees_number() {
         let constant = constant(cursor)?;
         Ok(Expression::Constant(constant))
-    } else if cursor.sees_mark(Mark::Tilde) {
-        cursor.mark(Mark::Tilde)?;
+    } else if cursor.takes_mark(Mark::Tilde) {
         let of = cursor.name()?;
         Ok(Expression::BitwiseNot(of))
     } else if cursor.sees_mark(Mark::Signed) {

@@ -19,16 +19,9 @@ returns c =
     c.loop-turn-test.false c.loop-turn.invariant in
     grind (arith, common_steps)
 
-pub returns-then-not-sees_mark : goal.returns-then-not-sees_mark
+pub returns-then-not-takes_mark : goal.returns-then-not-takes_mark
 unfolding reads_while
-returns-then-not-sees_mark c =
-    let e = one_more (λ n. reads_while (sees (is (Mark Comma))) appended (read_next read_name) n c.loop-turn.found c.loop-turn.cursor) _ c.loop-turn._turn
-    c.loop-turn-test.true c.loop-turn.invariant in
-    grind (arith, common_steps)
-
-pub returns-in_err-mark : goal.returns-in_err-mark
-unfolding reads_while read_next
-returns-in_err-mark c =
+returns-then-not-takes_mark c =
     let e = one_more (λ n. reads_while (sees (is (Mark Comma))) appended (read_next read_name) n c.loop-turn.found c.loop-turn.cursor) _ c.loop-turn._turn
     c.loop-turn-test.true c.loop-turn.invariant in
     grind (arith, common_steps)
