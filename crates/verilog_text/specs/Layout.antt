@@ -11,6 +11,9 @@ use Rattle.verilog_text.specs.declared.text.Ending.{Ending}
 use Rattle.verilog_text.specs.declared.text.Ending.TheVariants.{Start, Line, Open, Plain, Apart}
 use Rattle.verilog_text.specs.declared.text.Layout.{Layout}
 use Rattle.verilog_text.specs.declared.text.Text.{Text}
+use Rattle.verilog_text.specs.declared.text.Piece.{Piece}
+use Rattle.verilog_text.specs.declared.text.Piece.TheVariants as p
+use Rattle.verilog_tree.specs.Grammar as g
 
 abbrev pub layout : Bool → Bool → Bool → Ending → Layout
 layout hugs outdents indents ending = record { hugs = hugs; outdents = outdents; indents = indents; ending = ending }
@@ -114,3 +117,15 @@ laid e d inside (x ∷ xs) =
 abbrev pub AllTokens : List Token → Type 0
 AllTokens [] = Unit {0}
 AllTokens (x ∷ xs) = (is_token x ≡ true) × AllTokens xs
+
+-- the tokens of the pieces that a phrase is made of
+abbrev pub piece_tokens : Piece → List Token
+piece_tokens (p.Word w) = g.word w
+piece_tokens (p.Mark m) = g.mark m
+piece_tokens (p.Name n) = g.name n.now
+piece_tokens (p.Number n) = g.number n
+piece_tokens (p.Quoted q) = t.Quoted q.now ∷ []
+piece_tokens p.Clock = g.name g.clk
+
+abbrev pub phrase : List Piece → List Token
+phrase pieces = g.all piece_tokens pieces

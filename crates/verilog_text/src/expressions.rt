@@ -5,27 +5,22 @@ ghost use Rattle.verilog_tree.specs.Grammar as g;
 ghost use Rattle.verilog_tree.specs.declared.token.Mark.TheVariants as m;
 ghost use Rattle.verilog_text.specs.Layout.{put_all, AllTokens};
 
-use crate::text::Text;
+use crate::text::{Piece, Text};
 use std::alloc::AllocError;
 use verilog_tree::name::Identifier;
 use verilog_tree::token::Mark;
 use verilog_tree::tree::{BinaryOperator, Constant, DivisionOperator, Expression};
 
-/// `width'd value`, or with another mark between them.
-fn sized(out: &mut Text, constant: Constant, base: Mark) -> Result<(), AllocError>
-    ensures text { OnOk result (out.new ≡ put_all out.old (g.number constant.width ++ g.mark base ++ g.number constant.value)) }
-    ensures tokens { OnOk result (AllTokens (g.number constant.width ++ g.mark base ++ g.number constant.value)) }
-{
-    out.number(constant.width)?;
-    out.mark(base)?;
-    out.number(constant.value)
-}
-
+/// `width'd value`
 pub fn constant(out: &mut Text, constant: Constant) -> Result<(), AllocError>
     ensures text { OnOk result (out.new ≡ put_all out.old (g.constant constant)) }
     ensures tokens { OnOk result (AllTokens (g.constant constant)) }
 {
-    sized(out, constant, Mark::Decimal)
+    out.phrase(&[
+        Piece::Number(constant.width),
+        Piece::Mark(Mark::Decimal),
+        Piece::Number(constant.value),
+    ])
 }
 
 /// `$signed(name)`
@@ -33,10 +28,12 @@ pub fn signed(out: &mut Text, name: &Identifier) -> Result<(), AllocError>
     ensures text { OnOk result (out.new ≡ put_all out.old (g.signed name.now)) }
     ensures tokens { OnOk result (AllTokens (g.signed name.now)) }
 {
-    out.mark(Mark::Signed)?;
-    out.mark(Mark::OpenRound)?;
-    out.name(name)?;
-    out.mark(Mark::CloseRound)
+    out.phrase(&[
+        Piece::Mark(Mark::Signed),
+        Piece::Mark(Mark::OpenRound),
+        Piece::Name(name),
+        Piece::Mark(Mark::CloseRound),
+    ])
 }
 
 fn operator_mark(operator: BinaryOperator) -> Mark
@@ -66,129 +63,161 @@ fn division_mark(operator: DivisionOperator) -> Mark
 }
 
 /// `(name by limit) ?`
-#[tactic(auto, using(crate::proofs::Laying::put_all_append, crate::proofs::Laying::all_tokens_append))]
 fn guard(out: &mut Text, name: &Identifier, by: Mark, limit: Constant) -> Result<(), AllocError>
     ensures text { OnOk result (out.new ≡ put_all out.old (g.guard name.now by limit)) }
     ensures tokens { OnOk result (AllTokens (g.guard name.now by limit)) }
 {
-    out.mark(Mark::OpenRound)?;
-    out.name(name)?;
-    out.mark(by)?;
-    constant(out, limit)?;
-    out.mark(Mark::CloseRound)?;
-    out.mark(Mark::Question)
+    out.phrase(&[
+        Piece::Mark(Mark::OpenRound),
+        Piece::Name(name),
+        Piece::Mark(by),
+        Piece::Number(limit.width),
+        Piece::Mark(Mark::Decimal),
+        Piece::Number(limit.value),
+        Piece::Mark(Mark::CloseRound),
+        Piece::Mark(Mark::Question),
+    ])
 }
 
-fn binary(out: &mut Text, left: &Identifier, by: Mark, right: &Identifier) -> Result<(), AllocError>
+fn binary<'p>(
+    out: &mut Text,
+    left: &'p Identifier,
+    by: Mark,
+    right: &'p Identifier,
+) -> Result<(), AllocError>
     ensures text { OnOk result (out.new ≡ put_all out.old (g.name left.now ++ g.mark by ++ g.name right.now)) }
     ensures tokens { OnOk result (AllTokens (g.name left.now ++ g.mark by ++ g.name right.now)) }
 {
-    out.name(left)?;
-    out.mark(by)?;
-    out.name(right)
+    out.phrase(&[Piece::Name(left), Piece::Mark(by), Piece::Name(right)])
 }
 
-fn signed_binary(
+fn signed_binary<'p>(
     out: &mut Text,
-    left: &Identifier,
+    left: &'p Identifier,
     by: Mark,
-    right: &Identifier,
+    right: &'p Identifier,
 ) -> Result<(), AllocError>
     ensures text { OnOk result (out.new ≡ put_all out.old (g.signed left.now ++ g.mark by ++ g.signed right.now)) }
     ensures tokens { OnOk result (AllTokens (g.signed left.now ++ g.mark by ++ g.signed right.now)) }
 {
-    signed(out, left)?;
-    out.mark(by)?;
-    signed(out, right)
+    out.phrase(&[
+        Piece::Mark(Mark::Signed),
+        Piece::Mark(Mark::OpenRound),
+        Piece::Name(left),
+        Piece::Mark(Mark::CloseRound),
+        Piece::Mark(by),
+        Piece::Mark(Mark::Signed),
+        Piece::Mark(Mark::OpenRound),
+        Piece::Name(right),
+        Piece::Mark(Mark::CloseRound),
+    ])
 }
 
-fn conditional(
+fn conditional<'p>(
     out: &mut Text,
-    condition: &Identifier,
-    if_true: &Identifier,
-    if_false: &Identifier,
+    condition: &'p Identifier,
+    if_true: &'p Identifier,
+    if_false: &'p Identifier,
 ) -> Result<(), AllocError>
     ensures text { OnOk result (out.new ≡ put_all out.old (g.name condition.now ++ g.mark m.Question ++ g.name if_true.now ++ g.mark m.Colon ++ g.name if_false.now)) }
     ensures tokens { OnOk result (AllTokens (g.name condition.now ++ g.mark m.Question ++ g.name if_true.now ++ g.mark m.Colon ++ g.name if_false.now)) }
 {
-    out.name(condition)?;
-    out.mark(Mark::Question)?;
-    out.name(if_true)?;
-    out.mark(Mark::Colon)?;
-    out.name(if_false)
+    out.phrase(&[
+        Piece::Name(condition),
+        Piece::Mark(Mark::Question),
+        Piece::Name(if_true),
+        Piece::Mark(Mark::Colon),
+        Piece::Name(if_false),
+    ])
 }
 
 /// What a division is where its divisor is not zero, behind its value where it is.
-#[tactic(auto, using(crate::proofs::Laying::put_all_append, crate::proofs::Laying::all_tokens_append))]
-fn division(
+fn division<'p>(
     out: &mut Text,
     guarded: Constant,
     operator: DivisionOperator,
-    left: &Identifier,
-    right: &Identifier,
+    left: &'p Identifier,
+    right: &'p Identifier,
 ) -> Result<(), AllocError>
     ensures text { OnOk result (out.new ≡ put_all out.old (g.constant guarded ++ g.mark m.Colon ++ g.name left.now ++ g.mark (g.division_mark operator) ++ g.name right.now)) }
     ensures tokens { OnOk result (AllTokens (g.constant guarded ++ g.mark m.Colon ++ g.name left.now ++ g.mark (g.division_mark operator) ++ g.name right.now)) }
 {
-    constant(out, guarded)?;
-    out.mark(Mark::Colon)?;
-    binary(out, left, division_mark(operator), right)
+    out.phrase(&[
+        Piece::Number(guarded.width),
+        Piece::Mark(Mark::Decimal),
+        Piece::Number(guarded.value),
+        Piece::Mark(Mark::Colon),
+        Piece::Name(left),
+        Piece::Mark(division_mark(operator)),
+        Piece::Name(right),
+    ])
 }
 
 #[tactic(auto, using(crate::proofs::Laying::put_all_append, crate::proofs::Laying::all_tokens_append))]
-fn signed_division(
+fn signed_division<'p>(
     out: &mut Text,
     guarded: Constant,
     operator: DivisionOperator,
-    left: &Identifier,
-    right: &Identifier,
+    left: &'p Identifier,
+    right: &'p Identifier,
 ) -> Result<(), AllocError>
     ensures text { OnOk result (out.new ≡ put_all out.old (g.signed_constant guarded ++ g.mark m.Colon ++ g.signed left.now ++ g.mark (g.division_mark operator) ++ g.signed right.now)) }
     ensures tokens { OnOk result (AllTokens (g.signed_constant guarded ++ g.mark m.Colon ++ g.signed left.now ++ g.mark (g.division_mark operator) ++ g.signed right.now)) }
 {
-    sized(out, guarded, Mark::SignedDecimal)?;
-    out.mark(Mark::Colon)?;
+    out.phrase(&[
+        Piece::Number(guarded.width),
+        Piece::Mark(Mark::SignedDecimal),
+        Piece::Number(guarded.value),
+        Piece::Mark(Mark::Colon),
+    ])?;
     signed_binary(out, left, division_mark(operator), right)
 }
 
-#[tactic(auto, using(crate::proofs::Laying::put_all_append, crate::proofs::Laying::all_tokens_append))]
-fn memory_read(
+fn memory_read<'p>(
     out: &mut Text,
-    memory: &Identifier,
-    address: &Identifier,
+    memory: &'p Identifier,
+    address: &'p Identifier,
     guarded: Constant,
 ) -> Result<(), AllocError>
     ensures text { OnOk result (out.new ≡ put_all out.old (g.name memory.now ++ g.mark m.OpenSquare ++ g.name address.now ++ g.mark m.CloseSquare ++ g.mark m.Colon ++ g.constant guarded)) }
     ensures tokens { OnOk result (AllTokens (g.name memory.now ++ g.mark m.OpenSquare ++ g.name address.now ++ g.mark m.CloseSquare ++ g.mark m.Colon ++ g.constant guarded)) }
 {
-    out.name(memory)?;
-    out.mark(Mark::OpenSquare)?;
-    out.name(address)?;
-    out.mark(Mark::CloseSquare)?;
-    out.mark(Mark::Colon)?;
-    constant(out, guarded)
+    out.phrase(&[
+        Piece::Name(memory),
+        Piece::Mark(Mark::OpenSquare),
+        Piece::Name(address),
+        Piece::Mark(Mark::CloseSquare),
+        Piece::Mark(Mark::Colon),
+        Piece::Number(guarded.width),
+        Piece::Mark(Mark::Decimal),
+        Piece::Number(guarded.value),
+    ])
 }
 
 fn bit_select(out: &mut Text, of: &Identifier, bit: u64) -> Result<(), AllocError>
     ensures text { OnOk result (out.new ≡ put_all out.old (g.name of.now ++ g.mark m.OpenSquare ++ g.number bit ++ g.mark m.CloseSquare)) }
     ensures tokens { OnOk result (AllTokens (g.name of.now ++ g.mark m.OpenSquare ++ g.number bit ++ g.mark m.CloseSquare)) }
 {
-    out.name(of)?;
-    out.mark(Mark::OpenSquare)?;
-    out.number(bit)?;
-    out.mark(Mark::CloseSquare)
+    out.phrase(&[
+        Piece::Name(of),
+        Piece::Mark(Mark::OpenSquare),
+        Piece::Number(bit),
+        Piece::Mark(Mark::CloseSquare),
+    ])
 }
 
 fn part_select(out: &mut Text, of: &Identifier, high: u64, low: u64) -> Result<(), AllocError>
     ensures text { OnOk result (out.new ≡ put_all out.old (g.name of.now ++ g.mark m.OpenSquare ++ g.number high ++ g.mark m.Colon ++ g.number low ++ g.mark m.CloseSquare)) }
     ensures tokens { OnOk result (AllTokens (g.name of.now ++ g.mark m.OpenSquare ++ g.number high ++ g.mark m.Colon ++ g.number low ++ g.mark m.CloseSquare)) }
 {
-    out.name(of)?;
-    out.mark(Mark::OpenSquare)?;
-    out.number(high)?;
-    out.mark(Mark::Colon)?;
-    out.number(low)?;
-    out.mark(Mark::CloseSquare)
+    out.phrase(&[
+        Piece::Name(of),
+        Piece::Mark(Mark::OpenSquare),
+        Piece::Number(high),
+        Piece::Mark(Mark::Colon),
+        Piece::Number(low),
+        Piece::Mark(Mark::CloseSquare),
+    ])
 }
 
 #[tactic(auto, using(crate::proofs::Laying::put_all_append, crate::proofs::Laying::all_tokens_append))]
@@ -221,12 +250,14 @@ fn replication(out: &mut Text, count: u64, of: &Identifier) -> Result<(), AllocE
     ensures text { OnOk result (out.new ≡ put_all out.old (g.mark m.OpenCurly ++ g.number count ++ g.mark m.OpenCurly ++ g.name of.now ++ g.mark m.CloseCurly ++ g.mark m.CloseCurly)) }
     ensures tokens { OnOk result (AllTokens (g.mark m.OpenCurly ++ g.number count ++ g.mark m.OpenCurly ++ g.name of.now ++ g.mark m.CloseCurly ++ g.mark m.CloseCurly)) }
 {
-    out.mark(Mark::OpenCurly)?;
-    out.number(count)?;
-    out.mark(Mark::OpenCurly)?;
-    out.name(of)?;
-    out.mark(Mark::CloseCurly)?;
-    out.mark(Mark::CloseCurly)
+    out.phrase(&[
+        Piece::Mark(Mark::OpenCurly),
+        Piece::Number(count),
+        Piece::Mark(Mark::OpenCurly),
+        Piece::Name(of),
+        Piece::Mark(Mark::CloseCurly),
+        Piece::Mark(Mark::CloseCurly),
+    ])
 }
 
 #[tactic(auto, using(crate::proofs::Laying::put_all_append, crate::proofs::Laying::all_tokens_append))]
@@ -237,10 +268,7 @@ pub fn expression(out: &mut Text, expression: &Expression) -> Result<(), AllocEr
     match expression {
         Expression::Copy(of) => out.name(of),
         Expression::Constant(value) => constant(out, *value),
-        Expression::BitwiseNot(of) => {
-            out.mark(Mark::Tilde)?;
-            out.name(of)
-        }
+        Expression::BitwiseNot(of) => { out.phrase(&[Piece::Mark(Mark::Tilde), Piece::Name(of)]) }
         Expression::Binary {
             operator,
             left,
@@ -248,9 +276,14 @@ pub fn expression(out: &mut Text, expression: &Expression) -> Result<(), AllocEr
         } => binary(out, left, operator_mark(*operator), right),
         Expression::SignedLess { left, right } => signed_binary(out, left, Mark::Less, right),
         Expression::ArithmeticShiftRight { left, right } => {
-            signed(out, left)?;
-            out.mark(Mark::ArithmeticShiftRight)?;
-            out.name(right)
+            out.phrase(&[
+                Piece::Mark(Mark::Signed),
+                Piece::Mark(Mark::OpenRound),
+                Piece::Name(left),
+                Piece::Mark(Mark::CloseRound),
+                Piece::Mark(Mark::ArithmeticShiftRight),
+                Piece::Name(right),
+            ])
         }
         Expression::Conditional {
             condition,

@@ -5,7 +5,7 @@ ghost use Rattle.verilog_tree.specs.Spelling.{word_spelling, is_name, is_quoted}
 ghost use Rattle.verilog_tree.specs.Tokens.{mark_spelling, is_token};
 ghost use Rattle.verilog_tree.specs.declared.token.Token.TheVariants as t;
 ghost use Rattle.verilog_tree.specs.Grammar as g;
-ghost use Rattle.verilog_text.specs.Layout.{put, piece, begun, gap, spaces, start, layout, word_layout, mark_layout, brackets_after, plain};
+ghost use Rattle.verilog_text.specs.Layout.{put, put_all, piece_tokens, phrase, AllTokens, piece, begun, gap, spaces, start, layout, word_layout, mark_layout, brackets_after, plain};
 
 use hls_io::{Bytes, put_dec};
 use std::alloc::{AllocError, Global};
@@ -43,6 +43,18 @@ pub struct Text {
     pub ending: Ending,
     pub depth: u32,
     pub in_brackets: bool,
+}
+
+/// A token of a phrase. Names and texts are borrowed.
+#[derive(Clone, Copy)]
+pub enum Piece<'p> {
+    Word(Word),
+    Mark(Mark),
+    Name(&'p Identifier),
+    Number(u64),
+    Quoted(&'p Quoted),
+    /// The name `clk`.
+    Clock,
 }
 
 /// Deeper levels are indented as this one.
@@ -110,6 +122,31 @@ impl Text {
         self.bytes.push(b'"')?;
         self.bytes.put(inside.as_bytes())?;
         self.bytes.push(b'"')
+    }
+
+    fn put(&mut self, piece: Piece<'_>) -> Result<(), AllocError>
+        ensures text { OnOk result (self.new ≡ put_all self.old (piece_tokens piece.entry)) }
+        ensures tokens { AllTokens (piece_tokens piece.entry) }
+    {
+        match piece {
+            Piece::Word(word) => self.word(word),
+            Piece::Mark(mark) => self.mark(mark),
+            Piece::Name(name) => self.name(name),
+            Piece::Number(number) => self.number(number),
+            Piece::Quoted(text) => self.quoted(text),
+            Piece::Clock => self.clock(),
+        }
+    }
+
+    /// The tokens of a phrase.
+    pub fn phrase(&mut self, pieces: &[Piece<'_>]) -> Result<(), AllocError>
+        ensures text { OnOk result (self.new ≡ put_all self.old (phrase pieces.now)) }
+        ensures tokens { OnOk result (AllTokens (phrase pieces.now)) }
+    {
+        for piece in pieces {
+            self.put(*piece)?;
+        }
+        Ok(())
     }
 
     /// The bytes, with the end of the last line.
