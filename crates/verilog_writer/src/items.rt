@@ -7,8 +7,8 @@ ghost use Rattle.verilog_tree.specs.declared.tree.Item.TheVariants as i;
 ghost use Rattle.verilog_text.specs.Layout.{put_all, AllTokens};
 
 use std::alloc::AllocError;
-use verilog_text::expressions::{constant, expression, signed};
-use verilog_text::text::Text;
+use verilog_text::expressions::{expression, signed};
+use verilog_text::text::{Piece, Text};
 use verilog_tree::name::{Identifier, Quoted};
 use verilog_tree::token::{Mark, Word};
 use verilog_tree::tree::{
@@ -22,13 +22,13 @@ fn range(out: &mut Text, high: Option<u64>) -> Result<(), AllocError>
 {
     match high {
         None => Ok(()),
-        Some(high) => {
-            out.mark(Mark::OpenSquare)?;
-            out.number(high)?;
-            out.mark(Mark::Colon)?;
-            out.number(0)?;
-            out.mark(Mark::CloseSquare)
-        }
+        Some(high) => out.phrase(&[
+            Piece::Mark(Mark::OpenSquare),
+            Piece::Number(high),
+            Piece::Mark(Mark::Colon),
+            Piece::Number(0),
+            Piece::Mark(Mark::CloseSquare),
+        ]),
     }
 }
 
@@ -57,11 +57,13 @@ fn connection(out: &mut Text, connection: &Connection) -> Result<(), AllocError>
     ensures text { OnOk result (out.new ≡ put_all out.old (g.connection connection.now)) }
     ensures tokens { OnOk result (AllTokens (g.connection connection.now)) }
 {
-    out.mark(Mark::Dot)?;
-    out.name(&connection.port)?;
-    out.mark(Mark::OpenRound)?;
-    out.name(&connection.signal)?;
-    out.mark(Mark::CloseRound)
+    out.phrase(&[
+        Piece::Mark(Mark::Dot),
+        Piece::Name(&connection.port),
+        Piece::Mark(Mark::OpenRound),
+        Piece::Name(&connection.signal),
+        Piece::Mark(Mark::CloseRound),
+    ])
 }
 
 fn argument(out: &mut Text, argument: &WriteArgument) -> Result<(), AllocError>
@@ -123,11 +125,11 @@ fn index(out: &mut Text, word: Option<u64>) -> Result<(), AllocError>
 {
     match word {
         None => Ok(()),
-        Some(word) => {
-            out.mark(Mark::OpenSquare)?;
-            out.number(word)?;
-            out.mark(Mark::CloseSquare)
-        }
+        Some(word) => out.phrase(&[
+            Piece::Mark(Mark::OpenSquare),
+            Piece::Number(word),
+            Piece::Mark(Mark::CloseSquare),
+        ]),
     }
 }
 
@@ -138,9 +140,13 @@ fn initial_constant(out: &mut Text, initial: &InitialConstant) -> Result<(), All
 {
     out.name(&initial.name)?;
     index(out, initial.word)?;
-    out.mark(Mark::Equal)?;
-    constant(out, initial.value)?;
-    out.mark(Mark::Semicolon)
+    out.phrase(&[
+        Piece::Mark(Mark::Equal),
+        Piece::Number(initial.value.width),
+        Piece::Mark(Mark::Decimal),
+        Piece::Number(initial.value.value),
+        Piece::Mark(Mark::Semicolon),
+    ])
 }
 
 fn constants(out: &mut Text, constants: &[InitialConstant]) -> Result<(), AllocError>
@@ -153,34 +159,6 @@ fn constants(out: &mut Text, constants: &[InitialConstant]) -> Result<(), AllocE
     Ok(())
 }
 
-fn set(out: &mut Text, register: &Identifier, source: &Identifier) -> Result<(), AllocError>
-    ensures text { OnOk result (out.new ≡ put_all out.old (g.set register.now source.now)) }
-    ensures tokens { OnOk result (AllTokens (g.set register.now source.now)) }
-{
-    out.name(register)?;
-    out.mark(Mark::LessEqual)?;
-    out.name(source)?;
-    out.mark(Mark::Semicolon)
-}
-
-fn store(
-    out: &mut Text,
-    memory: &Identifier,
-    address: &Identifier,
-    source: &Identifier,
-) -> Result<(), AllocError>
-    ensures text { OnOk result (out.new ≡ put_all out.old (g.store memory.now address.now source.now)) }
-    ensures tokens { OnOk result (AllTokens (g.store memory.now address.now source.now)) }
-{
-    out.name(memory)?;
-    out.mark(Mark::OpenSquare)?;
-    out.name(address)?;
-    out.mark(Mark::CloseSquare)?;
-    out.mark(Mark::LessEqual)?;
-    out.name(source)?;
-    out.mark(Mark::Semicolon)
-}
-
 /// `$write("text", argument, argument);`
 #[tactic(auto, using(verilog_text::proofs::Laying::put_all_append, verilog_text::proofs::Laying::all_tokens_append))]
 fn system_write(
@@ -191,9 +169,11 @@ fn system_write(
     ensures text { OnOk result (out.new ≡ put_all out.old (g.write text.now arguments.now)) }
     ensures tokens { OnOk result (AllTokens (g.write text.now arguments.now)) }
 {
-    out.mark(Mark::Write)?;
-    out.mark(Mark::OpenRound)?;
-    out.quoted(text)?;
+    out.phrase(&[
+        Piece::Mark(Mark::Write),
+        Piece::Mark(Mark::OpenRound),
+        Piece::Quoted(text),
+    ])?;
     more_arguments(out, arguments)?;
     out.mark(Mark::CloseRound)?;
     out.mark(Mark::Semicolon)
@@ -206,12 +186,25 @@ fn statement(out: &mut Text, statement: &Statement) -> Result<(), AllocError>
     ensures tokens { OnOk result (AllTokens (g.statement statement.now)) }
 {
     match statement {
-        Statement::Set { register, source } => set(out, register, source),
+        Statement::Set { register, source } => out.phrase(&[
+            Piece::Name(register),
+            Piece::Mark(Mark::LessEqual),
+            Piece::Name(source),
+            Piece::Mark(Mark::Semicolon),
+        ]),
         Statement::Store {
             memory,
             address,
             source,
-        } => store(out, memory, address, source),
+        } => out.phrase(&[
+            Piece::Name(memory),
+            Piece::Mark(Mark::OpenSquare),
+            Piece::Name(address),
+            Piece::Mark(Mark::CloseSquare),
+            Piece::Mark(Mark::LessEqual),
+            Piece::Name(source),
+            Piece::Mark(Mark::Semicolon),
+        ]),
         Statement::If { condition, body } => conditional(out, condition, body.as_slice()),
         Statement::Write { text, arguments } => system_write(out, text, arguments.as_slice()),
     }
@@ -224,11 +217,13 @@ fn conditional(out: &mut Text, condition: &Identifier, body: &[Statement]) -> Re
     ensures text { OnOk result (out.new ≡ put_all out.old (g.conditional condition.now (g.all g.statement body.now))) }
     ensures tokens { OnOk result (AllTokens (g.conditional condition.now (g.all g.statement body.now))) }
 {
-    out.word(Word::If)?;
-    out.mark(Mark::OpenRound)?;
-    out.name(condition)?;
-    out.mark(Mark::CloseRound)?;
-    out.word(Word::Begin)?;
+    out.phrase(&[
+        Piece::Word(Word::If),
+        Piece::Mark(Mark::OpenRound),
+        Piece::Name(condition),
+        Piece::Mark(Mark::CloseRound),
+        Piece::Word(Word::Begin),
+    ])?;
     statements(out, body)?;
     out.word(Word::End)
 }
@@ -257,24 +252,28 @@ fn declaration(
 {
     out.word(kind)?;
     range(out, high)?;
-    out.name(name)?;
-    out.mark(Mark::Semicolon)
+    out.phrase(&[Piece::Name(name), Piece::Mark(Mark::Semicolon)])
 }
 
-#[tactic(auto, using(verilog_text::proofs::Laying::put_all_append, verilog_text::proofs::Laying::all_tokens_append))]
 fn memory(out: &mut Text, memory: &Memory) -> Result<(), AllocError>
     ensures text { OnOk result (out.new ≡ put_all out.old (g.item (i.Memory memory.now))) }
     ensures tokens { OnOk result (AllTokens (g.item (i.Memory memory.now))) }
 {
-    out.word(Word::Reg)?;
-    range(out, Some(memory.high))?;
-    out.name(&memory.name)?;
-    out.mark(Mark::OpenSquare)?;
-    out.number(0)?;
-    out.mark(Mark::Colon)?;
-    out.number(memory.last)?;
-    out.mark(Mark::CloseSquare)?;
-    out.mark(Mark::Semicolon)
+    out.phrase(&[
+        Piece::Word(Word::Reg),
+        Piece::Mark(Mark::OpenSquare),
+        Piece::Number(memory.high),
+        Piece::Mark(Mark::Colon),
+        Piece::Number(0),
+        Piece::Mark(Mark::CloseSquare),
+        Piece::Name(&memory.name),
+        Piece::Mark(Mark::OpenSquare),
+        Piece::Number(0),
+        Piece::Mark(Mark::Colon),
+        Piece::Number(memory.last),
+        Piece::Mark(Mark::CloseSquare),
+        Piece::Mark(Mark::Semicolon),
+    ])
 }
 
 #[tactic(auto, using(verilog_text::proofs::Laying::put_all_append, verilog_text::proofs::Laying::all_tokens_append))]
@@ -282,9 +281,11 @@ fn assign(out: &mut Text, assign: &Assign) -> Result<(), AllocError>
     ensures text { OnOk result (out.new ≡ put_all out.old (g.item (i.Assign assign.now))) }
     ensures tokens { OnOk result (AllTokens (g.item (i.Assign assign.now))) }
 {
-    out.word(Word::Assign)?;
-    out.name(&assign.target)?;
-    out.mark(Mark::Equal)?;
+    out.phrase(&[
+        Piece::Word(Word::Assign),
+        Piece::Name(&assign.target),
+        Piece::Mark(Mark::Equal),
+    ])?;
     expression(out, &assign.value)?;
     out.mark(Mark::Semicolon)
 }
@@ -294,8 +295,7 @@ fn initial(out: &mut Text, initial: &Initial) -> Result<(), AllocError>
     ensures text { OnOk result (out.new ≡ put_all out.old (g.item (i.Initial initial.now))) }
     ensures tokens { OnOk result (AllTokens (g.item (i.Initial initial.now))) }
 {
-    out.word(Word::Initial)?;
-    out.word(Word::Begin)?;
+    out.phrase(&[Piece::Word(Word::Initial), Piece::Word(Word::Begin)])?;
     constants(out, initial.constants.as_slice())?;
     out.word(Word::End)
 }
@@ -306,13 +306,15 @@ fn always(out: &mut Text, always: &Always) -> Result<(), AllocError>
     ensures text { OnOk result (out.new ≡ put_all out.old (g.item (i.Always always.now))) }
     ensures tokens { OnOk result (AllTokens (g.item (i.Always always.now))) }
 {
-    out.word(Word::Always)?;
-    out.mark(Mark::At)?;
-    out.mark(Mark::OpenRound)?;
-    out.word(Word::PosEdge)?;
-    out.clock()?;
-    out.mark(Mark::CloseRound)?;
-    out.word(Word::Begin)?;
+    out.phrase(&[
+        Piece::Word(Word::Always),
+        Piece::Mark(Mark::At),
+        Piece::Mark(Mark::OpenRound),
+        Piece::Word(Word::PosEdge),
+        Piece::Clock,
+        Piece::Mark(Mark::CloseRound),
+        Piece::Word(Word::Begin),
+    ])?;
     statements(out, always.body.as_slice())?;
     out.word(Word::End)
 }
@@ -322,9 +324,11 @@ fn instance(out: &mut Text, instance: &Instance) -> Result<(), AllocError>
     ensures text { OnOk result (out.new ≡ put_all out.old (g.item (i.Instance instance.now))) }
     ensures tokens { OnOk result (AllTokens (g.item (i.Instance instance.now))) }
 {
-    out.name(&instance.module_name)?;
-    out.name(&instance.name)?;
-    out.mark(Mark::OpenRound)?;
+    out.phrase(&[
+        Piece::Name(&instance.module_name),
+        Piece::Name(&instance.name),
+        Piece::Mark(Mark::OpenRound),
+    ])?;
     connections(out, instance.connections.as_slice())?;
     out.mark(Mark::CloseRound)?;
     out.mark(Mark::Semicolon)
@@ -360,9 +364,11 @@ fn one_module(out: &mut Text, one: &Module) -> Result<(), AllocError>
     ensures text { OnOk result (out.new ≡ put_all out.old (g.module_tokens one.now)) }
     ensures tokens { OnOk result (AllTokens (g.module_tokens one.now)) }
 {
-    out.word(Word::Module)?;
-    out.name(&one.name)?;
-    out.mark(Mark::OpenRound)?;
+    out.phrase(&[
+        Piece::Word(Word::Module),
+        Piece::Name(&one.name),
+        Piece::Mark(Mark::OpenRound),
+    ])?;
     ports(out, one.ports.as_slice())?;
     out.mark(Mark::CloseRound)?;
     out.mark(Mark::Semicolon)?;
