@@ -1,5 +1,5 @@
 -- A run that is over, with its journal and what it printed.
-use Rattle.std.specs.Prelude.{◌≡◌, ℕ, List, length, Some}
+use Rattle.std.specs.Prelude.{◌≡◌, ℕ, List, length, Option, Some, IfSome}
 use Rattle.std.proofs.Common.{sym, ◌∙◌, subst}
 use Rattle.std.proofs.lemmas.Option.{same_Some}
 use Rattle.netlist.specs.declared.netlist.Module.{Module}
@@ -35,9 +35,10 @@ ran modules count most journal output v over fin =
       };
     }
 
-pub ran_at : (modules : List Module) (count most : ℕ) (old new journal : List Entry) (output : List ℕ) (v : Verdict) → IsOver modules count most old v × (new ≡ old)
-    → journal ≡ new → IsFinished modules count most new output
+pub ran_at : (modules : List Module) (count most : ℕ) (old new journal : List Entry) (output : List ℕ) (said : Option Verdict) (v : Verdict) → said ≡ Some v
+    → IfSome said (λ w. IsOver modules count most old w × (new ≡ old)) → journal ≡ new → IsFinished modules count most new output
     → IsRan modules count most journal output v
-ran_at modules count most old new journal output v over e fin =
+ran_at modules count most old new journal output said v is is_over e fin =
+    let over : IsOver modules count most old v × (new ≡ old) = subst (λ (o : Option Verdict). IfSome o (λ w. IsOver modules count most old w × (new ≡ old))) is is_over in
     subst (λ (j : List Entry). IsRan modules count most j output v) (sym e)
     (ran modules count most new output v (subst (λ (j : List Entry). IsOver modules count most j v) (sym over.1) over.0) fin)

@@ -196,7 +196,6 @@ fn work_beside<'a, J: Case + Send + Sync, R: Threads + Wait + Sync, G: Gate + Sy
 }
 
 /// Goes on alone, on a seat that no worker needs any more, until there is a verdict.
-#[tactic(auto, using(crate::proofs::Ending::ran_at))]
 fn alone<'a, J: Case>(board: Board<'a, J>, seat: &mut Seat<'a, J>) -> Result<Ran, AllocError>
     ensures { IfOk result (λ r. IsRan J.modules J.threads J.most r.journal r.output r.verdict) }
 {
