@@ -138,13 +138,11 @@ pub fn entry_of(line: &[u8]) -> Option<Entry>
 fn put_line(text: &mut Bytes, entry: Entry) -> Result<(), AllocError>
     ensures { OnOk result (text.new ≡ text.old ++ line_of entry) }
 {
-    text.put("//@ ".as_bytes())?;
+    text.put(b"//@ ")?;
     put_dec(text, entry.thread as i128)?;
-    text.put(" ".as_bytes())?;
+    text.push(b' ')?;
     put_dec(text, entry.closed as i128)?;
-    text.put(" ".as_bytes())?;
-    text.push(if entry.opened { b's' } else { b'-' })?;
-    text.put("\n".as_bytes())
+    text.put(if entry.opened { b" s\n" } else { b" -\n" })
 }
 
 /// The text of a journal.
