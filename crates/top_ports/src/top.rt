@@ -82,7 +82,6 @@ fn first_unwanted(prefs: &NameSet<'_>, ports: &[Port]) -> Option<usize>
 }
 
 /// The first port that `top` may not have.
-#[tactic(auto, using(crate::proofs::Wanted::unwanted_is))]
 fn unwanted_port(alloc: Global, ports: &[Port]) -> Result<Option<usize>, AllocError>
     ensures { IfOk result (spec.IsUnwanted ports.now) }
 {
