@@ -39,7 +39,7 @@ fn are_digits(text: &[u8]) -> bool
     ensures { result ≡ digits_of text.now }
 {
     for byte in text {
-        if *byte < 48 || 57 < *byte {
+        if *byte < b'0' || b'9' < *byte {
             return false;
         }
     }
@@ -51,7 +51,7 @@ pub fn is_decimal(text: &[u8]) -> bool
     ensures { result ≡ decimal_of text.now }
 {
     match at(text, 0) {
-        Some(byte) => are_digits(text) && (48 < *byte || text.len() == 1),
+        Some(byte) => are_digits(text) && (b'0' < *byte || text.len() == 1),
         None => false,
     }
 }
