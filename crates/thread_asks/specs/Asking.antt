@@ -212,9 +212,3 @@ module _ (globals : List IntegerType) (spreads : List Spread) (code : ThreadCode
     pub wired : FitStates registers plan → (base : Base) (bits wide own : List Held)
         → AreAskLinks base code registers caller.served globals spreads bits wide own old start →
         KeepsAskLinks base code registers caller.served globals spreads bits wide own old new c × IsEarlier new base done 1
-
--- an act that makes a request, by the table
-abbrev pub AsksRequest : ThreadCode → Registers → Caller → ℕ → Call → List Signal → List Signal → Requests → Requests → Type 0
-AsksRequest code registers caller l call old new before after =
-    (globals : List IntegerType) (spreads : List Spread) (a : Act) (next : ℕ) (plan : Option StagePlan) → request_of caller.is_main a ≡ Some call →
-    AsksStage globals spreads code registers caller l (stage.Act a next) plan old new before after
