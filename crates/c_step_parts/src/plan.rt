@@ -125,23 +125,6 @@ fn prepare<'p>(
     }
 }
 
-/// The value of an expression is returned.
-fn return_value<'p>(
-    offset: u32,
-    expression: &Expression,
-    frame: &Frame<'p>,
-    globals: &[Vec<i128>],
-) -> Plan<'p>
-    ensures { (P : Programs) (fs : Callers) → plan_of P result (frame_of frame.now) fs
-        ≡ erased (moving offset (value (expression_of expression.now)
-        (memory_in frame.now globals.now)) (λ v reads. returned P offset (v ∷ []) reads (frame_of frame.now) fs)) }
-{
-    match evaluate(expression, &frame.locals, globals) {
-        Err(cause) => Plan::Fault(offset, cause),
-        Ok(v) => Plan::Return(offset, Some(v)),
-    }
-}
-
 /// The act of a pthread call.
 fn act_of_call<'p>(call: &'p ThreadCall) -> Act<'p>
     ensures { act_of result ≡ act_of_call (thread_call_of call.now) }
@@ -179,9 +162,15 @@ fn assign<'p>(
             store(alloc, frame, offset, assignment)
         }
         RightSide::Call(function, arguments) => {
-            let waiting = Item::Store(offset, place);
             call(
-                alloc, program, frame, globals, offset, *function, arguments, waiting,
+                alloc,
+                program,
+                frame,
+                globals,
+                offset,
+                *function,
+                arguments,
+                Item::Store(offset, place),
             )
         }
     }
@@ -201,11 +190,20 @@ fn return_plan<'p>(
 {
     match right {
         None => Ok(Plan::Return(offset, None)),
-        Some(RightSide::Value(expression)) => Ok(return_value(offset, expression, frame, globals)),
+        Some(RightSide::Value(expression)) => match evaluate(expression, &frame.locals, globals) {
+            Err(cause) => Ok(Plan::Fault(offset, cause)),
+            Ok(v) => Ok(Plan::Return(offset, Some(v))),
+        },
         Some(RightSide::Call(function, arguments)) => {
-            let waiting = Item::Hand(offset);
             call(
-                alloc, program, frame, globals, offset, *function, arguments, waiting,
+                alloc,
+                program,
+                frame,
+                globals,
+                offset,
+                *function,
+                arguments,
+                Item::Hand(offset),
             )
         }
     }
@@ -255,16 +253,7 @@ fn statement_plan<'p>(
             let operands = operands(alloc, program, call, &frame.locals, globals)?;
             prepare(frame, *offset, act_of_call(call), operands)
         }
-        Statement::Done
-        | Statement::Sequence(_, _)
-        | Statement::Empty
-        | Statement::Block(_)
-        | Statement::If(_, _, _)
-        | Statement::While(_, _)
-        | Statement::DoWhile(_, _)
-        | Statement::For(_, _, _, _)
-        | Statement::Break
-        | Statement::Continue => Ok(Plan::Impossible),
+        _ => Ok(Plan::Impossible),
     }
 }
 
@@ -356,13 +345,7 @@ fn item_plan<'p>(
         Item::Store(offset, place) => store_plan(alloc, frame, globals, offset, place),
         Item::Hand(offset) => Ok(hand_plan(frame, offset)),
         Item::Perform(offset, act) => act_plan(frame, offset, act),
-        Item::ThenBoth(_)
-        | Item::ThenEither(_)
-        | Item::ThenOpposite
-        | Item::Choose(_, _)
-        | Item::Turn(_)
-        | Item::Next(_)
-        | Item::Discard => Ok(Plan::Impossible),
+        _ => Ok(Plan::Impossible),
     }
 }
 
