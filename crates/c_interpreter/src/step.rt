@@ -1,9 +1,9 @@
 // The next step of a thread.
-ghost use Rattle.std.specs.Prelude.{◌≡◌, Some, [], ◌∷◌, drop, map, slice_get, slice_set, IfOk, OnErr};
+ghost use Rattle.std.specs.Prelude.{◌≡◌, Some, [], ◌∷◌, map, slice_get, slice_set, IfOk, OnErr};
 ghost use Rattle.std.specs.Option.{option_to_list};
 ghost use Rattle.c_program.specs.Plain.{program_of};
 ghost use Rattle.thread_semantics.specs.State.{Frame as Frames, Running};
-ghost use Rattle.thread_semantics.specs.Move.{returned_value, return_type, resumed, returned, going_on};
+ghost use Rattle.thread_semantics.specs.Move.{returned_value, return_type, resumed, returned};
 ghost use Rattle.thread_semantics.specs.Step.{with_slot, finished, written_to, acted, moved, step};
 ghost use Rattle.c_evaluation.specs.Outcome.{rows_of};
 ghost use Rattle.c_evaluation.specs.View.{work_of, act_of};
@@ -41,31 +41,7 @@ struct Rest<'p> {
     kept: Vec<i128>,
 }
 
-/// A call goes on with this work and these values, after a change of memory.
-fn frame_goes_on<'p>(
-    frame: &mut Frame<'p>,
-    globals: &mut Vec<Vec<i128>>,
-    work: VecDeque<Item<'p>>,
-    kept: Vec<i128>,
-    change: Change,
-)
-    ensures frame { frame_of frame.new ≡ gone_on change (work_of work.entry.items) kept.items (frame_of frame.old) }
-    ensures globals { rows_of globals.new.items ≡ written_to (rows_of globals.old.items) (change_write change) }
-{
-    carry_out(&change, &mut frame.locals, globals);
-    frame.work = work;
-    frame.kept = kept;
-}
-
-/// A call waits with this work.
-fn frame_waits<'p>(frame: &mut Frame<'p>, work: VecDeque<Item<'p>>)
-    ensures { frame_of frame.new ≡ waiting (work_of work.entry.items) (frame_of frame.old) }
-{
-    frame.work = work;
-    frame.kept.clear();
-}
-
-/// The innermost call of a running thread goes on.
+/// The innermost call of a running thread goes on with this work and these values, after a change of memory.
 fn slot_goes_on<'p>(
     slot: &mut Slot<'p>,
     globals: &mut Vec<Vec<i128>>,
@@ -80,7 +56,9 @@ fn slot_goes_on<'p>(
 {
     if let Slot::Running(frames) = slot {
         if let Some(frame) = frames.front_mut() {
-            frame_goes_on(frame, globals, work, kept, change);
+            carry_out(&change, &mut frame.locals, globals);
+            frame.work = work;
+            frame.kept = kept;
         }
     }
 }
@@ -98,7 +76,8 @@ fn slot_enters<'p>(
     if let Slot::Running(frames) = slot {
         frames.push_front(callee)?;
         if let Some(caller) = frames.get_mut(1) {
-            frame_waits(caller, work);
+            caller.work = work;
+            caller.kept.clear();
         }
     }
     Ok(())
@@ -190,26 +169,19 @@ fn leaves<'p>(s: &mut State<'p>, i: u32, rest: Rest<'p>)
     }
 }
 
-/// A value that is converted to what a function returns, if that is an integer.
-fn converted(returns: ReturnType, value: Option<i128>) -> Option<i128>
-    ensures { option_to_list result ≡ returned_value returns (option_to_list value) }
-{
-    match returns {
-        ReturnType::Integer(ty) => match value {
-            Some(v) => Some(wrap(ty, v)),
-            None => None,
-        },
-        ReturnType::Void | ReturnType::Pointer => None,
-    }
-}
-
-/// What the function of that number returns.
-fn return_type(program: &Program, function: u32) -> ReturnType
-    ensures { result ≡ return_type (slice_get (program_of program.now).functions function) }
+/// A value that is converted to what the function of that number returns, if that is an integer.
+fn converted(program: &Program, function: u32, value: Option<i128>) -> Option<i128>
+    ensures { option_to_list result ≡ returned_value (return_type (slice_get (program_of program.now).functions function)) (option_to_list value) }
 {
     match program.functions.get(function as usize) {
-        Some(code) => code.returns,
-        None => ReturnType::Void,
+        Some(code) => match code.returns {
+            ReturnType::Integer(ty) => match value {
+                Some(v) => Some(wrap(ty, v)),
+                None => None,
+            },
+            ReturnType::Void | ReturnType::Pointer => None,
+        },
+        None => None,
     }
 }
 
@@ -223,41 +195,7 @@ fn is_dropping(work: &VecDeque<Item>) -> bool
     }
 }
 
-/// A caller that drops the value of a call goes on.
-fn after_dropped<'p>(alloc: Global, caller: &Frame<'p>) -> Result<Rest<'p>, AllocError>
-    ensures { IfOk result (λ rest. rest_frame rest (frame_of caller.now) ≡ going_on (frame_of caller.now) (drop 1 (work_of caller.now.work.items))) }
-{
-    let mut work = rest_of(&caller.work)?;
-    settle(&mut work)?;
-    Ok(Rest {
-        work,
-        kept: Vec::new(alloc),
-    })
-}
-
-/// A caller keeps the value of a call, if any.
-fn after_kept<'p>(
-    alloc: Global,
-    caller: &Frame<'p>,
-    value: Option<i128>,
-) -> Result<Rest<'p>, AllocError>
-    ensures { IfOk result (λ rest. rest_frame rest (frame_of caller.now) ≡ record (frame_of caller.now) { kept = option_to_list value }) }
-{
-    let work = copied(&caller.work)?;
-    let mut kept = Vec::new(alloc);
-    if let Some(v) = value {
-        kept.push(v)?;
-    }
-    Ok(Rest { work, kept })
-}
-
-fn copied<'p>(work: &VecDeque<Item<'p>>) -> Result<VecDeque<Item<'p>>, AllocError>
-    ensures { IfOk result (λ copy. copy.items ≡ work.now.items) }
-{
-    work.clone()
-}
-
-/// How a caller goes on with the value of a call.
+/// How a caller goes on with the value of a call, which it drops or keeps.
 fn resumed<'p>(
     alloc: Global,
     caller: &Frame<'p>,
@@ -265,11 +203,17 @@ fn resumed<'p>(
 ) -> Result<Rest<'p>, AllocError>
     ensures { IfOk result (λ rest. rest_frame rest (frame_of caller.now) ≡ resumed (option_to_list value) (work_of caller.now.work.items) (frame_of caller.now)) }
 {
+    let mut kept = Vec::new(alloc);
     if is_dropping(&caller.work) {
-        after_dropped(alloc, caller)
-    } else {
-        after_kept(alloc, caller, value)
+        let mut work = rest_of(&caller.work)?;
+        settle(&mut work)?;
+        return Ok(Rest { work, kept });
     }
+    if let Some(v) = value {
+        kept.push(v)?;
+    }
+    let work = caller.work.clone()?;
+    Ok(Rest { work, kept })
 }
 
 /// How the caller of the innermost call of thread i goes on with that call's value; none where it has no caller.
@@ -292,16 +236,20 @@ fn resumption<'p>(
     let Some(caller) = first_caller(frames) else {
         return Ok(None);
     };
-    let value = converted(return_type(program, callee.function), value);
+    let value = converted(program, callee.function, value);
     let rest = resumed(alloc, caller, value)?;
     Ok(Some(rest))
 }
 
-/// Main returns: each created thread is joined.
-fn end_main(s: &mut State, offset: u32) -> Stepped
-    ensures step { stepped_of result (state_of s.new) ≡ finished (state_of s.old) 0 offset }
+/// The outermost call of thread i returns; where it is main, each created thread is joined.
+fn end_thread(s: &mut State, i: u32, offset: u32) -> Stepped
+    ensures step { stepped_of result (state_of s.new) ≡ finished (state_of s.old) i offset }
     ensures unchanged { StaysUnlessStepped result (state_of s.old) (state_of s.new) }
 {
+    if i != 0 {
+        put_slot(&mut s.slots, u128::from(i), Slot::Finished);
+        return Stepped::Stepped;
+    }
     if !all_joined(s) {
         return Stepped::Undefined {
             offset,
@@ -310,18 +258,6 @@ fn end_main(s: &mut State, offset: u32) -> Stepped
     }
     put_slot(&mut s.slots, 0, Slot::Finished);
     s.ended = true;
-    Stepped::Stepped
-}
-
-/// The outermost call of thread i returns.
-fn end_thread(s: &mut State, i: u32, offset: u32) -> Stepped
-    ensures step { stepped_of result (state_of s.new) ≡ finished (state_of s.old) i offset }
-    ensures unchanged { StaysUnlessStepped result (state_of s.old) (state_of s.new) }
-{
-    if i == 0 {
-        return end_main(s, offset);
-    }
-    put_slot(&mut s.slots, u128::from(i), Slot::Finished);
     Stepped::Stepped
 }
 
