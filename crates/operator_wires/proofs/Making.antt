@@ -10,7 +10,7 @@ use Rattle.circuit.specs.Readings.{Reading, width, binary}
 pub use Rattle.std.proofs.lemmas.Result.{IfOk-weaker as of_ok}
 use Rattle.hls_ints.specs.Residues.{residue_of}
 use Rattle.hls_ints.specs.Types.{IntegerType, width_of, wrapped}
-use Rattle.hls_ints.specs.Words.{word_equal}
+use Rattle.hls_ints.specs.Words.{word_equal, word_complement}
 use Rattle.hls_ints.proofs.Conversions.{residue_of-wrapped, wrapped-range}
 use Rattle.operator_words.specs.Arithmetic.{unary_at, binary_at, unary_total, binary_total, is_shift}
 use Rattle.operator_words.specs.Shown.{unary_result, binary_result, unary_word, binary_word, IsRight, truth_type, less_word}
@@ -40,6 +40,35 @@ tests_zero a b word place t = record {
   wide = t.wide;
   shows = λ m r ty v g o is.
       t.shows m r g o ∙ ap (λ w. word_equal w (r.signal word.place) 0) is.wide ∙ ap (λ x. word_equal (width_of ty) x 0) is.shows ∙ not_zero ty v is.typed;
+}
+
+-- a bit, and then a word of it
+pub truth_makes : (a b c : List Signal) (bit v w : ℕ) (signed : Bool) (f : Module → Reading → ℕ) (out : Word) → Gives a b bit v f → Makes b c w signed (λ m r. r.signal bit) out → Makes a c w signed f out
+truth_makes a b c bit v w signed f out t u = record {
+  says = u.says;
+  sign = u.sign;
+  gives = record {
+    grows = grows_then a b c t.grows u.gives.grows;
+    stands = u.gives.stands;
+    wide = u.gives.wide;
+    shows = λ m r g o. u.gives.shows m r g o ∙ t.shows m r (grows_then b c m.signals u.gives.grows g) o;
+  };
+}
+
+-- a bit, and then a word of its opposite
+pub turned_makes : (a b c : List Signal) (bit : ℕ) (f : Module → Reading → ℕ) (out : Word) → Gives a b bit 1 f
+    → Makes b c 32 true (λ m r. word_complement (width m bit) (r.signal bit)) out → Makes a c 32 true (λ m r. word_complement 1 (f m r)) out
+turned_makes a b c bit f out t u = record {
+  says = u.says;
+  sign = u.sign;
+  gives = record {
+    grows = grows_then a b c t.grows u.gives.grows;
+    stands = u.gives.stands;
+    wide = u.gives.wide;
+    shows = λ m r g o.
+        let before = grows_then b c m.signals u.gives.grows g in
+        u.gives.shows m r g o ∙ ap (λ w. word_complement w (r.signal bit)) (t.wide m before) ∙ ap (word_complement 1) (t.shows m r before o);
+  };
 }
 
 -- ---- operators

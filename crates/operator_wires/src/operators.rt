@@ -126,8 +126,7 @@ impl Wires {
         ensures wired { IfOk result (TruthOfOne self.old.signals self.new.signals own) }
     {
         let bit = self.is_number(own.width, own.place, 0)?;
-        let word = self.truth(bit)?;
-        Ok(word)
+        self.truth(bit)
     }
 
     /// A binary operator that works at a type. The count of a shift has a type of its own.
@@ -253,22 +252,15 @@ impl Wires {
         ensures wired { IfOk result (LikeLeft self.old.signals self.new.signals left right) }
     {
         if left.signed {
-            self.sign_shifted(left, right)
+            let value = Value::ArithmeticShiftRight {
+                left: left.place,
+                right: right.place,
+            };
+            let place = self.wire(left.width, value)?;
+            Ok(at_place(left, place))
         } else {
             self.gate(Gate::ShiftRight, left, right)
         }
-    }
-
-    fn sign_shifted(&mut self, left: Word, right: Word) -> Result<Word, AllocError>
-        ensures shows { IfOk result (Makes self.old.signals self.new.signals left.width left.signed (λ m r. arithmetic_shift (width m left.place) (r.signal left.place) (r.signal right.place))) }
-        ensures wired { IfOk result (LikeLeft self.old.signals self.new.signals left right) }
-    {
-        let value = Value::ArithmeticShiftRight {
-            left: left.place,
-            right: right.place,
-        };
-        let place = self.wire(left.width, value)?;
-        Ok(at_place(left, place))
     }
 
     /// Whether a value is less than another one of its type.
@@ -292,8 +284,7 @@ impl Wires {
         ensures wired { IfOk result (TruthOfTwo self.old.signals self.new.signals left right) }
     {
         let bit = self.less(left, right)?;
-        let word = self.truth(bit)?;
-        Ok(word)
+        self.truth(bit)
     }
 
     fn not_less_word(&mut self, left: Word, right: Word) -> Result<Word, AllocError>
@@ -302,8 +293,7 @@ impl Wires {
         ensures wired { IfOk result (TruthOfTwo self.old.signals self.new.signals left right) }
     {
         let bit = self.less(left, right)?;
-        let word = self.turned_word(bit)?;
-        Ok(word)
+        self.turned_word(bit)
     }
 
     fn equal_word(&mut self, left: Word, right: Word) -> Result<Word, AllocError>
@@ -311,8 +301,7 @@ impl Wires {
         ensures wired { IfOk result (TruthOfTwo self.old.signals self.new.signals left right) }
     {
         let bit = self.binary(1, Gate::Equal, left.place, right.place)?;
-        let word = self.truth(bit)?;
-        Ok(word)
+        self.truth(bit)
     }
 
     fn unequal_word(&mut self, left: Word, right: Word) -> Result<Word, AllocError>
@@ -320,8 +309,7 @@ impl Wires {
         ensures wired { IfOk result (TruthOfTwo self.old.signals self.new.signals left right) }
     {
         let bit = self.binary(1, Gate::Equal, left.place, right.place)?;
-        let word = self.turned_word(bit)?;
-        Ok(word)
+        self.turned_word(bit)
     }
 
     /// The int 1 or 0 of a bit that is turned.
@@ -330,7 +318,6 @@ impl Wires {
         ensures wired { IfOk result (TruthOf self.old.signals self.new.signals bit) }
     {
         let turned = self.not(1, bit)?;
-        let word = self.truth(turned)?;
-        Ok(word)
+        self.truth(turned)
     }
 }

@@ -19,7 +19,7 @@ use verilog_tree::name::Identifier;
 use verilog_tree::tree::BinaryOperator;
 
 /// What a signal is for.
-#[derive(Clone, Copy, Debug, PartialEq, Eq)]
+#[derive(Clone, Copy)]
 pub enum Role {
     /// The input `clk`.
     Clock,

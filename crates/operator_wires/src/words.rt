@@ -13,7 +13,7 @@ use netlist::netlist::Value;
 use std::alloc::AllocError;
 
 /// A signal that is as wide as a type, and shows a value of the type modulo 2 to the width.
-#[derive(Clone, Copy, Debug, PartialEq, Eq)]
+#[derive(Clone, Copy)]
 pub struct Word {
     pub place: usize,
     pub width: u64,
@@ -38,7 +38,6 @@ impl Word {
 
 impl Wires {
     /// The low bits of a signal, or the signal with more bits, which are copies of the sign or zeros.
-    #[tactic(auto, using(crate::proofs::Resizing::resizes_low, crate::proofs::Resizing::resizes_sign, crate::proofs::Resizing::resizes_zeros, crate::proofs::Resizing::resizes_not))]
     pub fn resized(
         &mut self,
         of: usize,
@@ -50,16 +49,13 @@ impl Wires {
         ensures wired { IfOk result (ResizedAdds self.old.signals self.new.signals of from to signed) }
     {
         if to < from {
-            let place = self.low_bits(of, to)?;
-            Ok(place)
+            self.low_bits(of, to)
         } else if from == to {
             Ok(of)
         } else if signed {
-            let place = self.with_sign(of, from, to)?;
-            Ok(place)
+            self.with_sign(of, from, to)
         } else {
-            let place = self.with_zeros(of, from, to)?;
-            Ok(place)
+            self.with_zeros(of, from, to)
         }
     }
 
@@ -90,14 +86,12 @@ impl Wires {
         Ok(place)
     }
 
-    #[tactic(auto, using(crate::proofs::Resizing::zeros_give))]
     fn with_zeros(&mut self, of: usize, from: u64, to: u64) -> Result<usize, AllocError>
         ensures shows { IfOk result (λ place. Gives self.old.signals self.new.signals place to (λ m r. r.signal of)) }
         ensures wired { IfOk result (ZerosAdds self.old.signals self.new.signals of from to) }
     {
         let zeros = self.constant(to.saturating_sub(from), 0)?;
-        let place = self.beside(to, zeros, of)?;
-        Ok(place)
+        self.beside(to, zeros, of)
     }
 
     /// The value converted to a type (C99 6.3.1.3).
@@ -137,7 +131,6 @@ impl Wires {
         ensures shows { IfOk result (TestsZero self.old.signals self.new.signals word) }
         ensures wired { IfOk result (BitOfOne self.old.signals self.new.signals word) }
     {
-        let place = self.is_number(word.width, word.place, 0)?;
-        Ok(place)
+        self.is_number(word.width, word.place, 0)
     }
 }

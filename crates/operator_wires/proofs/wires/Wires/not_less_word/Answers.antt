@@ -1,7 +1,14 @@
+use Rattle.std.proofs.lemmas.Result.{IfOk-weaker}
+use Rattle.operator_wires.proofs.Making.{turned_makes}
 use Rattle.operator_wires.proofs.Working.{truth_after}
 use Rattle.operator_wires.proofs.wires.Wires.not_less_word.Goals as goal
 
+pub returns-clause-shows : goal.returns-clause-shows
+returns-clause-shows c =
+    IfOk-weaker c.turned_word.result _ _ (λ word u. turned_makes c.args.self.now.signals c.less.new.self.signals c.turned_word.new.self.signals c.in_ok-bit.bit _ word c.in_ok-bit.ensures.shows u)
+    c.turned_word.ensures.shows
+
 pub returns-clause-wired : goal.returns-clause-wired
 returns-clause-wired c =
-    truth_after c.args.self.now.signals c.less.new.self.signals c.turned_word.new.self.signals c.args.left c.args.right c.in_ok-word.word c.in_ok-bit.bit c.in_ok-bit.ensures.wired
-    c.in_ok-word.ensures.wired
+    IfOk-weaker c.turned_word.result _ _ (λ word u. truth_after c.args.self.now.signals c.less.new.self.signals c.turned_word.new.self.signals c.args.left c.args.right word c.in_ok-bit.bit c.in_ok-bit.ensures.wired u)
+    c.turned_word.ensures.wired

@@ -1,7 +1,0 @@
-use Rattle.operator_wires.proofs.Working.{sign_shifted_adds}
-use Rattle.operator_wires.proofs.wires.Wires.sign_shifted.Goals as goal
-
-pub returns-clause-wired : goal.returns-clause-wired
-returns-clause-wired c =
-    sign_shifted_adds c.args.self.now.signals c.wire.new.self.signals c.args.left c.args.right c.at_place.result c.in_ok-place.place c.in_ok-place.ensures.wired
-    c.at_place.ensures.place c.at_place.ensures.width c.at_place.ensures.signed
