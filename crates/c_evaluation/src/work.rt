@@ -176,13 +176,7 @@ fn unfold<'p>(statement: &'p Statement, work: &mut VecDeque<Item<'p>>) -> Result
             )?;
             put(work, Item::Do(first))
         }
-        Statement::Declare(_, _, _)
-        | Statement::Assign(_, _, _)
-        | Statement::Update(_, _, _, _, _)
-        | Statement::Return(_, _)
-        | Statement::Call(_, _, _)
-        | Statement::Print(_, _, _)
-        | Statement::Thread(_, _) => put(work, Item::Do(statement)),
+        _ => put(work, Item::Do(statement)),
     }
 }
 
@@ -212,7 +206,7 @@ pub fn settle<'p>(work: &mut VecDeque<Item<'p>>) -> Result<(), AllocError>
                 unfold(statement, work)?;
             }
             Item::Next(looping) => turn(looping, work)?,
-            other => return put(work, other),
+            _ => return put(work, item),
         }
     }
     Ok(())
@@ -247,8 +241,8 @@ pub fn decide<'p>(work: &mut VecDeque<Item<'p>>, truth: bool) -> Result<(), Allo
                 }
                 return settle(work);
             }
-            other => {
-                put(work, other)?;
+            _ => {
+                put(work, item)?;
                 return settle(work);
             }
         }
