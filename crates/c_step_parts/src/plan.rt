@@ -1,13 +1,12 @@
 // The thread's own part of its next step, given its innermost call and the globals.
 ghost use Rattle.std.specs.Prelude.{◌≡◌, IfOk, [], ◌∷◌, drop, slice_get};
 ghost use Rattle.c_program.specs.Tree.{Program as Programs};
-ghost use Rattle.c_program.specs.Plain.{expression_of, expressions_of, condition_of, place_of, right_side_of, returned_of, thread_call_of, statement_of, program_of};
+ghost use Rattle.c_program.specs.Plain.{expressions_of, condition_of, place_of, right_side_of, returned_of, thread_call_of, statement_of, program_of};
 ghost use Rattle.thread_semantics.specs.Memory.{Evaluation};
-ghost use Rattle.thread_semantics.specs.Value.{value, values};
 ghost use Rattle.thread_semantics.specs.Work.{settled, Onward};
-ghost use Rattle.thread_semantics.specs.Move.{Assignment as Assignments, moving, stored, called, prepared, returned, statement_move};
+ghost use Rattle.thread_semantics.specs.Move.{Assignment as Assignments, stored, called, prepared, statement_move};
 ghost use Rattle.thread_semantics.specs.Move.{store_move, hand_move, work_move, end_offset, going_on, act_of as act_of_call, Acts};
-ghost use Rattle.c_evaluation.specs.Outcome.{outcome, memory_of, rows_of, list_result};
+ghost use Rattle.c_evaluation.specs.Outcome.{outcome, list_result};
 ghost use Rattle.c_evaluation.specs.View.{item_of, act_of, work_of};
 ghost use Rattle.c_state.specs.View.{frame_of, state_of, memory_in, later_work};
 ghost use Rattle.c_state.specs.Change.{ok_of, assignment_view};
