@@ -5,7 +5,7 @@
 use hls_ints::CType;
 
 /// The storage duration of a variable (C99 6.2.4): that of a call of its function, or the program's.
-#[derive(Clone, Copy, PartialEq, Eq)]
+#[derive(Clone, Copy, PartialEq)]
 pub enum Storage {
     /// A parameter or a local of the function at hand.
     Automatic,
@@ -14,7 +14,7 @@ pub enum Storage {
 }
 
 /// A unary operator (C99 6.5.3.3).
-#[derive(Clone, Copy, PartialEq, Eq)]
+#[derive(Clone, Copy, PartialEq)]
 pub enum UnaryOperator {
     Plus,
     Minus,

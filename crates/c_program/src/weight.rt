@@ -2,6 +2,7 @@
 ghost use Rattle.std.specs.Prelude.{◌≡◌, ◌+◌, ◌++◌, length, map, sum_by, IfOk};
 ghost use Rattle.c_program.specs.Plain.{expression_of, expressions_of, place_of, condition_of, right_side_of, object_place_of};
 ghost use Rattle.c_program.specs.Plain.{thread_call_of, statement_of, function_of, program_of};
+ghost use Rattle.c_program.specs.declared.tree.LocalVariable.{LocalVariable};
 ghost use Rattle.c_program.specs.declared.weight.Node.{Node};
 ghost use Rattle.c_program.specs.Node.{node_of, node_view};
 ghost use Rattle.c_program.specs.Calls.{calls_of};
@@ -10,10 +11,10 @@ ghost use Rattle.c_program.specs.Counting.{capped};
 ghost use Rattle.c_program.specs.Weight.{object_place_weight, arguments_weight, right_side_weight, thread_call_weight};
 ghost use Rattle.c_program.specs.Weight.{statement_weight, own_weight};
 ghost use Rattle.c_program.specs.Counting.{amount_of, number_at, IsTable};
-ghost use Rattle.c_program.specs.Limits.{own_elements};
 
 use crate::tree::{
-    Condition, Expression, Function, ObjectPlace, Place, Program, RightSide, Statement, ThreadCall,
+    Condition, Expression, Function, LocalVariable, ObjectPlace, Place, Program, RightSide,
+    Statement, ThreadCall,
 };
 use std::alloc::{AllocError, Global};
 
@@ -195,11 +196,11 @@ pub enum Amount {
     LocalElements,
 }
 
-fn elements(function: &Function) -> u32
-    ensures { result ≡ capped (own_elements (function_of function.now)) }
+fn elements(locals: &[LocalVariable]) -> u32
+    ensures { result ≡ capped (sum_by (λ (l : LocalVariable). l.length) locals.now) }
 {
     let mut total = 0;
-    for local in &function.locals {
+    for local in locals {
         let length = local.length.min(u64::from(MOST)) as u32;
         total = plus(total, length);
     }
@@ -211,7 +212,7 @@ fn own(amount: Amount, function: &Function) -> u32
 {
     match amount {
         Amount::Weight => plus(of_statement(&function.body), 1),
-        Amount::LocalElements => elements(function),
+        Amount::LocalElements => elements(&function.locals),
     }
 }
 
