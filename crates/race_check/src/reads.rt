@@ -302,17 +302,7 @@ fn read_statement(
         Statement::Call(_, _, arguments) => read_all(arguments, &frame.locals, globals, list),
         Statement::Print(_, _, arguments) => read_all(arguments, &frame.locals, globals, list),
         Statement::Thread(_, call) => read_operands(call, &frame.locals, globals, list),
-        Statement::Declare(_, _, _)
-        | Statement::Done
-        | Statement::Sequence(_, _)
-        | Statement::Empty
-        | Statement::Block(_)
-        | Statement::If(_, _, _)
-        | Statement::While(_, _)
-        | Statement::DoWhile(_, _)
-        | Statement::For(_, _, _, _)
-        | Statement::Break
-        | Statement::Continue => Ok(()),
+        _ => Ok(()),
     }
 }
 
@@ -344,15 +334,7 @@ pub(crate) fn read_step(
             Item::Do(statement) => read_statement(statement, frame, globals, list),
             Item::Ask(condition) => read(first_operand(condition), &frame.locals, globals, list),
             Item::Store(_, place) => read_place(place, &frame.locals, globals, list),
-            Item::Hand(_)
-            | Item::Perform(_, _)
-            | Item::ThenBoth(_)
-            | Item::ThenEither(_)
-            | Item::ThenOpposite
-            | Item::Choose(_, _)
-            | Item::Turn(_)
-            | Item::Next(_)
-            | Item::Discard => Ok(()),
+            _ => Ok(()),
         },
     }
 }
