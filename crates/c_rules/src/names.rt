@@ -272,10 +272,8 @@ impl<'t> Scope<'t> {
     pub fn close_block(&mut self)
         ensures { self.new ≡ spec.closed self.old }
     {
-        if !self.outer.is_empty() {
-            let last = self.outer.len() - 1;
-            let outer = self.outer.remove(last);
-            let _left = mem::replace(&mut self.inner, outer);
+        if let Some(outer) = self.outer.pop() {
+            self.inner = outer;
         }
     }
 }
