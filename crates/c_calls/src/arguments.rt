@@ -185,32 +185,8 @@ pub fn is_usable(known: Known) -> bool
     }
 }
 
-/// An object, or an element of an array of them; its name stands at the offset.
-#[tactic(auto, unfolding(crate::specs::Arguments::object_at))]
-fn object_at(
-    alloc: Global,
-    found: &mut Findings,
-    offset: usize,
-    object: Object,
-    index: Option<resolved::Expression>,
-) -> Result<resolved::ObjectPlace, AllocError>
-    ensures { Walks object_place_of (spec.object_at offset object object.length (option_map expression_of index) found.old) result found.new }
-{
-    match (object.length, index) {
-        (None, None) => Ok(resolved::ObjectPlace::Single(object.number)),
-        (Some(length), Some(index)) => {
-            let index = Box::new(alloc, index)?;
-            Ok(resolved::ObjectPlace::Element(object.number, length, index))
-        }
-        (None, Some(_)) | (Some(_), None) => {
-            found.add(Rule::Kind, offset);
-            Ok(resolved::ObjectPlace::Single(object.number))
-        }
-    }
-}
-
 /// A place of an object of the kind; the argument's first byte is at the offset.
-#[tactic(auto, unfolding(crate::specs::Arguments::object_place, crate::specs::Arguments::object_named, crate::specs::Arguments::misused_object))]
+#[tactic(auto, unfolding(crate::specs::Arguments::object_place, crate::specs::Arguments::object_named, crate::specs::Arguments::misused_object, crate::specs::Arguments::object_at))]
 fn object_place(
     alloc: Global,
     scope: &Scope<'_>,
@@ -223,12 +199,20 @@ fn object_place(
 {
     let index = index(alloc, scope, found, place)?;
     let known = scope.look_up(place.name.bytes.as_slice());
-    match object_of(kind, known) {
-        Some(object) => object_at(alloc, found, place.name.offset, object, index),
-        None => {
-            found.add_if(is_unknown(known), Rule::Unknown, place.name.offset);
-            found.add_if(is_usable(known), Rule::Kind, offset);
-            Ok(resolved::ObjectPlace::Single(u32::MAX))
+    let Some(object) = object_of(kind, known) else {
+        found.add_if(is_unknown(known), Rule::Unknown, place.name.offset);
+        found.add_if(is_usable(known), Rule::Kind, offset);
+        return Ok(resolved::ObjectPlace::Single(u32::MAX));
+    };
+    match (object.length, index) {
+        (None, None) => Ok(resolved::ObjectPlace::Single(object.number)),
+        (Some(length), Some(index)) => {
+            let index = Box::new(alloc, index)?;
+            Ok(resolved::ObjectPlace::Element(object.number, length, index))
+        }
+        (None, Some(_)) | (Some(_), None) => {
+            found.add(Rule::Kind, place.name.offset);
+            Ok(resolved::ObjectPlace::Single(object.number))
         }
     }
 }

@@ -304,30 +304,8 @@ fn function_call(
     Ok((definition, values))
 }
 
-/// A call of a function of the text as a statement.
-#[tactic(auto, unfolding(crate::specs::Calls::function_statement))]
-fn function_statement(
-    alloc: Global,
-    scope: &Scope<'_>,
-    found: &mut Findings,
-    number: usize,
-    at: u32,
-    offset: usize,
-    arguments: &[Argument],
-) -> Result<Box<resolved::Statement>, AllocError>
-    ensures { Walks boxed_statement_of (spec.function_statement scope.now number at offset arguments.now found.old) result found.new }
-{
-    let (definition, values) = function_call(
-        alloc, scope, found, number, false, offset, arguments,
-    )?;
-    match definition {
-        Some(function) => resolved::Statement::Call(at, function, values).boxed(alloc),
-        None => resolved::Statement::Empty.boxed(alloc),
-    }
-}
-
 /// A call as a statement at the place.
-#[tactic(auto, unfolding(crate::specs::Calls::call, crate::specs::Calls::call_of, crate::specs::Calls::no_function))]
+#[tactic(auto, unfolding(crate::specs::Calls::call, crate::specs::Calls::call_of, crate::specs::Calls::no_function, crate::specs::Calls::function_statement))]
 pub fn call(
     alloc: Global,
     scope: &Scope<'_>,
@@ -345,7 +323,13 @@ pub fn call(
             library_call(alloc, scope, found, function, at, offset, arguments)
         }
         Known::Declared(Meaning::Function(number)) => {
-            function_statement(alloc, scope, found, number, at, offset, arguments)
+            let (definition, values) = function_call(
+                alloc, scope, found, number, false, offset, arguments,
+            )?;
+            match definition {
+                Some(function) => resolved::Statement::Call(at, function, values).boxed(alloc),
+                None => resolved::Statement::Empty.boxed(alloc),
+            }
         }
         _ => {
             found.add_if(is_unknown(known), Rule::Unknown, offset);
@@ -368,34 +352,8 @@ fn function_called<'e>(scope: &Scope<'_>, e: &'e Expression) -> Option<(usize, &
     }
 }
 
-/// The value of a call of a function of the text.
-#[tactic(auto, unfolding(crate::specs::Calls::right_call))]
-fn right_call(
-    alloc: Global,
-    scope: &Scope<'_>,
-    found: &mut Findings,
-    number: usize,
-    call: &Call,
-) -> Result<resolved::RightSide, AllocError>
-    ensures { Walks right_side_of (spec.right_call scope.now number call.now found.old) result found.new }
-{
-    let (definition, values) = function_call(
-        alloc,
-        scope,
-        found,
-        number,
-        true,
-        call.name.offset,
-        call.arguments.as_slice(),
-    )?;
-    match definition {
-        Some(function) => Ok(resolved::RightSide::Call(function, values)),
-        None => Ok(resolved::RightSide::Value(Box::new(alloc, null())?)),
-    }
-}
-
 /// A value that may be the value of a call: the right side of an assignment, an initialiser or the operand of a return.
-#[tactic(auto, unfolding(crate::specs::Calls::right_side, crate::specs::Calls::right_value))]
+#[tactic(auto, unfolding(crate::specs::Calls::right_side, crate::specs::Calls::right_value, crate::specs::Calls::right_call))]
 pub fn right_side(
     alloc: Global,
     scope: &Scope<'_>,
@@ -405,7 +363,21 @@ pub fn right_side(
     ensures { Walks right_side_of (spec.right_side scope.now e.now found.old) result found.new }
 {
     match function_called(scope, e) {
-        Some((number, call)) => right_call(alloc, scope, found, number, call),
+        Some((number, call)) => {
+            let (definition, values) = function_call(
+                alloc,
+                scope,
+                found,
+                number,
+                true,
+                call.name.offset,
+                call.arguments.as_slice(),
+            )?;
+            match definition {
+                Some(function) => Ok(resolved::RightSide::Call(function, values)),
+                None => Ok(resolved::RightSide::Value(Box::new(alloc, null())?)),
+            }
+        }
         None => {
             let value = Box::new(alloc, expression(alloc, scope, found, e)?)?;
             Ok(resolved::RightSide::Value(value))
