@@ -2,10 +2,10 @@
 use Rattle.std.proofs.Common.{◌≡◌, ℕ, ◌+◌, ◌*◌, ◌≤◌, true, false, [], ◌++◌, length, None, Some, refl, sym, ap, ◌∙◌, subst, arith, append-nil, append_assoc, length-append}
 use Rattle.std.specs.Prelude.{Option, Contains}
 use Rattle.std.proofs.lemmas.List.Elements.{Contains-append_left, Contains-append_right}
-use Rattle.c_program.specs.Tree.{Condition, Statement, Program}
+use Rattle.c_program.specs.Tree.{Expression, Condition, Statement, Program}
 use Rattle.c_program.specs.Limits.{print_count}
 use Rattle.c_program.specs.Calls.{calls_of}
-use Rattle.c_program.specs.Weight.{condition_weight}
+use Rattle.c_program.specs.Weight.{expression_weight, condition_weight}
 use Rattle.c_program.specs.Resolved.{IsCondition, IsStatement}
 use Rattle.thread_semantics.specs.Work.{Loop as WorkLoop, while_loop}
 use Rattle.code_following.specs.Following.{formats_of, print_formats}
@@ -41,6 +41,14 @@ shifted_at d more old mid fault shifts full = λ S w size fits is good now.
 pub opposite_at : (d inner : Condition) (c : Lowering) (fault : LoweringFault) → d ≡ Condition.Opposite inner → IsFullAt inner 0 c fault → IsFullAt d 0 c fault
 opposite_at d inner c fault is full = rw is (λ S w size fits ok good now.
     full_more fault (5 * (w + (condition_weight inner + 1)) + 0) (5 * (w + (condition_weight inner + 1 + 1)) + 0) (omega arith) (full S w size fits ok good now))
+
+-- the operand of a condition of one
+pub operand_at : (d : Condition) (offset : ℕ) (e : Expression) (c : Lowering) (fault : LoweringFault) → d ≡ Condition.Operand offset e →
+    IsFull (length c.block.operations + c.block.steps + (2 * expression_weight e + 1)) fault → IsFullAt d 0 c fault
+operand_at d offset e c fault is full = rw is (λ S w size fits ok good now.
+    let operations = now.size in
+    let steps = now.steps in
+    full_more fault (length c.block.operations + c.block.steps + (2 * expression_weight e + 1)) (5 * (w + (expression_weight e + 1)) + 0) (omega (arith, operations, steps)) full)
 
 labelled : (old a : Lowering) → a ≡ with_label old → Shifts old a
 labelled old a label = subst (Shifts old) (sym label) (label_relabels old).shifts

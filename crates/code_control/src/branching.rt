@@ -37,7 +37,7 @@ pub struct LoopLabels {
     pub leaving: usize,
 }
 
-#[tactic(auto, using(crate::proofs::Growing::two_labels, crate::proofs::Binding::two_new))]
+/// Two labels that lead nowhere yet.
 fn two_labels(code: &mut Lowering) -> Result<(usize, usize), AllocError>
     ensures relabels { OnOk result (doing.Relabels code.old code.new) }
     ensures labels { IfOk result (λ labels. branching.AreTwo labels.0 labels.1 code.old code.new) }
@@ -47,37 +47,7 @@ fn two_labels(code: &mut Lowering) -> Result<(usize, usize), AllocError>
     Ok((first, second))
 }
 
-#[tactic(auto, using(crate::proofs::Growing::three_labels))]
-fn choice_labels(code: &mut Lowering) -> Result<ChoiceLabels, AllocError>
-    ensures relabels { OnOk result (doing.Relabels code.old code.new) }
-    ensures labels { IfOk result (λ labels. branching.AreChoice labels code.old code.new) }
-{
-    let (if_true, if_false) = two_labels(code)?;
-    let join = code.new_label()?;
-    Ok(ChoiceLabels {
-        if_true,
-        if_false,
-        join,
-    })
-}
-
-#[tactic(auto, using(code_places::proofs::Growing::relabels_both))]
-fn loop_labels(code: &mut Lowering) -> Result<LoopLabels, AllocError>
-    ensures relabels { OnOk result (doing.Relabels code.old code.new) }
-    ensures labels { IfOk result (λ labels. branching.AreLoop labels code.old code.new) }
-{
-    let (head, body) = two_labels(code)?;
-    let (turning, leaving) = two_labels(code)?;
-    Ok(LoopLabels {
-        head,
-        body,
-        turning,
-        leaving,
-    })
-}
-
 /// An if up to its first statement.
-#[tactic(auto, using(crate::proofs::Growing::opens_choice, crate::proofs::Binding::choice_open))]
 pub fn open_choice(
     alloc: Global,
     code: &mut Lowering,
@@ -85,14 +55,18 @@ pub fn open_choice(
 ) -> Result<ChoiceLabels, LoweringFault>
     ensures { MatchResult result (λ labels. branching.OpensChoice (condition_of condition.now) labels code.old code.new) (IsFullAt (condition_of condition.now) 0 code.old) }
 {
-    let labels = choice_labels(code)?;
-    lower_condition(alloc, code, condition, labels.if_true, labels.if_false)?;
-    code.bind(alloc, labels.if_true)?;
-    Ok(labels)
+    let (if_true, if_false) = two_labels(code)?;
+    let join = code.new_label()?;
+    lower_condition(alloc, code, condition, if_true, if_false)?;
+    code.bind(alloc, if_true)?;
+    Ok(ChoiceLabels {
+        if_true,
+        if_false,
+        join,
+    })
 }
 
 /// What stands between the two statements of an if.
-#[tactic(auto, using(crate::proofs::Growing::turns_choice, crate::proofs::Binding::leaps_open, crate::proofs::Binding::open_target))]
 pub fn turn_choice(
     alloc: Global,
     code: &mut Lowering,
@@ -108,17 +82,21 @@ pub fn turn_choice(
 }
 
 /// The head of a loop.
-#[tactic(auto, using(crate::proofs::Growing::opens_loop))]
 pub fn open_loop(alloc: Global, code: &mut Lowering) -> Result<LoopLabels, AllocError>
     ensures { IfOk result (λ labels. branching.OpensLoop labels code.old code.new) }
 {
-    let labels = loop_labels(code)?;
-    code.begin(alloc, labels.head)?;
-    Ok(labels)
+    let (head, body) = two_labels(code)?;
+    let (turning, leaving) = two_labels(code)?;
+    code.begin(alloc, head)?;
+    Ok(LoopLabels {
+        head,
+        body,
+        turning,
+        leaving,
+    })
 }
 
 /// The head of a while or a for, up to its body.
-#[tactic(auto, using(crate::proofs::Growing::opens_turn, crate::proofs::Binding::body_open))]
 pub fn open_turn(
     alloc: Global,
     code: &mut Lowering,
@@ -133,7 +111,6 @@ pub fn open_turn(
 }
 
 /// The end of a while or a for.
-#[tactic(auto, using(crate::proofs::Growing::closes_turn, crate::proofs::Binding::leaps_open))]
 pub fn close_turn(alloc: Global, code: &mut Lowering, labels: LoopLabels) -> Result<(), AllocError>
     requires head { spec.IsTarget labels.head code.old.stages }
     requires leaving { spec.IsOpen labels.leaving code.old.stages }
@@ -144,7 +121,6 @@ pub fn close_turn(alloc: Global, code: &mut Lowering, labels: LoopLabels) -> Res
 }
 
 /// The condition at the end of a do, if it is reached.
-#[tactic(auto, using(crate::proofs::Growing::asks_not, crate::proofs::Growing::asks_there))]
 fn ask_reached(
     alloc: Global,
     code: &mut Lowering,
@@ -156,12 +132,10 @@ fn ask_reached(
     if !code.is_reached() {
         return Ok(());
     }
-    lower_condition(alloc, code, condition, labels.head, labels.leaving)?;
-    Ok(())
+    lower_condition(alloc, code, condition, labels.head, labels.leaving)
 }
 
 /// The end of a do.
-#[tactic(auto, using(crate::proofs::Growing::closes_do, crate::proofs::Binding::leaving_open))]
 pub fn close_do(
     alloc: Global,
     code: &mut Lowering,
@@ -180,7 +154,6 @@ pub fn close_do(
 }
 
 /// The head of a for, whose last part stands before its body in the text.
-#[tactic(auto, using(crate::proofs::Growing::opens_for))]
 pub fn open_for(
     alloc: Global,
     code: &mut Lowering,
@@ -196,7 +169,6 @@ pub fn open_for(
 }
 
 /// The place of the last part of a for, whose first printf has that number.
-#[tactic(auto, using(crate::proofs::Growing::turns_for, crate::proofs::Binding::site_open))]
 pub fn turn_for(
     alloc: Global,
     code: &mut Lowering,
@@ -211,7 +183,6 @@ pub fn turn_for(
 }
 
 /// The end of a for, after whose body that is the number of the next printf.
-#[tactic(auto, using(crate::proofs::Growing::closes_for, crate::proofs::Binding::site_open, crate::proofs::Binding::site_target))]
 pub fn close_for(
     alloc: Global,
     code: &mut Lowering,

@@ -14,7 +14,6 @@ use straight_code::expressions::lower_expression;
 use straight_code::fault::LoweringFault;
 
 /// A step that evaluates an operand of a condition, and leads to the first label where it isn't 0.
-#[tactic(auto, using(crate::proofs::Deciding::tests_branch))]
 fn lower_test(
     alloc: Global,
     code: &mut Lowering,
@@ -33,7 +32,6 @@ fn lower_test(
 
 /// A condition leads to the first label where it is true. The right operand of `&&` and `||` is evaluated only where it
 /// decides (C99 6.5.13, 6.5.14).
-#[tactic(auto, using(crate::proofs::Deciding::condition_steps))]
 pub fn lower_condition(
     alloc: Global,
     code: &mut Lowering,
@@ -44,10 +42,7 @@ pub fn lower_condition(
     ensures { MatchResult result (λ _. deciding.Decides (condition_of condition.now) if_true if_false code.old code.new) (IsFullAt (condition_of condition.now) 0 code.old) }
 {
     match condition {
-        Condition::Operand(_, operand) => {
-            lower_test(alloc, code, operand, if_true, if_false)?;
-            Ok(())
-        }
+        Condition::Operand(_, operand) => lower_test(alloc, code, operand, if_true, if_false),
         Condition::Both(first, second) => {
             let next = code.new_label()?;
             lower_condition(alloc, code, first, next, if_false)?;

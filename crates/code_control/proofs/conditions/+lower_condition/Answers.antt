@@ -4,8 +4,9 @@ use Rattle.c_program.specs.Plain.{condition_of, expression_of}
 use Rattle.c_program.specs.Tree.{Condition}
 use Rattle.c_program.specs.Weight.{condition_weight}
 use Rattle.c_program.specs.Resolved.{IsCondition}
+use Rattle.code_places.proofs.Opening.{label_open}
 use Rattle.code_control.proofs.Deciding.{operand_decides, opposite_decides, both_decides, either_decides}
-use Rattle.code_control.proofs.Filling.{opposite_at, first_at, second_at}
+use Rattle.code_control.proofs.Filling.{operand_at, opposite_at, first_at, second_at}
 use Rattle.code_control.proofs.conditions.+lower_condition.Goals as goal
 
 pub returns-in_ok-begin-in-Both : goal.returns-in_ok-begin-in-Both
@@ -54,10 +55,13 @@ returns-in-Opposite t c =
     is decides)
     (λ fault full. opposite_at (condition_of c.args.condition.now) (condition_of c.deref-in-Opposite.result.now) c.args.code.now fault is full)
 
-pub returns-in_ok-lower_test-in-Operand : goal.returns-in_ok-lower_test-in-Operand
-returns-in_ok-lower_test-in-Operand t c =
-    operand_decides (condition_of c.args.condition.now) c.in-Operand.field-0 (expression_of c.deref.result.now) c.args.if_true c.args.if_false c.args.code.now c.lower_test.new.code
-    (ap condition_of c.in-Operand.is ∙ ap (λ z. Condition.Operand c.in-Operand.field-0 (expression_of z)) (sym c.deref.ensures)) c.in_ok-lower_test-in-Operand.ensures
+pub returns-in-Operand : goal.returns-in-Operand
+returns-in-Operand t c =
+    let is = ap condition_of c.in-Operand.is ∙ ap (λ z. Condition.Operand c.in-Operand.field-0 (expression_of z)) (sym c.deref.ensures) in
+    MatchResult-weaker c.lower_test.result c.lower_test.ensures
+    (λ _ tests.
+    operand_decides (condition_of c.args.condition.now) c.in-Operand.field-0 (expression_of c.deref.result.now) c.args.if_true c.args.if_false c.args.code.now c.lower_test.new.code is tests)
+    (λ fault full. operand_at (condition_of c.args.condition.now) c.in-Operand.field-0 (expression_of c.deref.result.now) c.args.code.now fault is full)
 
 pub returns-in_err-lower_condition-in-Both : goal.returns-in_err-lower_condition-in-Both
 returns-in_err-lower_condition-in-Both t c =
@@ -74,3 +78,33 @@ returns-in_err-lower_condition-in-Either t c =
     rw (p.1, p.2)
     (first_at (condition_of c.args.condition.now) (condition_of c.deref-in-Either.result.now) (condition_of c.in-Either.second.value) c.args.code.now c.new_label-in-Either.new.self _
     (ap condition_weight is) (λ S ok. subst (IsCondition S.program S.function) is ok) c.in_ok-next-in-Either.ensures.after c.in_err-lower_condition-in-Either.ensures)
+
+pub returns-in_err-next-in-Both : goal.returns-in_err-next-in-Both
+returns-in_err-next-in-Both t c =
+    let p = err_from_is_err_and c.from_residual.result c.from_residual.ensures.1 in
+    rw (p.1, p.2) (λ S w size fits ok good now is. cc)
+
+pub returns-in_err-begin-in-Both : goal.returns-in_err-begin-in-Both
+returns-in_err-begin-in-Both t c =
+    let p = err_from_is_err_and c.from_residual-in_err-begin-in-Both.result c.from_residual-in_err-begin-in-Both.ensures.1 in
+    rw (p.1, p.2) (λ S w size fits ok good now is. cc)
+
+pub returns-in_err-next-in-Either : goal.returns-in_err-next-in-Either
+returns-in_err-next-in-Either t c =
+    let p = err_from_is_err_and c.from_residual-in_err-next-in-Either.result c.from_residual-in_err-next-in-Either.ensures.1 in
+    rw (p.1, p.2) (λ S w size fits ok good now is. cc)
+
+pub returns-in_err-begin-in-Either : goal.returns-in_err-begin-in-Either
+returns-in_err-begin-in-Either t c =
+    let p = err_from_is_err_and c.from_residual-in_err-begin-in-Either.result c.from_residual-in_err-begin-in-Either.ensures.1 in
+    rw (p.1, p.2) (λ S w size fits ok good now is. cc)
+
+pub begin-requires : goal.begin-requires
+begin-requires t c =
+    c.in_ok-lower_condition-in-Both.ensures.advances.open_ c.in_ok-next-in-Both.next (λ m. m)
+    (label_open c.in_ok-next-in-Both.next c.args.code.now c.new_label.new.self c.in_ok-next-in-Both.ensures.label c.in_ok-next-in-Both.ensures.after)
+
+pub begin-requires-in-Either : goal.begin-requires-in-Either
+begin-requires-in-Either t c =
+    c.in_ok-lower_condition-in-Either.ensures.advances.open_ c.in_ok-next-in-Either.next (λ m. m)
+    (label_open c.in_ok-next-in-Either.next c.args.code.now c.new_label-in-Either.new.self c.in_ok-next-in-Either.ensures.label c.in_ok-next-in-Either.ensures.after)
