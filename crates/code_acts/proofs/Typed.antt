@@ -120,7 +120,7 @@ module _ (P : Program) (f : Function) (o : Objects) (are : AreObjects P o) where
     first = first_typed (barrier_elements P) (first_barrier P) o.barriers barrier (barrier_placed P f o are barrier at) are.few_barriers;
   }
 
-weight_is : (call : ThreadCall) → thread_call_weight call ≡ object_place_weight (place_of call) + sum_by expression_weight (values_of call)
+pub weight_is : (call : ThreadCall) → thread_call_weight call ≡ object_place_weight (place_of call) + sum_by expression_weight (values_of call)
 weight_is (ThreadCall.Create thread routine argument) = ap (λ k. object_place_weight thread + k) (let s = sum_by-cons expression_weight argument [] in omega (arith, s))
 weight_is (ThreadCall.Join thread) = omega arith
 weight_is (ThreadCall.MutexInit mutex) = omega arith
@@ -132,7 +132,7 @@ weight_is (ThreadCall.BarrierDestroy barrier) = omega arith
 weight_is (ThreadCall.BarrierWait barrier) = omega arith
 
 -- the operations of an object's number
-number_count : (homes : List Home) (n first : ℕ) (place : ObjectPlace) (old new : OpenBlock) → PutsNumber homes n first place old new →
+pub number_count : (homes : List Home) (n first : ℕ) (place : ObjectPlace) (old new : OpenBlock) → PutsNumber homes n first place old new →
     length new.operations ≤ length old.operations + (2 * object_place_weight place + 3)
 number_count homes n first (ObjectPlace.Single object) old new same = let e = ap (λ (b : OpenBlock). length b.operations) same in omega (arith, e)
 number_count homes n first (ObjectPlace.Element object length_ index) old new w = let c = w.works.count in omega (arith, c)

@@ -39,8 +39,10 @@ fn element_number(
         (acts.number_expression first (tree.ObjectPlace.Element object length (expression_of index.now))) block.old block.new a) }
     ensures full { IfErr result (IsFull (length block.old.operations + (2 * expression_weight (expression_of index.now) + 2))) }
 {
-    let value = lower_expression(alloc, homes, block, index)?;
-    let left = converted(alloc, &value, CType::LONG)?;
+    let left = {
+        let value = lower_expression(alloc, homes, block, index)?;
+        converted(alloc, &value, CType::LONG)?
+    };
     let right = plain(alloc, Source::Constant(CType::LONG, i128::from(first)));
     let operation = Operation::Binary {
         operator: BinaryOperator::Add,
@@ -62,26 +64,7 @@ fn put_word(
     ensures { IfOk result (λ _. assigning.StoresVariable variable long_int value.now block.old block.new) }
 {
     let word = converted(alloc, value, CType::LONG)?;
-    block.set(variable, word)?;
-    Ok(())
-}
-
-/// The number of an element is put into a variable of 64 bits.
-fn lower_element(
-    alloc: Global,
-    homes: &[Home],
-    block: &mut OpenBlock,
-    variable: u32,
-    first: u32,
-    index: &Expression,
-) -> Result<(), LoweringFault>
-    ensures puts { IfOk result (λ _. (object length : ℕ) → acts.PutsNumber homes.now variable first
-        (tree.ObjectPlace.Element object length (expression_of index.now)) block.old block.new) }
-    ensures full { IfErr result (IsFull (length block.old.operations + (2 * expression_weight (expression_of index.now) + 2))) }
-{
-    let number = element_number(alloc, homes, block, first, index)?;
-    put_word(alloc, block, variable, &number)?;
-    Ok(())
+    block.set(variable, word)
 }
 
 /// The number of an object: where it is an element, its number is put into the variable.
@@ -100,26 +83,11 @@ fn lower_object(
     match place {
         ObjectPlace::Single(_) => Ok(ActOperand::Constant(CType::LONG, i128::from(first))),
         ObjectPlace::Element(_, _, index) => {
-            lower_element(alloc, homes, block, variable, first, index)?;
+            let number = element_number(alloc, homes, block, first, index)?;
+            put_word(alloc, block, variable, &number)?;
             Ok(ActOperand::Variable(variable, CType::LONG))
         }
     }
-}
-
-/// What the expression comes to is put into a variable of 64 bits.
-fn lower_word(
-    alloc: Global,
-    homes: &[Home],
-    block: &mut OpenBlock,
-    variable: u32,
-    expression: &Expression,
-) -> Result<(), LoweringFault>
-    ensures puts { IfOk result (λ _. acts.PutsWord homes.now variable (expression_of expression.now) block.old block.new) }
-    ensures full { IfErr result (IsFull (length block.old.operations + (2 * expression_weight (expression_of expression.now) + 1))) }
-{
-    let value = lower_expression(alloc, homes, block, expression)?;
-    put_word(alloc, block, variable, &value)?;
-    Ok(())
 }
 
 /// The object that a call names.
@@ -183,8 +151,7 @@ fn value_of(call: &ThreadCall) -> Option<&Expression>
     }
 }
 
-/// The argument of a create, or the count of a barrier, is put into a variable of 64 bits.
-#[tactic(auto, using(crate::proofs::Preparing::none_put, crate::proofs::Preparing::value_put))]
+/// What the argument of a create, or the count of a barrier, comes to is put into a variable of 64 bits.
 fn lower_value(
     alloc: Global,
     homes: &[Home],
@@ -195,10 +162,11 @@ fn lower_value(
     ensures puts { IfOk result (λ _. acts.PutsIfAny homes.now variable (acts.values_of (thread_call_of call.now)) block.old block.new) }
     ensures full { IfErr result (IsFull (length block.old.operations + (2 * thread_call_weight (thread_call_of call.now) + 1))) }
 {
-    if let Some(value) = value_of(call) {
-        lower_word(alloc, homes, block, variable, value)?;
+    let Some(value) = value_of(call) else {
         return Ok(());
-    }
+    };
+    let value = lower_expression(alloc, homes, block, value)?;
+    put_word(alloc, block, variable, &value)?;
     Ok(())
 }
 
@@ -298,9 +266,9 @@ pub fn lower_print(
         lower_values(alloc, homes, &mut code.block, first, words, arguments)?;
     }
     code.block.step()?;
-    let values = word_operands(alloc, first, arguments.len())?;
     let site = code.site();
     code.skip_sites(1)?;
+    let values = word_operands(alloc, first, arguments.len())?;
     code.act(alloc, Act::Print { site, values })?;
     Ok(())
 }
