@@ -1,4 +1,5 @@
 pub mod Ample
+mod Filling
 pub mod Proceeding
 pub mod Roots
 pub mod Sizes

@@ -1,5 +1,7 @@
 -- The code of statements without others in them.
 use Rattle.std.proofs.Common.{◌≡◌, ℕ, suc, ◌+◌, ◌*◌, List, [], ◌∷◌, Option, Some, refl, sym, ap, ◌∙◌, subst, arith, append-nil}
+use Rattle.std.specs.Prelude.{OnOk, IfErr, MatchResult}
+use Rattle.std.proofs.Common.{Result, Ok, Err}
 use Rattle.hls_ints.specs.Types.{IntegerType}
 use Rattle.c_program.specs.declared.tree.BinaryOperator.{BinaryOperator}
 use Rattle.c_program.specs.Tree.{Expression, Place, RightSide, Statement, Program}
@@ -48,6 +50,20 @@ update_at P place operator ty e homes old new housed a works same offset around 
     works_typed S w (inlined_weight S.program (Statement.Update offset place operator ty e)) homes (λ S. IsUpdate S.program S.function place operator ty e) old new same housed
     (omega arith) a.steps works suits.fits suits.resolved
     now)
+
+-- what follows from two clauses of a last call
+pub on_ok_both : {T E P Q R : Type 0} (r : Result T E) → (P → Q → R) → OnOk r P → OnOk r Q → OnOk r R
+on_ok_both (Ok x) f p q = f p q
+on_ok_both (Err y) f p q = tt
+
+-- the two cases of a last call
+pub match_ok : {T E : Type 0} (P : Type 0) (Q : E → Type 0) (r : Result T E) → MatchResult r (λ _. P) Q → OnOk r P
+match_ok P Q (Ok x) h = h
+match_ok P Q (Err y) h = tt
+
+pub match_err : {T E : Type 0} (P : T → Type 0) (Q : E → Type 0) (r : Result T E) → MatchResult r P Q → IfErr r Q
+match_err P Q (Ok x) h = tt
+match_err P Q (Err y) h = h
 
 -- A declarator: no element of the local is written any more.
 

@@ -7,7 +7,6 @@ ghost use Rattle.c_program.specs.Resolved.{IsResolved};
 ghost use Rattle.c_program.specs.Weight.{thread_functions};
 ghost use Rattle.code_following.specs.Typed.{IsThreadCode};
 ghost use Rattle.ir_lower.specs.Codes as spec;
-ghost use Rattle.straight_code.specs.Room.{IsFull};
 
 use crate::statements::lower_body;
 use block_ir::code::ThreadCode;
@@ -36,12 +35,17 @@ fn argument_of(program: &Program, function: usize, rooms: &Rooms) -> Option<u32>
     }
 }
 
-/// The code of a thread function, as it is made.
-fn code_of(alloc: Global, program: &Program, function: usize) -> Result<ThreadCode, LoweringFault>
+/// The code of one thread function, which is main or a start routine that a create names, with that of each function that it
+/// calls. Errors: out of memory, and too large, which it is not within the limits.
+pub fn lower_function(
+    alloc: Global,
+    program: &Program,
+    function: usize,
+) -> Result<ThreadCode, LoweringFault>
     requires resolved { IsResolved (program_of program.now) }
     requires runs { Contains (thread_functions (program_of program.now)) function }
-    ensures done { IfOk result (spec.IsCodeOf program.now function) }
-    ensures full { IfErr result (IsFull (spec.function_needs (program_of program.now) function)) }
+    ensures code { IfOk result (IsThreadCode (program_of program.now) function) }
+    ensures ample { IfErr result (λ e. IsWithinLimits (program_of program.now) → e ≢ LoweringFault.TooLarge) }
 {
     let Some(found) = at(&program.functions, function) else {
         unreachable!();
@@ -55,23 +59,6 @@ fn code_of(alloc: Global, program: &Program, function: usize) -> Result<ThreadCo
     let start = code.start(alloc)?;
     lower_body(alloc, program, &mut code, &found.body)?;
     let code = code.finish(alloc, start, argument, names)?;
-    Ok(code)
-}
-
-/// The code of one thread function, which is main or a start routine that a create names, with that of each function that it
-/// calls. Errors: out of memory, and too large, which it is not within the limits.
-#[tactic(auto, using(crate::proofs::Whole::code_is, crate::proofs::Ample::function_ample))]
-pub fn lower_function(
-    alloc: Global,
-    program: &Program,
-    function: usize,
-) -> Result<ThreadCode, LoweringFault>
-    requires resolved { IsResolved (program_of program.now) }
-    requires runs { Contains (thread_functions (program_of program.now)) function }
-    ensures code { IfOk result (IsThreadCode (program_of program.now) function) }
-    ensures ample { IfErr result (λ e. IsWithinLimits (program_of program.now) → e ≢ LoweringFault.TooLarge) }
-{
-    let code = code_of(alloc, program, function)?;
     Ok(code)
 }
 

@@ -9,13 +9,12 @@ ghost use Rattle.code_places.specs.Needing.{IsFullFor};
 ghost use Rattle.straight_code.specs.Room.{IsFull};
 ghost use Rattle.ir_lower.specs.Taken.{is_simple, is_taken, is_value, is_value_or_none};
 
-use c_program::tree::{BinaryOperator, Expression, Place, RightSide, Statement};
+use c_program::tree::{Place, RightSide, Statement};
 use code_acts::acts::{lower_print, lower_thread_call};
 use code_calls::returning::{lower_return, return_nothing};
 use code_places::lowering::Lowering;
 use code_places::targets::Loop;
-use hls_ints::CType;
-use std::alloc::{AllocError, Global};
+use std::alloc::Global;
 use straight_code::assignments::{lower_assignment, lower_update};
 use straight_code::fault::LoweringFault;
 
@@ -34,93 +33,7 @@ fn lower_assign(
 {
     match right {
         RightSide::Value(right) => {
-            lower_assignment(alloc, code.homes.as_slice(), &mut code.block, place, right)?;
-            Ok(())
-        }
-        RightSide::Call(_, _) => unreachable!(),
-    }
-}
-
-fn lower_compound(
-    alloc: Global,
-    code: &mut Lowering,
-    place: &Place,
-    operator: BinaryOperator,
-    ty: CType,
-    right: &Expression,
-) -> Result<(), LoweringFault>
-    ensures labels { OnOk result ((around : _) → doing.Proceeds around code.old code.new) }
-    ensures lowers { IfOk result (λ _. (offset : ℕ) (P : _) (around : _) → doing.LowersHere P around
-        (tree.Statement.Update offset (place_of place.now) operator ty (expression_of right.now)) code.old code.new) }
-    ensures full { IfErr result (IsFull
-        (length code.old.block.operations + code.old.block.steps + 4 * (place_weight (place_of place.now) + expression_weight (expression_of right.now) + 2))) }
-{
-    let homes = code.homes.as_slice();
-    lower_update(alloc, homes, &mut code.block, place, operator, ty, right)?;
-    Ok(())
-}
-
-/// A declarator without an initialiser: a step that does nothing here.
-#[tactic(auto, using(crate::proofs::Stepping::declare_at))]
-fn lower_declare(code: &mut Lowering) -> Result<(), LoweringFault>
-    ensures labels { OnOk result ((around : _) → doing.Proceeds around code.old code.new) }
-    ensures lowers { IfOk result (λ _. (offset local operators : ℕ) (P : _) (around : _) → doing.LowersHere P around (tree.Statement.Declare offset local operators) code.old code.new) }
-    ensures full { IfErr result (IsFull (code.old.block.steps + 1)) }
-{
-    code.block.step()?;
-    Ok(())
-}
-
-/// A break.
-#[tactic(auto, using(crate::proofs::Stepping::break_at))]
-fn lower_break(alloc: Global, code: &mut Lowering, around: Option<Loop>) -> Result<(), AllocError>
-    requires targets { doing.AreTargets around code.old.stages }
-    requires inside { is_some around ≡ true }
-    requires reached { code.old.reached ≡ true }
-    ensures labels { OnOk result (doing.Proceeds around code.old code.new) }
-    ensures lowers { OnOk result ((P : _) → doing.LowersHere P around tree.Statement.Break code.old code.new) }
-{
-    let Some(labels) = around else {
-        unreachable!();
-    };
-    code.jump(alloc, labels.leaving)?;
-    Ok(())
-}
-
-/// A continue.
-#[tactic(auto, using(crate::proofs::Stepping::continue_at))]
-fn lower_continue(
-    alloc: Global,
-    code: &mut Lowering,
-    around: Option<Loop>,
-) -> Result<(), AllocError>
-    requires targets { doing.AreTargets around code.old.stages }
-    requires inside { is_some around ≡ true }
-    requires reached { code.old.reached ≡ true }
-    ensures labels { OnOk result (doing.Proceeds around code.old code.new) }
-    ensures lowers { OnOk result ((P : _) → doing.LowersHere P around tree.Statement.Continue code.old code.new) }
-{
-    let Some(labels) = around else {
-        unreachable!();
-    };
-    code.jump(alloc, labels.turning)?;
-    Ok(())
-}
-
-/// A return of what is no call.
-fn lower_value(alloc: Global, code: &mut Lowering, right: &RightSide) -> Result<(), LoweringFault>
-    requires value { is_value (right_side_of right.now) ≡ true }
-    requires back { doing.IsBackTarget code.old.back code.old.stages }
-    requires reached { code.old.reached ≡ true }
-    ensures labels { OnOk result ((around : _) → doing.Proceeds around code.old code.new) }
-    ensures lowers { IfOk result (λ _. (offset : ℕ) (P : _) (around : _) → doing.LowersHere P around (tree.Statement.Return offset (Some (right_side_of right.now))) code.old code.new) }
-    ensures full { IfErr result (IsFull
-        (length code.old.block.operations + code.old.block.steps + length code.old.variables + 4 * right_side_weight (right_side_of right.now) + 1)) }
-{
-    match right {
-        RightSide::Value(right) => {
-            lower_return(alloc, code, right)?;
-            Ok(())
+            lower_assignment(alloc, code.homes.as_slice(), &mut code.block, place, right)
         }
         RightSide::Call(_, _) => unreachable!(),
     }
@@ -141,14 +54,11 @@ fn lower_returned(
         (length code.old.block.operations + code.old.block.steps + length code.old.variables + 4 * returned_weight (returned_of right.now) + 1)) }
 {
     match right {
-        None => {
-            return_nothing(alloc, code)?;
-            Ok(())
-        }
-        Some(right) => {
-            lower_value(alloc, code, right)?;
-            Ok(())
-        }
+        None => return_nothing(alloc, code),
+        Some(right) => match right {
+            RightSide::Value(right) => lower_return(alloc, code, right),
+            RightSide::Call(_, _) => unreachable!(),
+        },
     }
 }
 
@@ -171,38 +81,29 @@ pub fn lower_simple(
     match statement {
         Statement::Done => Ok(()),
         Statement::Empty => Ok(()),
-        Statement::Declare(_, _, _) => {
-            lower_declare(code)?;
-            Ok(())
-        }
-        Statement::Assign(_, place, right) => {
-            lower_assign(alloc, code, place, right)?;
-            Ok(())
-        }
+        Statement::Declare(_, _, _) => code.block.step(),
+        Statement::Assign(_, place, right) => lower_assign(alloc, code, place, right),
         Statement::Update(_, place, operator, ty, right) => {
-            lower_compound(alloc, code, place, *operator, *ty, right)?;
-            Ok(())
+            let homes = code.homes.as_slice();
+            lower_update(alloc, homes, &mut code.block, place, *operator, *ty, right)
         }
         Statement::Break => {
-            lower_break(alloc, code, around)?;
+            let Some(labels) = around else {
+                unreachable!();
+            };
+            code.jump(alloc, labels.leaving)?;
             Ok(())
         }
         Statement::Continue => {
-            lower_continue(alloc, code, around)?;
+            let Some(labels) = around else {
+                unreachable!();
+            };
+            code.jump(alloc, labels.turning)?;
             Ok(())
         }
-        Statement::Return(_, right) => {
-            lower_returned(alloc, code, right)?;
-            Ok(())
-        }
-        Statement::Print(_, format, arguments) => {
-            lower_print(alloc, code, format, arguments)?;
-            Ok(())
-        }
-        Statement::Thread(_, call) => {
-            lower_thread_call(alloc, code, call)?;
-            Ok(())
-        }
+        Statement::Return(_, right) => lower_returned(alloc, code, right),
+        Statement::Print(_, format, arguments) => lower_print(alloc, code, format, arguments),
+        Statement::Thread(_, call) => lower_thread_call(alloc, code, call),
         _ => unreachable!(),
     }
 }

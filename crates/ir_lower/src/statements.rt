@@ -51,10 +51,7 @@ pub fn lower_statement(
         return Ok(());
     }
     match rest {
-        Statement::Block(body) => {
-            lower_statement(alloc, program, depth, code, around, body)?;
-            Ok(())
-        }
+        Statement::Block(body) => lower_statement(alloc, program, depth, code, around, body),
         Statement::If(condition, consequent, alternative) => {
             let labels = open_choice(alloc, code, condition)?;
             lower_statement(alloc, program, depth, code, around, consequent)?;
@@ -80,8 +77,7 @@ pub fn lower_statement(
                 turning: labels.turning,
             };
             lower_statement(alloc, program, depth, code, Some(inside), body)?;
-            close_do(alloc, code, condition, labels)?;
-            Ok(())
+            close_do(alloc, code, condition, labels)
         }
         Statement::For(first, condition, last, body) => {
             lower_statement(alloc, program, depth, code, None, first)?;
@@ -99,41 +95,26 @@ pub fn lower_statement(
             Ok(())
         }
         Statement::Call(_, function, arguments) => {
-            lower_call(alloc, program, depth, code, *function, arguments)?;
-            Ok(())
+            lower_call(alloc, program, depth, code, *function, arguments)
         }
         Statement::Assign(_, place, right) => match right {
-            RightSide::Value(_) => {
-                lower_simple(alloc, code, around, rest)?;
-                Ok(())
-            }
+            RightSide::Value(_) => lower_simple(alloc, code, around, rest),
             RightSide::Call(function, arguments) => {
                 lower_call(alloc, program, depth, code, *function, arguments)?;
-                lower_delivery(alloc, code, place)?;
-                Ok(())
+                lower_delivery(alloc, code, place)
             }
         },
         Statement::Return(_, right) => match right {
-            None => {
-                lower_simple(alloc, code, around, rest)?;
-                Ok(())
-            }
+            None => lower_simple(alloc, code, around, rest),
             Some(value) => match value {
-                RightSide::Value(_) => {
-                    lower_simple(alloc, code, around, rest)?;
-                    Ok(())
-                }
+                RightSide::Value(_) => lower_simple(alloc, code, around, rest),
                 RightSide::Call(function, arguments) => {
                     lower_call(alloc, program, depth, code, *function, arguments)?;
-                    lower_handing(alloc, code)?;
-                    Ok(())
+                    lower_handing(alloc, code)
                 }
             },
         },
-        _ => {
-            lower_simple(alloc, code, around, rest)?;
-            Ok(())
-        }
+        _ => lower_simple(alloc, code, around, rest),
     }
 }
 
@@ -161,8 +142,7 @@ fn lower_call(
     };
     let caller = open_call(alloc, code, number as usize, function, arguments)?;
     lower_statement(alloc, program, depth - 1, code, None, &function.body)?;
-    close_call(alloc, code, caller)?;
-    Ok(())
+    close_call(alloc, code, caller)
 }
 
 /// The code of a function's body, and of its closing brace.
@@ -180,6 +160,5 @@ pub fn lower_body(
 {
     let depth = program.functions.len();
     lower_statement(alloc, program, depth, code, None, body)?;
-    return_reached(alloc, code)?;
-    Ok(())
+    return_reached(alloc, code)
 }

@@ -1,15 +1,31 @@
-use Rattle.std.proofs.Common.{refl, sym, ap, ◌∙◌}
+use Rattle.std.proofs.Common.{◌+◌, ◌*◌, length, refl, sym, ap, ◌∙◌, arith}
+use Rattle.std.proofs.lemmas.Result.{on_ok_weaker, IfErr-weaker}
 use Rattle.c_program.specs.Plain.{expression_of, place_of, right_side_of}
 use Rattle.c_program.specs.Tree.{RightSide}
-use Rattle.ir_lower.proofs.Stepping.{assign_at}
+use Rattle.c_program.specs.Weight.{expression_weight, place_weight, right_side_weight}
+use Rattle.straight_code.proofs.Room.{full_more}
 use Rattle.code_places.proofs.Proceeding.{proceeds_same}
+use Rattle.ir_lower.proofs.Stepping.{assign_at, on_ok_both}
 use Rattle.ir_lower.proofs.simple.lower_assign.Goals as goal
 
-pub returns-clause-lowers : goal.returns-clause-lowers
-returns-clause-lowers c = λ offset P around.
-    assign_at P (place_of c.args.place.now) (right_side_of c.args.right.now) (expression_of c.deref.result.now) c.as_slice.result.now c.args.code.now _
-    (ap right_side_of c.in-Value.is ∙ ap (λ z. RightSide.Value (expression_of z)) (sym c.deref.ensures))
-    c.as_slice.ensures c.in_ok-lower_assignment-in-Value.ensures.assigns c.in_ok-lower_assignment-in-Value.ensures.typed refl offset around
-
-pub returns-clause-labels : goal.returns-clause-labels
-returns-clause-labels c = λ around. proceeds_same c.args.code.now _ refl refl refl around
+pub returns : goal.returns
+returns c =
+    let old = c.args.code.now in
+    let new = record old { block = c.lower_assignment.new.block } in
+    let place = place_of c.args.place.now in
+    let e = expression_of c.deref.result.now in
+    let is = ap right_side_of c.in-Value.is ∙ ap (λ z. RightSide.Value (expression_of z)) (sym c.deref.ensures) in
+    let weighs = ap right_side_weight is in
+    record {
+      lowers =
+          on_ok_both c.lower_assignment.result
+          (λ assigns typed offset P around. assign_at P place (right_side_of c.args.right.now) e c.as_slice.result.now old new is c.as_slice.ensures assigns typed refl offset around)
+          c.lower_assignment.ensures.assigns c.lower_assignment.ensures.typed;
+      full =
+          IfErr-weaker c.lower_assignment.result _ _
+          (λ fault.
+          full_more fault (length old.block.operations + old.block.steps + 4 * (place_weight place + expression_weight e + 1))
+          (length old.block.operations + old.block.steps + 4 * (place_weight place + right_side_weight (right_side_of c.args.right.now) + 1)) (omega (arith, weighs)))
+          c.lower_assignment.ensures.full;
+      labels = on_ok_weaker c.lower_assignment.result (λ _ around. proceeds_same old new refl refl refl around) c.lower_assignment.ensures.assigns;
+    }

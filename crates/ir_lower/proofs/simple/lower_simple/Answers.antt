@@ -1,106 +1,201 @@
-use Rattle.std.proofs.Common.{sym, ap, ◌∙◌}
+use Rattle.std.proofs.Common.{◌≡◌, ◌+◌, ◌*◌, length, refl, sym, ap, ◌∙◌, subst, arith}
+use Rattle.std.proofs.lemmas.List.{length-map}
+use Rattle.std.proofs.lemmas.Result.{on_ok_weaker, IfErr-weaker, err_from_is_err_and}
+use Rattle.std.specs.Prelude.{is_some}
 use Rattle.c_program.specs.Plain.{expression_of, expressions_of, pieces_of, place_of, returned_of, right_side_of, statement_of, thread_call_of}
 use Rattle.c_program.specs.Tree.{Statement}
-use Rattle.ir_lower.proofs.Stepping.{done_at, empty_at, lowers_is}
-use Rattle.code_places.proofs.Proceeding.{proceeds_refl}
+use Rattle.c_program.specs.Weight.{expression_weight, place_weight, returned_weight, right_side_weight, thread_call_weight, function_weight}
+use Rattle.code_places.specs.Doing.{AreTargets}
+use Rattle.code_places.proofs.Proceeding.{proceeds_refl, proceeds_same, break_proceeds, continue_proceeds}
+use Rattle.ir_lower.proofs.Filling.{simple_for, print_for, right_weighs, returned_weighs}
+use Rattle.ir_lower.proofs.Stepping.{done_at, empty_at, lowers_is, declare_at, update_at, break_at, continue_at, on_ok_both}
 use Rattle.ir_lower.proofs.simple.lower_simple.Goals as goal
 
-pub returns-in-Empty-clause-lowers : goal.returns-in-Empty-clause-lowers
-returns-in-Empty-clause-lowers c = λ P.
-    empty_at P c.args.around (statement_of c.args.statement.now) c.args.code.now (ap statement_of c.in-Empty.is)
+pub returns-in-Done : goal.returns-in-Done
+returns-in-Done c = record {
+  labels = proceeds_refl c.args.around c.args.code.now;
+  lowers = λ P. done_at P c.args.around (statement_of c.args.statement.now) c.args.code.now (ap statement_of c.in-Done.is);
+  full = tt;
+}
 
-pub returns-in_ok-lower_declare-in-Declare-clause-lowers : goal.returns-in_ok-lower_declare-in-Declare-clause-lowers
-returns-in_ok-lower_declare-in-Declare-clause-lowers c = λ P.
-    lowers_is P c.args.around (Statement.Declare c.in-Declare.field-0 c.in-Declare.field-1 c.in-Declare.field-2) (statement_of c.args.statement.now) c.args.code.now c.lower_declare.new.code
-    (ap statement_of c.in-Declare.is) (c.in_ok-lower_declare-in-Declare.ensures.lowers c.in-Declare.field-0 c.in-Declare.field-1 c.in-Declare.field-2 P c.args.around)
+pub returns-in-Empty : goal.returns-in-Empty
+returns-in-Empty c = record {
+  labels = proceeds_refl c.args.around c.args.code.now;
+  lowers = λ P. empty_at P c.args.around (statement_of c.args.statement.now) c.args.code.now (ap statement_of c.in-Empty.is);
+  full = tt;
+}
 
-pub returns-in_ok-lower_assign-in-Assign-clause-lowers : goal.returns-in_ok-lower_assign-in-Assign-clause-lowers
-returns-in_ok-lower_assign-in-Assign-clause-lowers c = λ P.
-    lowers_is P c.args.around (Statement.Assign c.in-Assign.field-0 (place_of c.deref.result.now) (right_side_of c.in-Assign.right)) (statement_of c.args.statement.now) c.args.code.now
-    c.lower_assign.new.code
-    (ap statement_of c.in-Assign.is ∙ ap (λ z. Statement.Assign c.in-Assign.field-0 (place_of z) (right_side_of c.in-Assign.right)) (sym c.deref.ensures))
-    (c.in_ok-lower_assign-in-Assign.ensures.lowers c.in-Assign.field-0 P c.args.around)
+pub returns-in-Declare : goal.returns-in-Declare
+returns-in-Declare c =
+    let old = c.args.code.now in
+    let around = c.args.around in
+    let whole = statement_of c.args.statement.now in
+    let new = record old { block = c.step.new.self } in
+    let s = Statement.Declare c.in-Declare.field-0 c.in-Declare.field-1 c.in-Declare.field-2 in
+    let is : whole ≡ s = ap statement_of c.in-Declare.is in
+    record {
+      labels = on_ok_weaker c.step.result (λ _. proceeds_same old new refl refl refl around) c.step.ensures.after;
+      lowers =
+          on_ok_weaker c.step.result
+          (λ after P.
+          lowers_is P around s whole old new is (declare_at P old new c.step.new.self after refl c.in-Declare.field-0 c.in-Declare.field-1 c.in-Declare.field-2 around))
+          c.step.ensures.after;
+      full =
+          IfErr-weaker c.step.result _ _
+          (λ fault full P depth.
+          simple_for P depth s whole old fault is
+          (old.block.steps + 1)
+          (1) (omega arith) (λ Q. omega arith) full)
+          c.step.ensures.full;
+    }
 
-pub returns-in_ok-lower_compound-in-Update-clause-lowers : goal.returns-in_ok-lower_compound-in-Update-clause-lowers
-returns-in_ok-lower_compound-in-Update-clause-lowers c = λ P.
-    lowers_is P c.args.around (Statement.Update c.in-Update.field-0 (place_of c.deref-in-Update.result.now) c.in-Update.operator c.in-Update.ty (expression_of c.deref-in-Update-2.result.now))
-    (statement_of c.args.statement.now)
-    c.args.code.now c.lower_compound.new.code
-    (ap statement_of c.in-Update.is
-    ∙ ap (λ z. Statement.Update c.in-Update.field-0 (place_of z) c.in-Update.operator c.in-Update.ty (expression_of c.in-Update.right.value)) (sym c.deref-in-Update.ensures)
-    ∙ ap (λ z. Statement.Update c.in-Update.field-0 (place_of c.deref-in-Update.result.now) c.in-Update.operator c.in-Update.ty (expression_of z)) (sym c.deref-in-Update-2.ensures))
-    (c.in_ok-lower_compound-in-Update.ensures.lowers c.in-Update.field-0 P c.args.around)
+pub returns-in-Assign : goal.returns-in-Assign
+returns-in-Assign c =
+    let old = c.args.code.now in
+    let around = c.args.around in
+    let whole = statement_of c.args.statement.now in
+    let place = place_of c.deref.result.now in
+    let right = right_side_of c.in-Assign.right in
+    let s = Statement.Assign c.in-Assign.field-0 place right in
+    let is : whole ≡ s = ap statement_of c.in-Assign.is ∙ ap (λ z. Statement.Assign c.in-Assign.field-0 (place_of z) right) (sym c.deref.ensures) in
+    record {
+      labels = on_ok_weaker c.lower_assign.result (λ proceeds. proceeds around) c.lower_assign.ensures.labels;
+      lowers = on_ok_weaker c.lower_assign.result (λ lowers P. lowers_is P around s whole old c.lower_assign.new.code is (lowers c.in-Assign.field-0 P around)) c.lower_assign.ensures.lowers;
+      full =
+          IfErr-weaker c.lower_assign.result _ _
+          (λ fault full P depth.
+          simple_for P depth s whole old fault is
+          (length old.block.operations + old.block.steps + 4 * (place_weight place + right_side_weight right + 1))
+          (place_weight place + right_side_weight right + 1) (omega arith) (λ Q. let more = right_weighs (function_weight Q.functions) right in omega (arith, more)) full)
+          c.lower_assign.ensures.full;
+    }
 
-pub returns-in_ok-lower_returned-in-Return-clause-lowers : goal.returns-in_ok-lower_returned-in-Return-clause-lowers
-returns-in_ok-lower_returned-in-Return-clause-lowers c = λ P.
-    lowers_is P c.args.around (Statement.Return c.in-Return.field-0 (returned_of c.in-Return.right)) (statement_of c.args.statement.now) c.args.code.now c.lower_returned.new.code
-    (ap statement_of c.in-Return.is) (c.in_ok-lower_returned-in-Return.ensures.lowers c.in-Return.field-0 P c.args.around)
+pub returns-in-Update : goal.returns-in-Update
+returns-in-Update c =
+    let old = c.args.code.now in
+    let around = c.args.around in
+    let whole = statement_of c.args.statement.now in
+    let new = record old { block = c.lower_update.new.block } in
+    let place = place_of c.deref-in-Update.result.now in
+    let e = expression_of c.deref-in-Update-2.result.now in
+    let x = c.in-Update in
+    let s = Statement.Update x.field-0 place x.operator x.ty e in
+    let is : whole ≡ s =
+    ap statement_of x.is ∙ ap (λ z. Statement.Update x.field-0 (place_of z) x.operator x.ty (expression_of x.right.value)) (sym c.deref-in-Update.ensures)
+    ∙ ap (λ z. Statement.Update x.field-0 place x.operator x.ty (expression_of z)) (sym c.deref-in-Update-2.ensures) in
+    record {
+      labels = on_ok_weaker c.lower_update.result (λ _. proceeds_same old new refl refl refl around) c.lower_update.ensures.assigns;
+      lowers =
+          on_ok_both c.lower_update.result
+          (λ assigns typed P.
+          lowers_is P around s whole old new is
+          (update_at P place x.operator x.ty e c.as_slice-homes.result.now old new c.as_slice-homes.ensures assigns typed refl x.field-0 around))
+          c.lower_update.ensures.assigns c.lower_update.ensures.typed;
+      full =
+          IfErr-weaker c.lower_update.result _ _
+          (λ fault full P depth.
+          simple_for P depth s whole old fault is
+          (length old.block.operations + old.block.steps + 4 * (place_weight place + expression_weight e + 2))
+          (place_weight place + expression_weight e + 2) (omega arith) (λ Q. omega arith) full)
+          c.lower_update.ensures.full;
+    }
 
-pub returns-in_ok-lower_print-in-Print-clause-lowers : goal.returns-in_ok-lower_print-in-Print-clause-lowers
-returns-in_ok-lower_print-in-Print-clause-lowers c = λ P.
-    lowers_is P c.args.around (Statement.Print c.in-Print.field-0 (pieces_of c.deref-in-Print.result.now) (expressions_of c.deref-in-Print-2.result.now))
-    (statement_of c.args.statement.now) c.args.code.now
-    c.lower_print.new.code
-    (ap statement_of c.in-Print.is ∙ ap (λ f. Statement.Print c.in-Print.field-0 (pieces_of f) (expressions_of c.in-Print.arguments.items)) (sym c.deref-in-Print.ensures.value)
-    ∙ ap (λ a. Statement.Print c.in-Print.field-0 (pieces_of c.deref-in-Print.result.now) (expressions_of a)) (sym c.deref-in-Print-2.ensures.value))
-    (c.in_ok-lower_print-in-Print.ensures.lowers c.in-Print.field-0 P c.args.around)
+pub jump-requires : goal.jump-requires
+jump-requires c = (subst (λ a. AreTargets a c.args.code.now.stages) c.in-Some.is c.requires.targets).0
 
-pub returns-in-Done-clause-lowers : goal.returns-in-Done-clause-lowers
-returns-in-Done-clause-lowers c = λ P.
-    done_at P c.args.around (statement_of c.args.statement.now) c.args.code.now (ap statement_of c.in-Done.is)
+pub returns-in_ok-jump-in-Break : goal.returns-in_ok-jump-in-Break
+returns-in_ok-jump-in-Break c = record {
+  labels = break_proceeds c.args.around c.in-Some.labels c.args.code.now c.jump.new.self c.in-Some.is c.requires.reached c.in_ok-jump-in-Break.ensures;
+  lowers = λ P.
+      lowers_is P c.args.around Statement.Break (statement_of c.args.statement.now) c.args.code.now c.jump.new.self (ap statement_of c.in-Break.is)
+      (break_at P c.args.around c.in-Some.labels c.args.code.now c.jump.new.self c.in-Some.is c.in_ok-jump-in-Break.ensures);
+  full = tt;
+}
 
-pub returns-in-Done-clause-labels : goal.returns-in-Done-clause-labels
-returns-in-Done-clause-labels c =
-    proceeds_refl c.args.around c.args.code.now
+pub returns-in_err-jump-in-Break : goal.returns-in_err-jump-in-Break
+returns-in_err-jump-in-Break c =
+    let p = err_from_is_err_and c.from_residual.result c.from_residual.ensures.1 in
+    record { labels = rw p.1 tt; lowers = rw p.1 tt; full = rw (p.1, p.2) (λ P depth S w size suits deep now is. cc) }
 
-pub returns-in-Empty-clause-labels : goal.returns-in-Empty-clause-labels
-returns-in-Empty-clause-labels c =
-    proceeds_refl c.args.around c.args.code.now
+pub jump-requires-in-Continue : goal.jump-requires-in-Continue
+jump-requires-in-Continue c = (subst (λ a. AreTargets a c.args.code.now.stages) c.in-Some-around.is c.requires.targets).1
 
-pub returns-in_ok-lower_declare-in-Declare-clause-labels : goal.returns-in_ok-lower_declare-in-Declare-clause-labels
-returns-in_ok-lower_declare-in-Declare-clause-labels c =
-    c.in_ok-lower_declare-in-Declare.ensures.labels c.args.around
+pub returns-in_ok-jump-in-Continue : goal.returns-in_ok-jump-in-Continue
+returns-in_ok-jump-in-Continue c = record {
+  labels = continue_proceeds c.args.around c.in-Some-around.labels c.args.code.now c.jump-in-Continue.new.self c.in-Some-around.is c.requires.reached c.in_ok-jump-in-Continue.ensures;
+  lowers = λ P.
+      lowers_is P c.args.around Statement.Continue (statement_of c.args.statement.now) c.args.code.now c.jump-in-Continue.new.self (ap statement_of c.in-Continue.is)
+      (continue_at P c.args.around c.in-Some-around.labels c.args.code.now c.jump-in-Continue.new.self c.in-Some-around.is c.in_ok-jump-in-Continue.ensures);
+  full = tt;
+}
 
-pub returns-in_ok-lower_assign-in-Assign-clause-labels : goal.returns-in_ok-lower_assign-in-Assign-clause-labels
-returns-in_ok-lower_assign-in-Assign-clause-labels c =
-    c.in_ok-lower_assign-in-Assign.ensures.labels c.args.around
+pub returns-in_err-jump-in-Continue : goal.returns-in_err-jump-in-Continue
+returns-in_err-jump-in-Continue c =
+    let p = err_from_is_err_and c.from_residual-in_err-jump-in-Continue.result c.from_residual-in_err-jump-in-Continue.ensures.1 in
+    record { labels = rw p.1 tt; lowers = rw p.1 tt; full = rw (p.1, p.2) (λ P depth S w size suits deep now is. cc) }
 
-pub returns-in_ok-lower_compound-in-Update-clause-labels : goal.returns-in_ok-lower_compound-in-Update-clause-labels
-returns-in_ok-lower_compound-in-Update-clause-labels c =
-    c.in_ok-lower_compound-in-Update.ensures.labels c.args.around
+pub returns-in-Return : goal.returns-in-Return
+returns-in-Return c =
+    let old = c.args.code.now in
+    let around = c.args.around in
+    let whole = statement_of c.args.statement.now in
+    let right = returned_of c.in-Return.right in
+    let s = Statement.Return c.in-Return.field-0 right in
+    let is : whole ≡ s = ap statement_of c.in-Return.is in
+    record {
+      labels = on_ok_weaker c.lower_returned.result (λ proceeds. proceeds around) c.lower_returned.ensures.labels;
+      lowers = on_ok_weaker c.lower_returned.result (λ lowers P. lowers_is P around s whole old c.lower_returned.new.code is (lowers c.in-Return.field-0 P around)) c.lower_returned.ensures.lowers;
+      full =
+          IfErr-weaker c.lower_returned.result _ _
+          (λ fault full P depth.
+          simple_for P depth s whole old fault is
+          (length old.block.operations + old.block.steps + length old.variables + 4 * returned_weight right + 1)
+          (returned_weight right + 1) (omega arith) (λ Q. let more = returned_weighs (function_weight Q.functions) right in omega (arith, more)) full)
+          c.lower_returned.ensures.full;
+    }
 
-pub returns-in_ok-lower_returned-in-Return-clause-labels : goal.returns-in_ok-lower_returned-in-Return-clause-labels
-returns-in_ok-lower_returned-in-Return-clause-labels c =
-    c.in_ok-lower_returned-in-Return.ensures.labels c.args.around
+pub returns-in-Print : goal.returns-in-Print
+returns-in-Print c =
+    let old = c.args.code.now in
+    let around = c.args.around in
+    let whole = statement_of c.args.statement.now in
+    let x = c.in-Print in
+    let format = pieces_of c.deref-in-Print.result.now in
+    let es = expressions_of c.deref-in-Print-2.result.now in
+    let s = Statement.Print x.field-0 format es in
+    let is : whole ≡ s =
+    ap statement_of x.is ∙ ap (λ f. Statement.Print x.field-0 (pieces_of f) (expressions_of x.arguments.items)) (sym c.deref-in-Print.ensures.value)
+    ∙ ap (λ a. Statement.Print x.field-0 format (expressions_of a)) (sym c.deref-in-Print-2.ensures.value) in
+    record {
+      labels = on_ok_weaker c.lower_print.result (λ proceeds. proceeds around) c.lower_print.ensures.labels;
+      lowers = on_ok_weaker c.lower_print.result (λ lowers P. lowers_is P around s whole old c.lower_print.new.code is (lowers x.field-0 P around)) c.lower_print.ensures.lowers;
+      full =
+          IfErr-weaker c.lower_print.result _ _
+          (λ fault full P depth.
+          print_for P depth x.field-0 (is_some around) format es (length c.deref-in-Print-2.result.now) whole old fault
+          (sym (length-map c.deref-in-Print-2.result.now expression_of)) is c.requires.taken full)
+          c.lower_print.ensures.full;
+    }
 
-pub returns-in_ok-lower_print-in-Print-clause-labels : goal.returns-in_ok-lower_print-in-Print-clause-labels
-returns-in_ok-lower_print-in-Print-clause-labels c =
-    c.in_ok-lower_print-in-Print.ensures.labels c.args.around
-
-pub returns-in_ok-lower_break-in-Break-clause-labels : goal.returns-in_ok-lower_break-in-Break-clause-labels
-returns-in_ok-lower_break-in-Break-clause-labels c =
-    c.in_ok-lower_break-in-Break.ensures.labels
-
-pub returns-in_ok-lower_break-in-Break-clause-lowers : goal.returns-in_ok-lower_break-in-Break-clause-lowers
-returns-in_ok-lower_break-in-Break-clause-lowers c = λ P.
-    lowers_is P c.args.around Statement.Break (statement_of c.args.statement.now) c.args.code.now c.lower_break.new.code (ap statement_of c.in-Break.is) (c.in_ok-lower_break-in-Break.ensures.lowers P)
-
-pub returns-in_ok-lower_continue-in-Continue-clause-labels : goal.returns-in_ok-lower_continue-in-Continue-clause-labels
-returns-in_ok-lower_continue-in-Continue-clause-labels c =
-    c.in_ok-lower_continue-in-Continue.ensures.labels
-
-pub returns-in_ok-lower_continue-in-Continue-clause-lowers : goal.returns-in_ok-lower_continue-in-Continue-clause-lowers
-returns-in_ok-lower_continue-in-Continue-clause-lowers c = λ P.
-    lowers_is P c.args.around Statement.Continue (statement_of c.args.statement.now) c.args.code.now c.lower_continue.new.code (ap statement_of c.in-Continue.is)
-    (c.in_ok-lower_continue-in-Continue.ensures.lowers P)
-
-pub returns-in_ok-lower_thread_call-in-Thread-clause-labels : goal.returns-in_ok-lower_thread_call-in-Thread-clause-labels
-returns-in_ok-lower_thread_call-in-Thread-clause-labels c =
-    c.in_ok-lower_thread_call-in-Thread.ensures.labels c.args.around
-
-pub returns-in_ok-lower_thread_call-in-Thread-clause-lowers : goal.returns-in_ok-lower_thread_call-in-Thread-clause-lowers
-returns-in_ok-lower_thread_call-in-Thread-clause-lowers c = λ P.
-    lowers_is P c.args.around (Statement.Thread c.in-Thread.field-0 (thread_call_of c.deref-in-Thread.result.now)) (statement_of c.args.statement.now) c.args.code.now
-    c.lower_thread_call.new.code
-    (ap statement_of c.in-Thread.is ∙ ap (λ z. Statement.Thread c.in-Thread.field-0 (thread_call_of z)) (sym c.deref-in-Thread.ensures))
-    (c.in_ok-lower_thread_call-in-Thread.ensures.lowers c.in-Thread.field-0 P c.args.around)
+pub returns-in-Thread : goal.returns-in-Thread
+returns-in-Thread c =
+    let old = c.args.code.now in
+    let around = c.args.around in
+    let whole = statement_of c.args.statement.now in
+    let call = thread_call_of c.deref-in-Thread.result.now in
+    let s = Statement.Thread c.in-Thread.field-0 call in
+    let is : whole ≡ s = ap statement_of c.in-Thread.is ∙ ap (λ z. Statement.Thread c.in-Thread.field-0 (thread_call_of z)) (sym c.deref-in-Thread.ensures) in
+    record {
+      labels = on_ok_weaker c.lower_thread_call.result (λ proceeds. proceeds around) c.lower_thread_call.ensures.labels;
+      lowers =
+          on_ok_weaker c.lower_thread_call.result
+          (λ lowers P. lowers_is P around s whole old c.lower_thread_call.new.code is (lowers c.in-Thread.field-0 P around))
+          c.lower_thread_call.ensures.lowers;
+      full =
+          IfErr-weaker c.lower_thread_call.result _ _
+          (λ fault full P depth.
+          simple_for P depth s whole old fault is
+          (length old.block.operations + old.block.steps + length old.variables + 4 * (thread_call_weight call + 1))
+          (thread_call_weight call + 1) (omega arith) (λ Q. omega arith) full)
+          c.lower_thread_call.ensures.full;
+    }

@@ -1,6 +1,6 @@
 use Rattle.std.proofs.Common.{◌≡◌, ◌+◌, ◌-◌, ◌&&◌, true, false, Some, refl, sym, ap, ◌∙◌, subst, arith}
 use Rattle.std.specs.Prelude.{is_some, slice_get}
-use Rattle.std.proofs.lemmas.Result.{err_from_is_err_and}
+use Rattle.std.proofs.lemmas.Result.{on_ok_weaker, IfErr-weaker, err_from_is_err_and}
 use Rattle.std.proofs.lemmas.Bool.{and_parts}
 use Rattle.c_program.specs.Limits.{print_count}
 use Rattle.c_program.specs.Plain.{function_of, place_of, program_of, returned_of, right_side_of, condition_of, expressions_of, statement_of}
@@ -26,6 +26,7 @@ use Rattle.code_control.proofs.Filling.{for_condition, for_body, for_last}
 use Rattle.code_control.proofs.Filling.{behind_more, behind_first}
 use Rattle.code_calls.proofs.Overfull.{call_too_deep, call_unknown, call_body, call_closing, call_for, assigned_for, returned_for, delivery_for, handing_for}
 use Rattle.code_control.proofs.Nesting.{skips, simple_lowers, block_lowers, choice_lowers, while_lowers, do_lowers, for_lowers, via_more, via_last}
+use Rattle.ir_lower.proofs.Stepping.{match_ok, match_err}
 use Rattle.ir_lower.proofs.Whole.{get_map, get_none}
 use Rattle.ir_lower.proofs.statements.+statements.Goals as goal
 
@@ -56,11 +57,6 @@ lower_statement-returns-then-not-is_reached-clause-labels t c =
     (proceeds_same c.loop-rest.code c.skip_sites.new.self (ap (λ (z : Lowering). z.stages) c.in_ok-skip_sites.ensures.after) (ap (λ (z : Lowering). z.reached) c.in_ok-skip_sites.ensures.after)
     (ap (λ (z : Lowering). z.back) c.in_ok-skip_sites.ensures.after) c.args.around)
 
-pub lower_statement-returns-in_ok-lower_statement-in-Block-clause-labels : goal.lower_statement-returns-in_ok-lower_statement-in-Block-clause-labels
-lower_statement-returns-in_ok-lower_statement-in-Block-clause-labels t c =
-    proceeds_both c.args.around c.args.code.now c.loop-rest.code c.lower_statement-in-Block.new.code c.loop-rest.invariant.proceeds
-    c.in_ok-lower_statement-in-Block.ensures.labels
-
 pub lower_statement-returns-in_ok-bind-in-If-clause-labels : goal.lower_statement-returns-in_ok-bind-in-If-clause-labels
 lower_statement-returns-in_ok-bind-in-If-clause-labels t c =
     proceeds_both c.args.around c.args.code.now c.loop-rest.code c.bind.new.self c.loop-rest.invariant.proceeds
@@ -75,12 +71,6 @@ lower_statement-returns-in_ok-close_turn-in-While-clause-labels t c =
     (while_proceeds c.args.around _ (condition_of c.in-While.condition) c.in_ok-labels-in-While.labels c.loop-rest.code c.open_turn.new.code c.lower_statement-in-While.new.code c.close_turn.new.code
     (sym c.is_reached.ensures ∙ c.if-not-is_reached.false) c.in_ok-labels-in-While.ensures c.in_ok-lower_statement-in-While.ensures.labels c.in_ok-close_turn-in-While.ensures)
 
-pub lower_statement-returns-in_ok-close_do-in-DoWhile-clause-labels : goal.lower_statement-returns-in_ok-close_do-in-DoWhile-clause-labels
-lower_statement-returns-in_ok-close_do-in-DoWhile-clause-labels t c =
-    proceeds_both c.args.around c.args.code.now c.loop-rest.code c.close_do.new.code c.loop-rest.invariant.proceeds
-    (do_proceeds (condition_of c.in-DoWhile.condition) c.in_ok-labels-in-DoWhile.labels c.loop-rest.code c.open_loop.new.code c.lower_statement-in-DoWhile.new.code c.close_do.new.code
-    c.in_ok-labels-in-DoWhile.ensures c.in_ok-lower_statement-in-DoWhile.ensures.labels c.in_ok-close_do-in-DoWhile.ensures c.args.around (sym c.is_reached.ensures ∙ c.if-not-is_reached.false))
-
 pub lower_statement-returns-in_ok-close_for-in-For-clause-labels : goal.lower_statement-returns-in_ok-close_for-in-For-clause-labels
 lower_statement-returns-in_ok-close_for-in-For-clause-labels t c =
     proceeds_both c.args.around c.args.code.now c.loop-rest.code c.close_for.new.code c.loop-rest.invariant.proceeds
@@ -89,11 +79,6 @@ lower_statement-returns-in_ok-close_for-in-For-clause-labels t c =
     c.in_ok-labels-in-For.ensures c.in_ok-lower_statement-in-For-2.ensures.labels c.in_ok-turn_for-in-For.ensures c.in_ok-lower_statement-in-For-3.ensures.labels
     c.close_for.new.code c.site-after.result c.in_ok-close_for-in-For.ensures c.args.around c.loop-rest.code c.lower_statement-in-For.new.code
     (sym c.is_reached.ensures ∙ c.if-not-is_reached.false) c.in_ok-lower_statement-in-For.ensures.labels refl refl refl)
-
-pub lower_statement-returns-in_ok-lower_simple-in_default-rest-clause-labels : goal.lower_statement-returns-in_ok-lower_simple-in_default-rest-clause-labels
-lower_statement-returns-in_ok-lower_simple-in_default-rest-clause-labels t c =
-    proceeds_both c.args.around c.args.code.now c.loop-rest.code c.lower_simple-in_default-rest.new.code c.loop-rest.invariant.proceeds
-    c.in_ok-lower_simple-in_default-rest.ensures.labels
 
 pub lower_statement-lower_statement-requires : goal.lower_statement-lower_statement-requires
 lower_statement-lower_statement-requires t c =
@@ -322,13 +307,6 @@ lower_statement-returns-in_err-skip_sites-clause-full t c =
     rw (p.1, p.2) (c.loop-rest.invariant.behind.full _
     (skipped_for (program_of c.args.program.now) c.args.depth (statement_of c.loop-rest.rest.now) c.loop-rest.code _ _ (omega (arith, e)) c.in_err-skip_sites.ensures.full))
 
-pub lower_statement-returns-in_err-lower_statement-in-Block-clause-full : goal.lower_statement-returns-in_err-lower_statement-in-Block-clause-full
-lower_statement-returns-in_err-lower_statement-in-Block-clause-full t c =
-    let p = err_from_is_err_and c.from_residual-in_err-lower_statement-in-Block.result c.from_residual-in_err-lower_statement-in-Block.ensures.1 in
-    rw (p.1, p.2) (c.loop-rest.invariant.behind.full _
-    (block_for (program_of c.args.program.now) c.args.depth (statement_of c.loop-rest.rest.now) (statement_of c.deref-in-Block.result.now) c.loop-rest.code _
-    (ap statement_of c.in-Block.is ∙ ap (λ z. Statement.Block (statement_of z)) (sym c.deref-in-Block.ensures)) c.in_err-lower_statement-in-Block.ensures.full))
-
 pub lower_statement-returns-in_err-labels-in-If-clause-full : goal.lower_statement-returns-in_err-labels-in-If-clause-full
 lower_statement-returns-in_err-labels-in-If-clause-full t c =
     let p = err_from_is_err_and c.from_residual-in_err-labels-in-If.result c.from_residual-in_err-labels-in-If.ensures.1 in
@@ -387,17 +365,6 @@ lower_statement-returns-in_err-lower_statement-in-DoWhile-clause-full t c =
     (ap statement_of c.in-DoWhile.is ∙ ap (λ z. Statement.DoWhile (statement_of z) d) (sym c.deref-in-DoWhile.ensures))
     c.in_ok-labels-in-DoWhile.ensures c.in_err-lower_statement-in-DoWhile.ensures.full))
 
-pub lower_statement-returns-in_err-close_do-in-DoWhile-clause-full : goal.lower_statement-returns-in_err-close_do-in-DoWhile-clause-full
-lower_statement-returns-in_err-close_do-in-DoWhile-clause-full t c =
-    let p = err_from_is_err_and c.from_residual-in_err-close_do-in-DoWhile.result c.from_residual-in_err-close_do-in-DoWhile.ensures.1 in
-    let d = condition_of c.in-DoWhile.condition in
-    rw (p.1, p.2) (c.loop-rest.invariant.behind.full _
-    (do_condition (program_of c.args.program.now) c.args.depth (statement_of c.loop-rest.rest.now) d
-    (statement_of c.deref-in-DoWhile.result.now) c.in_ok-labels-in-DoWhile.labels c.loop-rest.code c.open_loop.new.code
-    c.lower_statement-in-DoWhile.new.code _
-    (ap statement_of c.in-DoWhile.is ∙ ap (λ z. Statement.DoWhile (statement_of z) d) (sym c.deref-in-DoWhile.ensures))
-    c.in_ok-labels-in-DoWhile.ensures c.in_ok-lower_statement-in-DoWhile.ensures.lowers c.in_err-close_do-in-DoWhile.ensures))
-
 pub lower_statement-returns-in_err-lower_statement-in-For-clause-full : goal.lower_statement-returns-in_err-lower_statement-in-For-clause-full
 lower_statement-returns-in_err-lower_statement-in-For-clause-full t c =
     let p = err_from_is_err_and c.from_residual-in_err-lower_statement-in-For.result c.from_residual-in_err-lower_statement-in-For.ensures.1 in
@@ -454,24 +421,12 @@ lower_statement-returns-in_err-lower_statement-in-For-3-clause-full t c =
     (subst (λ z. OpensTurn d l (at_site (a0.site + print_count (statement_of z)) a0) c.open_for.new.code) (c.deref-in-For-2.ensures ∙ sym c.deref-in-For-4.ensures) c.in_ok-labels-in-For.ensures)
     c.in_ok-lower_statement-in-For-2.ensures.lowers c.site-last_site.ensures c.in_ok-turn_for-in-For.ensures c.in_err-lower_statement-in-For-3.ensures.full))
 
-pub lower_statement-returns-in_err-lower_simple-in_default-rest-clause-full : goal.lower_statement-returns-in_err-lower_simple-in_default-rest-clause-full
-lower_statement-returns-in_err-lower_simple-in_default-rest-clause-full t c =
-    let p = err_from_is_err_and c.from_residual-in_err-lower_simple-in_default-rest.result c.from_residual-in_err-lower_simple-in_default-rest.ensures.1 in
-    rw (p.1, p.2) (c.loop-rest.invariant.behind.full _ (c.in_err-lower_simple-in_default-rest.ensures.full (program_of c.args.program.now) c.args.depth))
-
 pub lower_statement-returns-then-not-is_reached-clause-lowers : goal.lower_statement-returns-then-not-is_reached-clause-lowers
 lower_statement-returns-then-not-is_reached-clause-lowers t c =
     let s = statement_of c.loop-rest.rest.now in
     via_last (program_of c.args.program.now) c.args.around (statement_of c.args.statement.now) s c.args.code.now c.loop-rest.code c.skip_sites.new.self c.loop-rest.invariant.via
     (skips (program_of c.args.program.now) c.args.around s c.loop-rest.code c.skip_sites.new.self (sym c.is_reached.ensures ∙ c.if-not-is_reached.true)
     (c.in_ok-skip_sites.ensures.after ∙ ap (λ n. at_site (c.loop-rest.code.site + n) c.loop-rest.code) c.in_ok-print_count.ensures.count))
-
-pub lower_statement-returns-in_ok-lower_statement-in-Block-clause-lowers : goal.lower_statement-returns-in_ok-lower_statement-in-Block-clause-lowers
-lower_statement-returns-in_ok-lower_statement-in-Block-clause-lowers t c =
-    let s = statement_of c.loop-rest.rest.now in
-    via_last (program_of c.args.program.now) c.args.around (statement_of c.args.statement.now) s c.args.code.now c.loop-rest.code c.lower_statement-in-Block.new.code c.loop-rest.invariant.via
-    (block_lowers (program_of c.args.program.now) c.args.around s (statement_of c.deref-in-Block.result.now) c.loop-rest.code c.lower_statement-in-Block.new.code
-    (ap statement_of c.in-Block.is ∙ ap (λ z. Statement.Block (statement_of z)) (sym c.deref-in-Block.ensures)) c.in_ok-lower_statement-in-Block.ensures.lowers)
 
 pub lower_statement-returns-in_ok-bind-in-If-clause-lowers : goal.lower_statement-returns-in_ok-bind-in-If-clause-lowers
 lower_statement-returns-in_ok-bind-in-If-clause-lowers t c =
@@ -497,16 +452,6 @@ lower_statement-returns-in_ok-close_turn-in-While-clause-lowers t c =
     c.close_turn.new.code (ap statement_of c.in-While.is ∙ ap (λ z. Statement.While d (statement_of z)) (sym c.deref-in-While.ensures))
     c.in_ok-labels-in-While.ensures c.in_ok-lower_statement-in-While.ensures.lowers c.in_ok-close_turn-in-While.ensures)
 
-pub lower_statement-returns-in_ok-close_do-in-DoWhile-clause-lowers : goal.lower_statement-returns-in_ok-close_do-in-DoWhile-clause-lowers
-lower_statement-returns-in_ok-close_do-in-DoWhile-clause-lowers t c =
-    let s = statement_of c.loop-rest.rest.now in
-    let d = condition_of c.in-DoWhile.condition in
-    via_last (program_of c.args.program.now) c.args.around (statement_of c.args.statement.now) s c.args.code.now c.loop-rest.code c.close_do.new.code c.loop-rest.invariant.via
-    (do_lowers (program_of c.args.program.now) c.args.around s d (statement_of c.deref-in-DoWhile.result.now) c.in_ok-labels-in-DoWhile.labels c.loop-rest.code c.open_loop.new.code
-    c.lower_statement-in-DoWhile.new.code
-    c.close_do.new.code (ap statement_of c.in-DoWhile.is ∙ ap (λ z. Statement.DoWhile (statement_of z) d) (sym c.deref-in-DoWhile.ensures))
-    c.in_ok-labels-in-DoWhile.ensures c.in_ok-lower_statement-in-DoWhile.ensures.lowers c.in_ok-close_do-in-DoWhile.ensures)
-
 pub lower_statement-returns-in_ok-close_for-in-For-clause-lowers : goal.lower_statement-returns-in_ok-close_for-in-For-clause-lowers
 lower_statement-returns-in_ok-close_for-in-For-clause-lowers t c =
     let s = statement_of c.loop-rest.rest.now in
@@ -526,83 +471,6 @@ lower_statement-returns-in_ok-close_for-in-For-clause-lowers t c =
     c.in_ok-lower_statement-in-For.ensures.lowers c.site-last_site.ensures
     (subst (λ z. OpensTurn d l (at_site (a0.site + print_count (statement_of z)) a0) c.open_for.new.code) (c.deref-in-For-2.ensures ∙ sym c.deref-in-For-4.ensures) c.in_ok-labels-in-For.ensures)
     c.in_ok-lower_statement-in-For-2.ensures.lowers c.site-after.ensures c.in_ok-turn_for-in-For.ensures c.in_ok-lower_statement-in-For-3.ensures.lowers c.in_ok-close_for-in-For.ensures)
-
-pub lower_statement-returns-in_ok-lower_simple-in_default-rest-clause-lowers : goal.lower_statement-returns-in_ok-lower_simple-in_default-rest-clause-lowers
-lower_statement-returns-in_ok-lower_simple-in_default-rest-clause-lowers t c =
-    let s = statement_of c.loop-rest.rest.now in
-    via_last (program_of c.args.program.now) c.args.around (statement_of c.args.statement.now) s c.args.code.now c.loop-rest.code c.lower_simple-in_default-rest.new.code c.loop-rest.invariant.via
-    (simple_lowers (program_of c.args.program.now) c.args.around s c.loop-rest.code c.lower_simple-in_default-rest.new.code (sym c.is_reached.ensures ∙ c.if-not-is_reached.false)
-    (c.in_ok-lower_simple-in_default-rest.ensures.lowers (program_of c.args.program.now)))
-
-pub lower_statement-returns-in_ok-lower_simple-in-Value-clause-lowers : goal.lower_statement-returns-in_ok-lower_simple-in-Value-clause-lowers
-lower_statement-returns-in_ok-lower_simple-in-Value-clause-lowers t c =
-    let s = statement_of c.loop-rest.rest.now in
-    via_last (program_of c.args.program.now) c.args.around (statement_of c.args.statement.now) s c.args.code.now c.loop-rest.code c.lower_simple.new.code c.loop-rest.invariant.via
-    (simple_lowers (program_of c.args.program.now) c.args.around s c.loop-rest.code c.lower_simple.new.code (sym c.is_reached.ensures ∙ c.if-not-is_reached.false)
-    (c.in_ok-lower_simple-in-Value.ensures.lowers (program_of c.args.program.now)))
-
-pub lower_statement-returns-in_ok-lower_simple-in-None-clause-lowers : goal.lower_statement-returns-in_ok-lower_simple-in-None-clause-lowers
-lower_statement-returns-in_ok-lower_simple-in-None-clause-lowers t c =
-    let s = statement_of c.loop-rest.rest.now in
-    via_last (program_of c.args.program.now) c.args.around (statement_of c.args.statement.now) s c.args.code.now c.loop-rest.code c.lower_simple-in-None.new.code c.loop-rest.invariant.via
-    (simple_lowers (program_of c.args.program.now) c.args.around s c.loop-rest.code c.lower_simple-in-None.new.code (sym c.is_reached.ensures ∙ c.if-not-is_reached.false)
-    (c.in_ok-lower_simple-in-None.ensures.lowers (program_of c.args.program.now)))
-
-pub lower_statement-returns-in_ok-lower_simple-in-Value-value-clause-lowers : goal.lower_statement-returns-in_ok-lower_simple-in-Value-value-clause-lowers
-lower_statement-returns-in_ok-lower_simple-in-Value-value-clause-lowers t c =
-    let s = statement_of c.loop-rest.rest.now in
-    via_last (program_of c.args.program.now) c.args.around (statement_of c.args.statement.now) s c.args.code.now c.loop-rest.code c.lower_simple-in-Value-value.new.code c.loop-rest.invariant.via
-    (simple_lowers (program_of c.args.program.now) c.args.around s c.loop-rest.code c.lower_simple-in-Value-value.new.code (sym c.is_reached.ensures ∙ c.if-not-is_reached.false)
-    (c.in_ok-lower_simple-in-Value-value.ensures.lowers (program_of c.args.program.now)))
-
-pub lower_statement-returns-in_ok-lower_delivery-in-Call-right-clause-lowers : goal.lower_statement-returns-in_ok-lower_delivery-in-Call-right-clause-lowers
-lower_statement-returns-in_ok-lower_delivery-in-Call-right-clause-lowers t c =
-    let x = c.in-Assign in
-    let y = c.in-Call-right in
-    let s = statement_of c.loop-rest.rest.now in
-    let es = expressions_of c.deref-in-Call-right.result.now in
-    via_last (program_of c.args.program.now) c.args.around (statement_of c.args.statement.now) s c.args.code.now c.loop-rest.code c.lower_delivery.new.code c.loop-rest.invariant.via
-    (call_assigned (program_of c.args.program.now) c.args.around s x.field-0 (place_of c.deref-in-Call-right-2.result.now) y.function es c.loop-rest.code
-    c.lower_call-in-Call-right.new.code c.lower_delivery.new.code
-    (sym c.is_reached.ensures ∙ c.if-not-is_reached.false)
-    (ap statement_of x.is ∙ ap (λ z. Statement.Assign x.field-0 (place_of x.place.value) (right_side_of z)) y.is
-    ∙ ap (λ a. Statement.Assign x.field-0 (place_of x.place.value) (RightSide.Call y.function (expressions_of a))) (sym c.deref-in-Call-right.ensures.value)
-    ∙ ap (λ z. Statement.Assign x.field-0 (place_of z) (RightSide.Call y.function es)) (sym c.deref-in-Call-right-2.ensures))
-    c.in_ok-lower_call-in-Call-right.ensures.calls c.in_ok-lower_delivery-in-Call-right.ensures.delivers)
-
-pub lower_statement-returns-in_ok-lower_handing-in-Call-value-clause-lowers : goal.lower_statement-returns-in_ok-lower_handing-in-Call-value-clause-lowers
-lower_statement-returns-in_ok-lower_handing-in-Call-value-clause-lowers t c =
-    let x = c.in-Return in
-    let y = c.in-Call-value in
-    let s = statement_of c.loop-rest.rest.now in
-    let es = expressions_of c.deref-in-Call-value.result.now in
-    via_last (program_of c.args.program.now) c.args.around (statement_of c.args.statement.now) s c.args.code.now c.loop-rest.code c.lower_handing.new.code c.loop-rest.invariant.via
-    (call_returned (program_of c.args.program.now) c.args.around s x.field-0 y.function es c.loop-rest.code c.lower_call-in-Call-value.new.code c.lower_handing.new.code
-    (sym c.is_reached.ensures ∙ c.if-not-is_reached.false)
-    (ap statement_of x.is ∙ ap (λ z. Statement.Return x.field-0 (returned_of z)) c.in-Some.is ∙ ap (λ z. Statement.Return x.field-0 (Some (right_side_of z))) y.is
-    ∙ ap (λ a. Statement.Return x.field-0 (Some (RightSide.Call y.function (expressions_of a)))) (sym c.deref-in-Call-value.ensures.value))
-    c.in_ok-lower_call-in-Call-value.ensures.calls c.in_ok-lower_handing-in-Call-value.ensures.hands)
-
-pub lower_statement-returns-in_ok-lower_call-in-Call-clause-lowers : goal.lower_statement-returns-in_ok-lower_call-in-Call-clause-lowers
-lower_statement-returns-in_ok-lower_call-in-Call-clause-lowers t c =
-    let s = statement_of c.loop-rest.rest.now in
-    let es = expressions_of c.deref-in-Call.result.now in
-    via_last (program_of c.args.program.now) c.args.around (statement_of c.args.statement.now) s c.args.code.now c.loop-rest.code c.lower_call.new.code c.loop-rest.invariant.via
-    (call_lowers (program_of c.args.program.now) c.args.around s c.in-Call.field-0 c.in-Call.function es c.loop-rest.code c.lower_call.new.code
-    (sym c.is_reached.ensures ∙ c.if-not-is_reached.false)
-    (ap statement_of c.in-Call.is ∙ ap (λ a. Statement.Call c.in-Call.field-0 c.in-Call.function (expressions_of a)) (sym c.deref-in-Call.ensures.value)) c.in_ok-lower_call-in-Call.ensures.calls)
-
-pub lower_call-returns-clause-calls : goal.lower_call-returns-clause-calls
-lower_call-returns-clause-calls t c = record {
-  function = function_of c.in-Some.function.now;
-  found = get_map function_of c.args.program.now.functions.items c.args.number c.in-Some.function.now (ap (λ l. slice_get l c.args.number) (sym c.deref.ensures.value) ∙ sym c.in-Some.ensures);
-  caller = c.in_ok-caller.caller;
-  begun = c.open_call.new.code;
-  opens = c.in_ok-caller.ensures.opens;
-  done = c.lower_statement.new.code;
-  lowers = c.in_ok-lower_statement.ensures.lowers;
-  closes = c.in_ok-close_call.ensures.closes;
-}
 
 pub lower_statement-lower_statement-requires-in-For : goal.lower_statement-lower_statement-requires-in-For
 lower_statement-lower_statement-requires-in-For t c =
@@ -677,43 +545,6 @@ pub lower_statement-lower_simple-requires-in_default-rest-clause-targets : goal.
 lower_statement-lower_simple-requires-in_default-rest-clause-targets t c =
     targets_after c.args.around c.args.code.now.stages c.loop-rest.code.stages c.loop-rest.invariant.proceeds.advances c.requires.targets
 
-pub lower_statement-returns-in_ok-lower_simple-in-Value-clause-labels : goal.lower_statement-returns-in_ok-lower_simple-in-Value-clause-labels
-lower_statement-returns-in_ok-lower_simple-in-Value-clause-labels t c =
-    proceeds_both c.args.around c.args.code.now c.loop-rest.code c.lower_simple.new.code c.loop-rest.invariant.proceeds
-    c.in_ok-lower_simple-in-Value.ensures.labels
-
-pub lower_statement-returns-in_err-lower_simple-in-Value-clause-full : goal.lower_statement-returns-in_err-lower_simple-in-Value-clause-full
-lower_statement-returns-in_err-lower_simple-in-Value-clause-full t c =
-    let p = err_from_is_err_and c.from_residual-in_err-lower_simple-in-Value.result c.from_residual-in_err-lower_simple-in-Value.ensures.1 in
-    rw (p.1, p.2) (c.loop-rest.invariant.behind.full _ (c.in_err-lower_simple-in-Value.ensures.full (program_of c.args.program.now) c.args.depth))
-
-pub lower_statement-returns-in_ok-lower_simple-in-None-clause-labels : goal.lower_statement-returns-in_ok-lower_simple-in-None-clause-labels
-lower_statement-returns-in_ok-lower_simple-in-None-clause-labels t c =
-    proceeds_both c.args.around c.args.code.now c.loop-rest.code c.lower_simple-in-None.new.code c.loop-rest.invariant.proceeds
-    c.in_ok-lower_simple-in-None.ensures.labels
-
-pub lower_statement-returns-in_err-lower_simple-in-None-clause-full : goal.lower_statement-returns-in_err-lower_simple-in-None-clause-full
-lower_statement-returns-in_err-lower_simple-in-None-clause-full t c =
-    let p = err_from_is_err_and c.from_residual-in_err-lower_simple-in-None.result c.from_residual-in_err-lower_simple-in-None.ensures.1 in
-    rw (p.1, p.2) (c.loop-rest.invariant.behind.full _ (c.in_err-lower_simple-in-None.ensures.full (program_of c.args.program.now) c.args.depth))
-
-pub lower_statement-returns-in_ok-lower_simple-in-Value-value-clause-labels : goal.lower_statement-returns-in_ok-lower_simple-in-Value-value-clause-labels
-lower_statement-returns-in_ok-lower_simple-in-Value-value-clause-labels t c =
-    proceeds_both c.args.around c.args.code.now c.loop-rest.code c.lower_simple-in-Value-value.new.code c.loop-rest.invariant.proceeds
-    c.in_ok-lower_simple-in-Value-value.ensures.labels
-
-pub lower_statement-returns-in_err-lower_simple-in-Value-value-clause-full : goal.lower_statement-returns-in_err-lower_simple-in-Value-value-clause-full
-lower_statement-returns-in_err-lower_simple-in-Value-value-clause-full t c =
-    let p = err_from_is_err_and c.from_residual-in_err-lower_simple-in-Value-value.result c.from_residual-in_err-lower_simple-in-Value-value.ensures.1 in
-    rw (p.1, p.2) (c.loop-rest.invariant.behind.full _ (c.in_err-lower_simple-in-Value-value.ensures.full (program_of c.args.program.now) c.args.depth))
-
-pub lower_statement-returns-in_err-lower_call-in-Call-clause-full : goal.lower_statement-returns-in_err-lower_call-in-Call-clause-full
-lower_statement-returns-in_err-lower_call-in-Call-clause-full t c =
-    let p = err_from_is_err_and c.from_residual-in_err-lower_call-in-Call.result c.from_residual-in_err-lower_call-in-Call.ensures.1 in
-    rw (p.1, p.2) (c.loop-rest.invariant.behind.full _
-    (call_for (program_of c.args.program.now) c.args.depth (statement_of c.loop-rest.rest.now) c.in-Call.field-0 c.in-Call.function (expressions_of c.deref-in-Call.result.now) c.loop-rest.code _
-    (ap statement_of c.in-Call.is ∙ ap (λ a. Statement.Call c.in-Call.field-0 c.in-Call.function (expressions_of a)) (sym c.deref-in-Call.ensures.value)) c.in_err-lower_call-in-Call.ensures.full))
-
 pub lower_statement-returns-in_err-lower_call-in-Call-right-clause-full : goal.lower_statement-returns-in_err-lower_call-in-Call-right-clause-full
 lower_statement-returns-in_err-lower_call-in-Call-right-clause-full t c =
     let p = err_from_is_err_and c.from_residual-in_err-lower_call-in-Call-right.result c.from_residual-in_err-lower_call-in-Call-right.ensures.1 in
@@ -735,24 +566,6 @@ lower_statement-returns-in_err-lower_call-in-Call-value-clause-full t c =
     ∙ ap (λ a. Statement.Return c.in-Return.field-0 (Some (RightSide.Call c.in-Call-value.function (expressions_of a)))) (sym c.deref-in-Call-value.ensures.value))
     c.in_err-lower_call-in-Call-value.ensures.full))
 
-pub lower_statement-returns-in_ok-lower_call-in-Call-clause-labels : goal.lower_statement-returns-in_ok-lower_call-in-Call-clause-labels
-lower_statement-returns-in_ok-lower_call-in-Call-clause-labels t c =
-    proceeds_both c.args.around c.args.code.now c.loop-rest.code c.lower_call.new.code c.loop-rest.invariant.proceeds (c.in_ok-lower_call-in-Call.ensures.labels c.args.around)
-
-pub lower_statement-returns-in_ok-lower_delivery-in-Call-right-clause-labels : goal.lower_statement-returns-in_ok-lower_delivery-in-Call-right-clause-labels
-lower_statement-returns-in_ok-lower_delivery-in-Call-right-clause-labels t c =
-    proceeds_both c.args.around c.args.code.now c.loop-rest.code c.lower_delivery.new.code c.loop-rest.invariant.proceeds
-    (proceeds_both c.args.around c.loop-rest.code c.lower_call-in-Call-right.new.code c.lower_delivery.new.code (c.in_ok-lower_call-in-Call-right.ensures.labels c.args.around)
-    (delivers_proceed (place_of c.deref-in-Call-right-2.result.now) c.lower_call-in-Call-right.new.code c.lower_delivery.new.code c.in_ok-lower_delivery-in-Call-right.ensures.delivers c.args.around))
-
-pub lower_statement-returns-in_ok-lower_handing-in-Call-value-clause-labels : goal.lower_statement-returns-in_ok-lower_handing-in-Call-value-clause-labels
-lower_statement-returns-in_ok-lower_handing-in-Call-value-clause-labels t c =
-    proceeds_both c.args.around c.args.code.now c.loop-rest.code c.lower_handing.new.code c.loop-rest.invariant.proceeds
-    (proceeds_both c.args.around c.loop-rest.code c.lower_call-in-Call-value.new.code c.lower_handing.new.code (c.in_ok-lower_call-in-Call-value.ensures.labels c.args.around)
-    (hands_proceed c.lower_call-in-Call-value.new.code c.lower_handing.new.code c.in_ok-lower_handing-in-Call-value.ensures.hands
-    (closed_reached c.in_ok-lower_call-in-Call-value.ensures.calls.caller c.in_ok-lower_call-in-Call-value.ensures.calls.done c.lower_call-in-Call-value.new.code
-    c.in_ok-lower_call-in-Call-value.ensures.calls.closes) c.args.around))
-
 pub lower_statement-lower_handing-requires : goal.lower_statement-lower_handing-requires
 lower_statement-lower_handing-requires t c =
     let labels = c.in_ok-lower_call-in-Call-value.ensures.labels c.args.around in
@@ -760,29 +573,6 @@ lower_statement-lower_handing-requires t c =
       back = back_after c.loop-rest.code c.lower_call-in-Call-value.new.code labels.advances labels.back
           (back_after c.args.code.now c.loop-rest.code c.loop-rest.invariant.proceeds.advances c.loop-rest.invariant.proceeds.back c.requires.back);
     }
-
-pub lower_statement-returns-in_err-lower_delivery-in-Call-right-clause-full : goal.lower_statement-returns-in_err-lower_delivery-in-Call-right-clause-full
-lower_statement-returns-in_err-lower_delivery-in-Call-right-clause-full t c =
-    let p = err_from_is_err_and c.from_residual-in_err-lower_delivery-in-Call-right.result c.from_residual-in_err-lower_delivery-in-Call-right.ensures.1 in
-    rw (p.1, p.2) (c.loop-rest.invariant.behind.full _
-    (delivery_for (program_of c.args.program.now) c.args.depth (statement_of c.loop-rest.rest.now) c.in-Assign.field-0 (place_of c.deref-in-Call-right-2.result.now) c.in-Call-right.function
-    (expressions_of c.deref-in-Call-right.result.now) c.loop-rest.code c.lower_call-in-Call-right.new.code _ (sym c.is_reached.ensures ∙ c.if-not-is_reached.false)
-    (ap statement_of c.in-Assign.is ∙ ap (λ z. Statement.Assign c.in-Assign.field-0 (place_of c.in-Assign.place.value) (right_side_of z)) c.in-Call-right.is
-    ∙ ap (λ a. Statement.Assign c.in-Assign.field-0 (place_of c.in-Assign.place.value) (RightSide.Call c.in-Call-right.function (expressions_of a)))
-    (sym c.deref-in-Call-right.ensures.value)
-    ∙ ap (λ z. Statement.Assign c.in-Assign.field-0 (place_of z) (RightSide.Call c.in-Call-right.function (expressions_of c.deref-in-Call-right.result.now)))
-    (sym c.deref-in-Call-right-2.ensures)) c.in_ok-lower_call-in-Call-right.ensures.calls c.in_err-lower_delivery-in-Call-right.ensures.full))
-
-pub lower_statement-returns-in_err-lower_handing-in-Call-value-clause-full : goal.lower_statement-returns-in_err-lower_handing-in-Call-value-clause-full
-lower_statement-returns-in_err-lower_handing-in-Call-value-clause-full t c =
-    let p = err_from_is_err_and c.from_residual-in_err-lower_handing-in-Call-value.result c.from_residual-in_err-lower_handing-in-Call-value.ensures.1 in
-    rw (p.1, p.2) (c.loop-rest.invariant.behind.full _
-    (handing_for (program_of c.args.program.now) c.args.depth (statement_of c.loop-rest.rest.now) c.in-Return.field-0 c.in-Call-value.function
-    (expressions_of c.deref-in-Call-value.result.now) c.loop-rest.code c.lower_call-in-Call-value.new.code _ (sym c.is_reached.ensures ∙ c.if-not-is_reached.false)
-    (ap statement_of c.in-Return.is ∙ ap (λ z. Statement.Return c.in-Return.field-0 (returned_of z)) c.in-Some.is ∙ ap
-    (λ z. Statement.Return c.in-Return.field-0 (Some (right_side_of z))) c.in-Call-value.is
-    ∙ ap (λ a. Statement.Return c.in-Return.field-0 (Some (RightSide.Call c.in-Call-value.function (expressions_of a)))) (sym c.deref-in-Call-value.ensures.value))
-    c.in_ok-lower_call-in-Call-value.ensures.calls c.in_err-lower_handing-in-Call-value.ensures.full))
 
 pub lower_call-returns-then-depth-eq0-clause-full : goal.lower_call-returns-then-depth-eq0-clause-full
 lower_call-returns-then-depth-eq0-clause-full t c = call_too_deep (program_of c.args.program.now) c.args.depth c.args.number (expressions_of c.args.arguments.now) c.args.code.now _ c.if-depth-eq0.true
@@ -825,12 +615,6 @@ lower_call-close_call-requires-clause-back t c =
     c.in_ok-caller.ensures.opens c.in_ok-caller.ensures.open_ c.lower_statement.new.code
     c.in_ok-lower_statement.ensures.labels
 
-pub lower_call-returns-clause-labels : goal.lower_call-returns-clause-labels
-lower_call-returns-clause-labels t c = λ around.
-    calls_proceed c.args.number (function_of c.in-Some.function.now) (expressions_of c.args.arguments.now) c.in_ok-caller.caller c.args.code.now c.open_call.new.code
-    c.in_ok-caller.ensures.opens c.in_ok-caller.ensures.open_ c.lower_statement.new.code
-    c.in_ok-lower_statement.ensures.labels c.close_call.new.code c.in_ok-close_call.ensures.closes (let e = c.in_ok-caller.ensures.label in omega (arith, e)) c.requires.reached around
-
 pub lower_call-returns-in_err-lower_statement-clause-full : goal.lower_call-returns-in_err-lower_statement-clause-full
 lower_call-returns-in_err-lower_statement-clause-full t c =
     let p = err_from_is_err_and c.from_residual-in_err-lower_statement.result c.from_residual-in_err-lower_statement.ensures.1 in
@@ -840,10 +624,492 @@ lower_call-returns-in_err-lower_statement-clause-full t c =
     c.in_ok-caller.caller c.open_call.new.code c.in_ok-caller.ensures.opens c.requires.reached (c.args.depth - 1)
     (let some = c.if-depth-eq0.false in omega (arith, some)) c.in_err-lower_statement.ensures.full)
 
-pub lower_call-returns-in_err-close_call-clause-full : goal.lower_call-returns-in_err-close_call-clause-full
-lower_call-returns-in_err-close_call-clause-full t c =
-    let p = err_from_is_err_and c.from_residual-in_err-close_call.result c.from_residual-in_err-close_call.ensures.1 in
-    rw (p.1, p.2)
-    (call_closing (program_of c.args.program.now) c.args.depth c.args.number (expressions_of c.args.arguments.now) c.args.code.now _ (function_of c.in-Some.function.now)
-    (get_map function_of c.args.program.now.functions.items c.args.number c.in-Some.function.now (ap (λ l. slice_get l c.args.number) (sym c.deref.ensures.value) ∙ sym c.in-Some.ensures))
-    c.in_ok-caller.caller c.open_call.new.code c.in_ok-caller.ensures.opens c.requires.reached c.lower_statement.new.code c.in_ok-lower_statement.ensures.lowers c.in_err-close_call.ensures.full)
+pub lower_statement-returns-in-Block : goal.lower_statement-returns-in-Block
+lower_statement-returns-in-Block t c = record {
+  labels =
+      on_ok_weaker c.lower_statement-in-Block.result
+      (λ lowered.
+      proceeds_both c.args.around c.args.code.now c.loop-rest.code c.lower_statement-in-Block.new.code c.loop-rest.invariant.proceeds
+      lowered)
+      c.lower_statement-in-Block.ensures.labels;
+  lowers =
+      on_ok_weaker c.lower_statement-in-Block.result
+      (λ lowered.
+      let s = statement_of c.loop-rest.rest.now in
+      via_last (program_of c.args.program.now) c.args.around (statement_of c.args.statement.now) s c.args.code.now c.loop-rest.code c.lower_statement-in-Block.new.code c.loop-rest.invariant.via
+      (block_lowers (program_of c.args.program.now) c.args.around s (statement_of c.deref-in-Block.result.now) c.loop-rest.code c.lower_statement-in-Block.new.code
+      (ap statement_of c.in-Block.is ∙ ap (λ z. Statement.Block (statement_of z)) (sym c.deref-in-Block.ensures)) lowered))
+      c.lower_statement-in-Block.ensures.lowers;
+  full =
+      IfErr-weaker c.lower_statement-in-Block.result _ _
+      (λ fault full.
+      c.loop-rest.invariant.behind.full _
+      (block_for (program_of c.args.program.now) c.args.depth (statement_of c.loop-rest.rest.now) (statement_of c.deref-in-Block.result.now) c.loop-rest.code _
+      (ap statement_of c.in-Block.is ∙ ap (λ z. Statement.Block (statement_of z)) (sym c.deref-in-Block.ensures)) full))
+      c.lower_statement-in-Block.ensures.full;
+}
+
+pub lower_statement-returns-in_ok-lower_statement-in-DoWhile : goal.lower_statement-returns-in_ok-lower_statement-in-DoWhile
+lower_statement-returns-in_ok-lower_statement-in-DoWhile t c = record {
+  labels =
+      on_ok_weaker c.close_do.result
+      (λ lowered.
+      proceeds_both c.args.around c.args.code.now c.loop-rest.code c.close_do.new.code c.loop-rest.invariant.proceeds
+      (do_proceeds (condition_of c.in-DoWhile.condition) c.in_ok-labels-in-DoWhile.labels c.loop-rest.code c.open_loop.new.code c.lower_statement-in-DoWhile.new.code c.close_do.new.code
+      c.in_ok-labels-in-DoWhile.ensures c.in_ok-lower_statement-in-DoWhile.ensures.labels lowered c.args.around (sym c.is_reached.ensures ∙ c.if-not-is_reached.false)))
+      (match_ok _ _ c.close_do.result c.close_do.ensures);
+  lowers =
+      on_ok_weaker c.close_do.result
+      (λ lowered.
+      let s = statement_of c.loop-rest.rest.now in
+      let d = condition_of c.in-DoWhile.condition in
+      via_last (program_of c.args.program.now) c.args.around (statement_of c.args.statement.now) s c.args.code.now c.loop-rest.code c.close_do.new.code c.loop-rest.invariant.via
+      (do_lowers (program_of c.args.program.now) c.args.around s d (statement_of c.deref-in-DoWhile.result.now) c.in_ok-labels-in-DoWhile.labels c.loop-rest.code c.open_loop.new.code
+      c.lower_statement-in-DoWhile.new.code
+      c.close_do.new.code (ap statement_of c.in-DoWhile.is ∙ ap (λ z. Statement.DoWhile (statement_of z) d) (sym c.deref-in-DoWhile.ensures))
+      c.in_ok-labels-in-DoWhile.ensures c.in_ok-lower_statement-in-DoWhile.ensures.lowers lowered))
+      (match_ok _ _ c.close_do.result c.close_do.ensures);
+  full =
+      IfErr-weaker c.close_do.result _ _
+      (λ fault full.
+      let d = condition_of c.in-DoWhile.condition in
+      c.loop-rest.invariant.behind.full _
+      (do_condition (program_of c.args.program.now) c.args.depth (statement_of c.loop-rest.rest.now) d
+      (statement_of c.deref-in-DoWhile.result.now) c.in_ok-labels-in-DoWhile.labels c.loop-rest.code c.open_loop.new.code
+      c.lower_statement-in-DoWhile.new.code _
+      (ap statement_of c.in-DoWhile.is ∙ ap (λ z. Statement.DoWhile (statement_of z) d) (sym c.deref-in-DoWhile.ensures))
+      c.in_ok-labels-in-DoWhile.ensures c.in_ok-lower_statement-in-DoWhile.ensures.lowers full))
+      (match_err _ _ c.close_do.result c.close_do.ensures);
+}
+
+pub lower_statement-returns-in-Call : goal.lower_statement-returns-in-Call
+lower_statement-returns-in-Call t c = record {
+  labels =
+      on_ok_weaker c.lower_call.result
+      (λ lowered.
+      proceeds_both c.args.around c.args.code.now c.loop-rest.code c.lower_call.new.code c.loop-rest.invariant.proceeds (lowered c.args.around))
+      c.lower_call.ensures.labels;
+  lowers =
+      on_ok_weaker c.lower_call.result
+      (λ lowered.
+      let s = statement_of c.loop-rest.rest.now in
+      let es = expressions_of c.deref-in-Call.result.now in
+      via_last (program_of c.args.program.now) c.args.around (statement_of c.args.statement.now) s c.args.code.now c.loop-rest.code c.lower_call.new.code c.loop-rest.invariant.via
+      (call_lowers (program_of c.args.program.now) c.args.around s c.in-Call.field-0 c.in-Call.function es c.loop-rest.code c.lower_call.new.code
+      (sym c.is_reached.ensures ∙ c.if-not-is_reached.false)
+      (ap statement_of c.in-Call.is ∙ ap (λ a. Statement.Call c.in-Call.field-0 c.in-Call.function (expressions_of a)) (sym c.deref-in-Call.ensures.value)) lowered))
+      c.lower_call.ensures.calls;
+  full =
+      IfErr-weaker c.lower_call.result _ _
+      (λ fault full.
+      c.loop-rest.invariant.behind.full _
+      (call_for (program_of c.args.program.now) c.args.depth (statement_of c.loop-rest.rest.now) c.in-Call.field-0 c.in-Call.function (expressions_of c.deref-in-Call.result.now) c.loop-rest.code _
+      (ap statement_of c.in-Call.is ∙ ap (λ a. Statement.Call c.in-Call.field-0 c.in-Call.function (expressions_of a)) (sym c.deref-in-Call.ensures.value)) full))
+      c.lower_call.ensures.full;
+}
+
+pub lower_statement-returns-in_ok-lower_call-in-Call-right : goal.lower_statement-returns-in_ok-lower_call-in-Call-right
+lower_statement-returns-in_ok-lower_call-in-Call-right t c = record {
+  labels =
+      on_ok_weaker c.lower_delivery.result
+      (λ lowered.
+      proceeds_both c.args.around c.args.code.now c.loop-rest.code c.lower_delivery.new.code c.loop-rest.invariant.proceeds
+      (proceeds_both c.args.around c.loop-rest.code c.lower_call-in-Call-right.new.code c.lower_delivery.new.code (c.in_ok-lower_call-in-Call-right.ensures.labels c.args.around)
+      (delivers_proceed (place_of c.deref-in-Call-right-2.result.now) c.lower_call-in-Call-right.new.code c.lower_delivery.new.code lowered c.args.around)))
+      c.lower_delivery.ensures.delivers;
+  lowers =
+      on_ok_weaker c.lower_delivery.result
+      (λ lowered.
+      let x = c.in-Assign in
+      let y = c.in-Call-right in
+      let s = statement_of c.loop-rest.rest.now in
+      let es = expressions_of c.deref-in-Call-right.result.now in
+      via_last (program_of c.args.program.now) c.args.around (statement_of c.args.statement.now) s c.args.code.now c.loop-rest.code c.lower_delivery.new.code c.loop-rest.invariant.via
+      (call_assigned (program_of c.args.program.now) c.args.around s x.field-0 (place_of c.deref-in-Call-right-2.result.now) y.function es c.loop-rest.code
+      c.lower_call-in-Call-right.new.code c.lower_delivery.new.code
+      (sym c.is_reached.ensures ∙ c.if-not-is_reached.false)
+      (ap statement_of x.is ∙ ap (λ z. Statement.Assign x.field-0 (place_of x.place.value) (right_side_of z)) y.is
+      ∙ ap (λ a. Statement.Assign x.field-0 (place_of x.place.value) (RightSide.Call y.function (expressions_of a))) (sym c.deref-in-Call-right.ensures.value)
+      ∙ ap (λ z. Statement.Assign x.field-0 (place_of z) (RightSide.Call y.function es)) (sym c.deref-in-Call-right-2.ensures))
+      c.in_ok-lower_call-in-Call-right.ensures.calls lowered))
+      c.lower_delivery.ensures.delivers;
+  full =
+      IfErr-weaker c.lower_delivery.result _ _
+      (λ fault full.
+      c.loop-rest.invariant.behind.full _
+      (delivery_for (program_of c.args.program.now) c.args.depth (statement_of c.loop-rest.rest.now) c.in-Assign.field-0 (place_of c.deref-in-Call-right-2.result.now) c.in-Call-right.function
+      (expressions_of c.deref-in-Call-right.result.now) c.loop-rest.code c.lower_call-in-Call-right.new.code _ (sym c.is_reached.ensures ∙ c.if-not-is_reached.false)
+      (ap statement_of c.in-Assign.is ∙ ap (λ z. Statement.Assign c.in-Assign.field-0 (place_of c.in-Assign.place.value) (right_side_of z)) c.in-Call-right.is
+      ∙ ap (λ a. Statement.Assign c.in-Assign.field-0 (place_of c.in-Assign.place.value) (RightSide.Call c.in-Call-right.function (expressions_of a)))
+      (sym c.deref-in-Call-right.ensures.value)
+      ∙ ap (λ z. Statement.Assign c.in-Assign.field-0 (place_of z) (RightSide.Call c.in-Call-right.function (expressions_of c.deref-in-Call-right.result.now)))
+      (sym c.deref-in-Call-right-2.ensures)) c.in_ok-lower_call-in-Call-right.ensures.calls full))
+      c.lower_delivery.ensures.full;
+}
+
+pub lower_statement-returns-in_ok-lower_call-in-Call-value : goal.lower_statement-returns-in_ok-lower_call-in-Call-value
+lower_statement-returns-in_ok-lower_call-in-Call-value t c = record {
+  labels =
+      on_ok_weaker c.lower_handing.result
+      (λ lowered.
+      proceeds_both c.args.around c.args.code.now c.loop-rest.code c.lower_handing.new.code c.loop-rest.invariant.proceeds
+      (proceeds_both c.args.around c.loop-rest.code c.lower_call-in-Call-value.new.code c.lower_handing.new.code (c.in_ok-lower_call-in-Call-value.ensures.labels c.args.around)
+      (hands_proceed c.lower_call-in-Call-value.new.code c.lower_handing.new.code lowered
+      (closed_reached c.in_ok-lower_call-in-Call-value.ensures.calls.caller c.in_ok-lower_call-in-Call-value.ensures.calls.done c.lower_call-in-Call-value.new.code
+      c.in_ok-lower_call-in-Call-value.ensures.calls.closes) c.args.around)))
+      c.lower_handing.ensures.hands;
+  lowers =
+      on_ok_weaker c.lower_handing.result
+      (λ lowered.
+      let x = c.in-Return in
+      let y = c.in-Call-value in
+      let s = statement_of c.loop-rest.rest.now in
+      let es = expressions_of c.deref-in-Call-value.result.now in
+      via_last (program_of c.args.program.now) c.args.around (statement_of c.args.statement.now) s c.args.code.now c.loop-rest.code c.lower_handing.new.code c.loop-rest.invariant.via
+      (call_returned (program_of c.args.program.now) c.args.around s x.field-0 y.function es c.loop-rest.code c.lower_call-in-Call-value.new.code c.lower_handing.new.code
+      (sym c.is_reached.ensures ∙ c.if-not-is_reached.false)
+      (ap statement_of x.is ∙ ap (λ z. Statement.Return x.field-0 (returned_of z)) c.in-Some.is ∙ ap (λ z. Statement.Return x.field-0 (Some (right_side_of z))) y.is
+      ∙ ap (λ a. Statement.Return x.field-0 (Some (RightSide.Call y.function (expressions_of a)))) (sym c.deref-in-Call-value.ensures.value))
+      c.in_ok-lower_call-in-Call-value.ensures.calls lowered))
+      c.lower_handing.ensures.hands;
+  full =
+      IfErr-weaker c.lower_handing.result _ _
+      (λ fault full.
+      c.loop-rest.invariant.behind.full _
+      (handing_for (program_of c.args.program.now) c.args.depth (statement_of c.loop-rest.rest.now) c.in-Return.field-0 c.in-Call-value.function
+      (expressions_of c.deref-in-Call-value.result.now) c.loop-rest.code c.lower_call-in-Call-value.new.code _ (sym c.is_reached.ensures ∙ c.if-not-is_reached.false)
+      (ap statement_of c.in-Return.is ∙ ap (λ z. Statement.Return c.in-Return.field-0 (returned_of z)) c.in-Some.is ∙ ap
+      (λ z. Statement.Return c.in-Return.field-0 (Some (right_side_of z))) c.in-Call-value.is
+      ∙ ap (λ a. Statement.Return c.in-Return.field-0 (Some (RightSide.Call c.in-Call-value.function (expressions_of a)))) (sym c.deref-in-Call-value.ensures.value))
+      c.in_ok-lower_call-in-Call-value.ensures.calls full))
+      c.lower_handing.ensures.full;
+}
+
+pub lower_statement-returns-in-Value : goal.lower_statement-returns-in-Value
+lower_statement-returns-in-Value t c = record {
+  labels =
+      on_ok_weaker c.lower_simple.result
+      (λ lowered.
+      proceeds_both c.args.around c.args.code.now c.loop-rest.code c.lower_simple.new.code c.loop-rest.invariant.proceeds
+      lowered)
+      c.lower_simple.ensures.labels;
+  lowers =
+      on_ok_weaker c.lower_simple.result
+      (λ lowered.
+      let s = statement_of c.loop-rest.rest.now in
+      via_last (program_of c.args.program.now) c.args.around (statement_of c.args.statement.now) s c.args.code.now c.loop-rest.code c.lower_simple.new.code c.loop-rest.invariant.via
+      (simple_lowers (program_of c.args.program.now) c.args.around s c.loop-rest.code c.lower_simple.new.code (sym c.is_reached.ensures ∙ c.if-not-is_reached.false)
+      (lowered (program_of c.args.program.now))))
+      c.lower_simple.ensures.lowers;
+  full =
+      IfErr-weaker c.lower_simple.result _ _
+      (λ fault full.
+      c.loop-rest.invariant.behind.full _ (full (program_of c.args.program.now) c.args.depth))
+      c.lower_simple.ensures.full;
+}
+
+pub lower_statement-returns-in-None : goal.lower_statement-returns-in-None
+lower_statement-returns-in-None t c = record {
+  labels =
+      on_ok_weaker c.lower_simple-in-None.result
+      (λ lowered.
+      proceeds_both c.args.around c.args.code.now c.loop-rest.code c.lower_simple-in-None.new.code c.loop-rest.invariant.proceeds
+      lowered)
+      c.lower_simple-in-None.ensures.labels;
+  lowers =
+      on_ok_weaker c.lower_simple-in-None.result
+      (λ lowered.
+      let s = statement_of c.loop-rest.rest.now in
+      via_last (program_of c.args.program.now) c.args.around (statement_of c.args.statement.now) s c.args.code.now c.loop-rest.code c.lower_simple-in-None.new.code c.loop-rest.invariant.via
+      (simple_lowers (program_of c.args.program.now) c.args.around s c.loop-rest.code c.lower_simple-in-None.new.code (sym c.is_reached.ensures ∙ c.if-not-is_reached.false)
+      (lowered (program_of c.args.program.now))))
+      c.lower_simple-in-None.ensures.lowers;
+  full =
+      IfErr-weaker c.lower_simple-in-None.result _ _
+      (λ fault full.
+      c.loop-rest.invariant.behind.full _ (full (program_of c.args.program.now) c.args.depth))
+      c.lower_simple-in-None.ensures.full;
+}
+
+pub lower_statement-returns-in-Value-value : goal.lower_statement-returns-in-Value-value
+lower_statement-returns-in-Value-value t c = record {
+  labels =
+      on_ok_weaker c.lower_simple-in-Value-value.result
+      (λ lowered.
+      proceeds_both c.args.around c.args.code.now c.loop-rest.code c.lower_simple-in-Value-value.new.code c.loop-rest.invariant.proceeds
+      lowered)
+      c.lower_simple-in-Value-value.ensures.labels;
+  lowers =
+      on_ok_weaker c.lower_simple-in-Value-value.result
+      (λ lowered.
+      let s = statement_of c.loop-rest.rest.now in
+      via_last (program_of c.args.program.now) c.args.around (statement_of c.args.statement.now) s c.args.code.now c.loop-rest.code c.lower_simple-in-Value-value.new.code c.loop-rest.invariant.via
+      (simple_lowers (program_of c.args.program.now) c.args.around s c.loop-rest.code c.lower_simple-in-Value-value.new.code (sym c.is_reached.ensures ∙ c.if-not-is_reached.false)
+      (lowered (program_of c.args.program.now))))
+      c.lower_simple-in-Value-value.ensures.lowers;
+  full =
+      IfErr-weaker c.lower_simple-in-Value-value.result _ _
+      (λ fault full.
+      c.loop-rest.invariant.behind.full _ (full (program_of c.args.program.now) c.args.depth))
+      c.lower_simple-in-Value-value.ensures.full;
+}
+
+pub lower_statement-returns-in_default-rest : goal.lower_statement-returns-in_default-rest
+lower_statement-returns-in_default-rest t c = record {
+  labels =
+      on_ok_weaker c.lower_simple-in_default-rest.result
+      (λ lowered.
+      proceeds_both c.args.around c.args.code.now c.loop-rest.code c.lower_simple-in_default-rest.new.code c.loop-rest.invariant.proceeds
+      lowered)
+      c.lower_simple-in_default-rest.ensures.labels;
+  lowers =
+      on_ok_weaker c.lower_simple-in_default-rest.result
+      (λ lowered.
+      let s = statement_of c.loop-rest.rest.now in
+      via_last (program_of c.args.program.now) c.args.around (statement_of c.args.statement.now) s c.args.code.now c.loop-rest.code c.lower_simple-in_default-rest.new.code c.loop-rest.invariant.via
+      (simple_lowers (program_of c.args.program.now) c.args.around s c.loop-rest.code c.lower_simple-in_default-rest.new.code (sym c.is_reached.ensures ∙ c.if-not-is_reached.false)
+      (lowered (program_of c.args.program.now))))
+      c.lower_simple-in_default-rest.ensures.lowers;
+  full =
+      IfErr-weaker c.lower_simple-in_default-rest.result _ _
+      (λ fault full.
+      c.loop-rest.invariant.behind.full _ (full (program_of c.args.program.now) c.args.depth))
+      c.lower_simple-in_default-rest.ensures.full;
+}
+
+pub lower_statement-returns-in_err-lower_statement-clause-labels : goal.lower_statement-returns-in_err-lower_statement-clause-labels
+lower_statement-returns-in_err-lower_statement-clause-labels t c =
+    let p = err_from_is_err_and c.from_residual.result c.from_residual.ensures.1 in
+    rw p.1 tt
+
+pub lower_statement-returns-in_err-lower_statement-clause-lowers : goal.lower_statement-returns-in_err-lower_statement-clause-lowers
+lower_statement-returns-in_err-lower_statement-clause-lowers t c =
+    let p = err_from_is_err_and c.from_residual.result c.from_residual.ensures.1 in
+    rw p.1 tt
+
+pub lower_statement-returns-in_err-print_count-clause-labels : goal.lower_statement-returns-in_err-print_count-clause-labels
+lower_statement-returns-in_err-print_count-clause-labels t c =
+    let p = err_from_is_err_and c.from_residual-in_err-print_count.result c.from_residual-in_err-print_count.ensures.1 in
+    rw p.1 tt
+
+pub lower_statement-returns-in_err-print_count-clause-lowers : goal.lower_statement-returns-in_err-print_count-clause-lowers
+lower_statement-returns-in_err-print_count-clause-lowers t c =
+    let p = err_from_is_err_and c.from_residual-in_err-print_count.result c.from_residual-in_err-print_count.ensures.1 in
+    rw p.1 tt
+
+pub lower_statement-returns-in_err-skip_sites-clause-labels : goal.lower_statement-returns-in_err-skip_sites-clause-labels
+lower_statement-returns-in_err-skip_sites-clause-labels t c =
+    let p = err_from_is_err_and c.from_residual-in_err-skip_sites.result c.from_residual-in_err-skip_sites.ensures.1 in
+    rw p.1 tt
+
+pub lower_statement-returns-in_err-skip_sites-clause-lowers : goal.lower_statement-returns-in_err-skip_sites-clause-lowers
+lower_statement-returns-in_err-skip_sites-clause-lowers t c =
+    let p = err_from_is_err_and c.from_residual-in_err-skip_sites.result c.from_residual-in_err-skip_sites.ensures.1 in
+    rw p.1 tt
+
+pub lower_statement-returns-in_err-labels-in-If-clause-labels : goal.lower_statement-returns-in_err-labels-in-If-clause-labels
+lower_statement-returns-in_err-labels-in-If-clause-labels t c =
+    let p = err_from_is_err_and c.from_residual-in_err-labels-in-If.result c.from_residual-in_err-labels-in-If.ensures.1 in
+    rw p.1 tt
+
+pub lower_statement-returns-in_err-labels-in-If-clause-lowers : goal.lower_statement-returns-in_err-labels-in-If-clause-lowers
+lower_statement-returns-in_err-labels-in-If-clause-lowers t c =
+    let p = err_from_is_err_and c.from_residual-in_err-labels-in-If.result c.from_residual-in_err-labels-in-If.ensures.1 in
+    rw p.1 tt
+
+pub lower_statement-returns-in_err-lower_statement-in-If-clause-labels : goal.lower_statement-returns-in_err-lower_statement-in-If-clause-labels
+lower_statement-returns-in_err-lower_statement-in-If-clause-labels t c =
+    let p = err_from_is_err_and c.from_residual-in_err-lower_statement-in-If.result c.from_residual-in_err-lower_statement-in-If.ensures.1 in
+    rw p.1 tt
+
+pub lower_statement-returns-in_err-lower_statement-in-If-clause-lowers : goal.lower_statement-returns-in_err-lower_statement-in-If-clause-lowers
+lower_statement-returns-in_err-lower_statement-in-If-clause-lowers t c =
+    let p = err_from_is_err_and c.from_residual-in_err-lower_statement-in-If.result c.from_residual-in_err-lower_statement-in-If.ensures.1 in
+    rw p.1 tt
+
+pub lower_statement-returns-in_err-lower_statement-in-If-2-clause-labels : goal.lower_statement-returns-in_err-lower_statement-in-If-2-clause-labels
+lower_statement-returns-in_err-lower_statement-in-If-2-clause-labels t c =
+    let p = err_from_is_err_and c.from_residual-in_err-lower_statement-in-If-2.result c.from_residual-in_err-lower_statement-in-If-2.ensures.1 in
+    rw p.1 tt
+
+pub lower_statement-returns-in_err-lower_statement-in-If-2-clause-lowers : goal.lower_statement-returns-in_err-lower_statement-in-If-2-clause-lowers
+lower_statement-returns-in_err-lower_statement-in-If-2-clause-lowers t c =
+    let p = err_from_is_err_and c.from_residual-in_err-lower_statement-in-If-2.result c.from_residual-in_err-lower_statement-in-If-2.ensures.1 in
+    rw p.1 tt
+
+pub lower_statement-returns-in_err-labels-in-While-clause-labels : goal.lower_statement-returns-in_err-labels-in-While-clause-labels
+lower_statement-returns-in_err-labels-in-While-clause-labels t c =
+    let p = err_from_is_err_and c.from_residual-in_err-labels-in-While.result c.from_residual-in_err-labels-in-While.ensures.1 in
+    rw p.1 tt
+
+pub lower_statement-returns-in_err-labels-in-While-clause-lowers : goal.lower_statement-returns-in_err-labels-in-While-clause-lowers
+lower_statement-returns-in_err-labels-in-While-clause-lowers t c =
+    let p = err_from_is_err_and c.from_residual-in_err-labels-in-While.result c.from_residual-in_err-labels-in-While.ensures.1 in
+    rw p.1 tt
+
+pub lower_statement-returns-in_err-lower_statement-in-While-clause-labels : goal.lower_statement-returns-in_err-lower_statement-in-While-clause-labels
+lower_statement-returns-in_err-lower_statement-in-While-clause-labels t c =
+    let p = err_from_is_err_and c.from_residual-in_err-lower_statement-in-While.result c.from_residual-in_err-lower_statement-in-While.ensures.1 in
+    rw p.1 tt
+
+pub lower_statement-returns-in_err-lower_statement-in-While-clause-lowers : goal.lower_statement-returns-in_err-lower_statement-in-While-clause-lowers
+lower_statement-returns-in_err-lower_statement-in-While-clause-lowers t c =
+    let p = err_from_is_err_and c.from_residual-in_err-lower_statement-in-While.result c.from_residual-in_err-lower_statement-in-While.ensures.1 in
+    rw p.1 tt
+
+pub lower_statement-returns-in_err-lower_statement-in-DoWhile-clause-labels : goal.lower_statement-returns-in_err-lower_statement-in-DoWhile-clause-labels
+lower_statement-returns-in_err-lower_statement-in-DoWhile-clause-labels t c =
+    let p = err_from_is_err_and c.from_residual-in_err-lower_statement-in-DoWhile.result c.from_residual-in_err-lower_statement-in-DoWhile.ensures.1 in
+    rw p.1 tt
+
+pub lower_statement-returns-in_err-lower_statement-in-DoWhile-clause-lowers : goal.lower_statement-returns-in_err-lower_statement-in-DoWhile-clause-lowers
+lower_statement-returns-in_err-lower_statement-in-DoWhile-clause-lowers t c =
+    let p = err_from_is_err_and c.from_residual-in_err-lower_statement-in-DoWhile.result c.from_residual-in_err-lower_statement-in-DoWhile.ensures.1 in
+    rw p.1 tt
+
+pub lower_statement-returns-in_err-lower_statement-in-For-clause-labels : goal.lower_statement-returns-in_err-lower_statement-in-For-clause-labels
+lower_statement-returns-in_err-lower_statement-in-For-clause-labels t c =
+    let p = err_from_is_err_and c.from_residual-in_err-lower_statement-in-For.result c.from_residual-in_err-lower_statement-in-For.ensures.1 in
+    rw p.1 tt
+
+pub lower_statement-returns-in_err-lower_statement-in-For-clause-lowers : goal.lower_statement-returns-in_err-lower_statement-in-For-clause-lowers
+lower_statement-returns-in_err-lower_statement-in-For-clause-lowers t c =
+    let p = err_from_is_err_and c.from_residual-in_err-lower_statement-in-For.result c.from_residual-in_err-lower_statement-in-For.ensures.1 in
+    rw p.1 tt
+
+pub lower_statement-returns-in_err-labels-in-For-clause-labels : goal.lower_statement-returns-in_err-labels-in-For-clause-labels
+lower_statement-returns-in_err-labels-in-For-clause-labels t c =
+    let p = err_from_is_err_and c.from_residual-in_err-labels-in-For.result c.from_residual-in_err-labels-in-For.ensures.1 in
+    rw p.1 tt
+
+pub lower_statement-returns-in_err-labels-in-For-clause-lowers : goal.lower_statement-returns-in_err-labels-in-For-clause-lowers
+lower_statement-returns-in_err-labels-in-For-clause-lowers t c =
+    let p = err_from_is_err_and c.from_residual-in_err-labels-in-For.result c.from_residual-in_err-labels-in-For.ensures.1 in
+    rw p.1 tt
+
+pub lower_statement-returns-in_err-lower_statement-in-For-2-clause-labels : goal.lower_statement-returns-in_err-lower_statement-in-For-2-clause-labels
+lower_statement-returns-in_err-lower_statement-in-For-2-clause-labels t c =
+    let p = err_from_is_err_and c.from_residual-in_err-lower_statement-in-For-2.result c.from_residual-in_err-lower_statement-in-For-2.ensures.1 in
+    rw p.1 tt
+
+pub lower_statement-returns-in_err-lower_statement-in-For-2-clause-lowers : goal.lower_statement-returns-in_err-lower_statement-in-For-2-clause-lowers
+lower_statement-returns-in_err-lower_statement-in-For-2-clause-lowers t c =
+    let p = err_from_is_err_and c.from_residual-in_err-lower_statement-in-For-2.result c.from_residual-in_err-lower_statement-in-For-2.ensures.1 in
+    rw p.1 tt
+
+pub lower_statement-returns-in_err-lower_statement-in-For-3-clause-labels : goal.lower_statement-returns-in_err-lower_statement-in-For-3-clause-labels
+lower_statement-returns-in_err-lower_statement-in-For-3-clause-labels t c =
+    let p = err_from_is_err_and c.from_residual-in_err-lower_statement-in-For-3.result c.from_residual-in_err-lower_statement-in-For-3.ensures.1 in
+    rw p.1 tt
+
+pub lower_statement-returns-in_err-lower_statement-in-For-3-clause-lowers : goal.lower_statement-returns-in_err-lower_statement-in-For-3-clause-lowers
+lower_statement-returns-in_err-lower_statement-in-For-3-clause-lowers t c =
+    let p = err_from_is_err_and c.from_residual-in_err-lower_statement-in-For-3.result c.from_residual-in_err-lower_statement-in-For-3.ensures.1 in
+    rw p.1 tt
+
+pub lower_statement-returns-in_err-lower_call-in-Call-right-clause-labels : goal.lower_statement-returns-in_err-lower_call-in-Call-right-clause-labels
+lower_statement-returns-in_err-lower_call-in-Call-right-clause-labels t c =
+    let p = err_from_is_err_and c.from_residual-in_err-lower_call-in-Call-right.result c.from_residual-in_err-lower_call-in-Call-right.ensures.1 in
+    rw p.1 tt
+
+pub lower_statement-returns-in_err-lower_call-in-Call-right-clause-lowers : goal.lower_statement-returns-in_err-lower_call-in-Call-right-clause-lowers
+lower_statement-returns-in_err-lower_call-in-Call-right-clause-lowers t c =
+    let p = err_from_is_err_and c.from_residual-in_err-lower_call-in-Call-right.result c.from_residual-in_err-lower_call-in-Call-right.ensures.1 in
+    rw p.1 tt
+
+pub lower_statement-returns-in_err-lower_call-in-Call-value-clause-labels : goal.lower_statement-returns-in_err-lower_call-in-Call-value-clause-labels
+lower_statement-returns-in_err-lower_call-in-Call-value-clause-labels t c =
+    let p = err_from_is_err_and c.from_residual-in_err-lower_call-in-Call-value.result c.from_residual-in_err-lower_call-in-Call-value.ensures.1 in
+    rw p.1 tt
+
+pub lower_statement-returns-in_err-lower_call-in-Call-value-clause-lowers : goal.lower_statement-returns-in_err-lower_call-in-Call-value-clause-lowers
+lower_statement-returns-in_err-lower_call-in-Call-value-clause-lowers t c =
+    let p = err_from_is_err_and c.from_residual-in_err-lower_call-in-Call-value.result c.from_residual-in_err-lower_call-in-Call-value.ensures.1 in
+    rw p.1 tt
+
+pub lower_call-returns-in_err-lower_statement-clause-labels : goal.lower_call-returns-in_err-lower_statement-clause-labels
+lower_call-returns-in_err-lower_statement-clause-labels t c =
+    let p = err_from_is_err_and c.from_residual-in_err-lower_statement.result c.from_residual-in_err-lower_statement.ensures.1 in
+    rw p.1 tt
+
+pub lower_call-returns-in_err-lower_statement-clause-calls : goal.lower_call-returns-in_err-lower_statement-clause-calls
+lower_call-returns-in_err-lower_statement-clause-calls t c =
+    let p = err_from_is_err_and c.from_residual-in_err-lower_statement.result c.from_residual-in_err-lower_statement.ensures.1 in
+    rw p.1 tt
+
+pub lower_statement-returns-in_err-turn_choice-in-If : goal.lower_statement-returns-in_err-turn_choice-in-If
+lower_statement-returns-in_err-turn_choice-in-If t c =
+    let p = err_from_is_err_and c.from_residual-in_err-turn_choice-in-If.result c.from_residual-in_err-turn_choice-in-If.ensures.1 in
+    record { labels = rw p.1 tt; lowers = rw p.1 tt; full = rw (p.1, p.2) (λ S w size suits deep now is. cc) }
+
+pub lower_statement-returns-in_err-bind-in-If : goal.lower_statement-returns-in_err-bind-in-If
+lower_statement-returns-in_err-bind-in-If t c =
+    let p = err_from_is_err_and c.from_residual-in_err-bind-in-If.result c.from_residual-in_err-bind-in-If.ensures.1 in
+    record { labels = rw p.1 tt; lowers = rw p.1 tt; full = rw (p.1, p.2) (λ S w size suits deep now is. cc) }
+
+pub lower_statement-returns-in_err-close_turn-in-While : goal.lower_statement-returns-in_err-close_turn-in-While
+lower_statement-returns-in_err-close_turn-in-While t c =
+    let p = err_from_is_err_and c.from_residual-in_err-close_turn-in-While.result c.from_residual-in_err-close_turn-in-While.ensures.1 in
+    record { labels = rw p.1 tt; lowers = rw p.1 tt; full = rw (p.1, p.2) (λ S w size suits deep now is. cc) }
+
+pub lower_statement-returns-in_err-labels-in-DoWhile : goal.lower_statement-returns-in_err-labels-in-DoWhile
+lower_statement-returns-in_err-labels-in-DoWhile t c =
+    let p = err_from_is_err_and c.from_residual-in_err-labels-in-DoWhile.result c.from_residual-in_err-labels-in-DoWhile.ensures.1 in
+    record { labels = rw p.1 tt; lowers = rw p.1 tt; full = rw (p.1, p.2) (λ S w size suits deep now is. cc) }
+
+pub lower_statement-returns-in_err-turn_for-in-For : goal.lower_statement-returns-in_err-turn_for-in-For
+lower_statement-returns-in_err-turn_for-in-For t c =
+    let p = err_from_is_err_and c.from_residual-in_err-turn_for-in-For.result c.from_residual-in_err-turn_for-in-For.ensures.1 in
+    record { labels = rw p.1 tt; lowers = rw p.1 tt; full = rw (p.1, p.2) (λ S w size suits deep now is. cc) }
+
+pub lower_statement-returns-in_err-close_for-in-For : goal.lower_statement-returns-in_err-close_for-in-For
+lower_statement-returns-in_err-close_for-in-For t c =
+    let p = err_from_is_err_and c.from_residual-in_err-close_for-in-For.result c.from_residual-in_err-close_for-in-For.ensures.1 in
+    record { labels = rw p.1 tt; lowers = rw p.1 tt; full = rw (p.1, p.2) (λ S w size suits deep now is. cc) }
+
+pub lower_call-returns : goal.lower_call-returns
+lower_call-returns t c = record {
+  labels =
+      on_ok_weaker c.close_call.result
+      (λ closes.
+      λ around.
+      calls_proceed c.args.number (function_of c.in-Some.function.now) (expressions_of c.args.arguments.now) c.in_ok-caller.caller c.args.code.now c.open_call.new.code
+      c.in_ok-caller.ensures.opens c.in_ok-caller.ensures.open_ c.lower_statement.new.code
+      c.in_ok-lower_statement.ensures.labels c.close_call.new.code closes (let e = c.in_ok-caller.ensures.label in omega (arith, e)) c.requires.reached around)
+      c.close_call.ensures.closes;
+  calls =
+      on_ok_weaker c.close_call.result
+      (λ closes.
+      record {
+        function = function_of c.in-Some.function.now;
+        found = get_map function_of c.args.program.now.functions.items c.args.number c.in-Some.function.now (ap (λ l. slice_get l c.args.number) (sym c.deref.ensures.value) ∙ sym c.in-Some.ensures);
+        caller = c.in_ok-caller.caller;
+        begun = c.open_call.new.code;
+        opens = c.in_ok-caller.ensures.opens;
+        done = c.lower_statement.new.code;
+        lowers = c.in_ok-lower_statement.ensures.lowers;
+        closes = closes;
+      })
+      c.close_call.ensures.closes;
+  full =
+      IfErr-weaker c.close_call.result _ _
+      (λ fault full.
+      call_closing (program_of c.args.program.now) c.args.depth c.args.number (expressions_of c.args.arguments.now) c.args.code.now _ (function_of c.in-Some.function.now)
+      (get_map function_of c.args.program.now.functions.items c.args.number c.in-Some.function.now (ap (λ l. slice_get l c.args.number) (sym c.deref.ensures.value) ∙ sym c.in-Some.ensures))
+      c.in_ok-caller.caller c.open_call.new.code c.in_ok-caller.ensures.opens c.requires.reached c.lower_statement.new.code c.in_ok-lower_statement.ensures.lowers full)
+      c.close_call.ensures.full;
+}
+
+pub lower_call-returns-in_err-caller : goal.lower_call-returns-in_err-caller
+lower_call-returns-in_err-caller t c =
+    let p = err_from_is_err_and c.from_residual.result c.from_residual.ensures.1 in
+    record {
+      labels = rw p.1 tt;
+      calls = rw p.1 tt;
+      full =
+          rw (p.1, p.2) (λ S w size seated deep fits words good call among now is.
+          let large = c.in_err-caller.ensures.full is in
+          let operations = now.size in
+          let steps = now.steps in
+          omega (arith, large, operations, steps));
+    }
