@@ -80,8 +80,7 @@ pub fn lower_delivery(
     let homes = code.homes.as_slice();
     let target = lower_place(alloc, homes, &mut code.block, place)?;
     store(alloc, &mut code.block, target, &value)?;
-    code.block.step()?;
-    Ok(())
+    code.block.step()
 }
 
 /// A step that returns the value of a call that has returned.
@@ -98,8 +97,7 @@ pub fn lower_handing(alloc: Global, code: &mut Lowering) -> Result<(), LoweringF
         Some(back) => {
             let word = code.first_word()?;
             let value = code.block.variable(alloc, word, CType::LONG)?;
-            return_value(alloc, code, back, &value)?;
-            Ok(())
+            return_value(alloc, code, back, &value)
         }
     }
 }

@@ -84,8 +84,7 @@ pub fn return_reached(alloc: Global, code: &mut Lowering) -> Result<(), Lowering
     if !code.is_reached() {
         return Ok(());
     }
-    return_nothing(alloc, code)?;
-    Ok(())
+    return_nothing(alloc, code)
 }
 
 /// A return of a value. That of the thread's outermost function is never seen.
@@ -109,8 +108,7 @@ pub fn lower_return(
         Some(back) => {
             let homes = code.homes.as_slice();
             let value = lower_expression(alloc, homes, &mut code.block, right)?;
-            return_value(alloc, code, back, &value)?;
-            Ok(())
+            return_value(alloc, code, back, &value)
         }
     }
 }
