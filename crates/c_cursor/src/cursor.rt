@@ -61,7 +61,7 @@ impl<'a> Cursor<'a> {
         ensures { result ≡ sees tokens_of.is_name self.now }
     {
         match self.rest {
-            [token, ..] => tokens::is_name(token),
+            [token, ..] => matches!(&token.kind, Kind::Name(_)),
             [] => false,
         }
     }
@@ -71,7 +71,7 @@ impl<'a> Cursor<'a> {
         ensures { result ≡ sees tokens_of.is_constant self.now }
     {
         match self.rest {
-            [token, ..] => tokens::is_constant(token),
+            [token, ..] => matches!(&token.kind, Kind::Constant(_)),
             [] => false,
         }
     }
@@ -81,7 +81,7 @@ impl<'a> Cursor<'a> {
         ensures { result ≡ sees tokens_of.is_text self.now }
     {
         match self.rest {
-            [token, ..] => tokens::is_text(token),
+            [token, ..] => matches!(&token.kind, Kind::StringLiteral(_)),
             [] => false,
         }
     }
@@ -137,15 +137,19 @@ impl<'a> Cursor<'a> {
     }
 
     /// Whether the next token can begin an argument of a call.
+    #[tactic(auto, unfolding(c_tree::specs::Tokens::same_keyword, c_tree::specs::Tokens::same_punctuator))]
     pub fn begins_argument(&self) -> bool
         ensures { result ≡ sees spec.begins_argument self.now }
     {
         match self.rest {
             [token, ..] => {
                 tokens::begins_cast(token)
-                    || tokens::is_text(token)
-                    || tokens::is(token, Sign::Mark(Punctuator::And))
-                    || tokens::is(token, Sign::Word(Keyword::Null))
+                    || matches!(
+                        &token.kind,
+                        Kind::StringLiteral(_)
+                            | Kind::Punctuator(Punctuator::And)
+                            | Kind::Keyword(Keyword::Null)
+                    )
             }
             [] => false,
         }
@@ -156,7 +160,10 @@ impl<'a> Cursor<'a> {
         ensures { result ≡ sees spec.begins_simple self.now }
     {
         match self.rest {
-            [token, ..] => tokens::begins_simple(token),
+            [token, ..] => matches!(
+                &token.kind,
+                Kind::Name(_) | Kind::Punctuator(Punctuator::PlusPlus | Punctuator::MinusMinus)
+            ),
             [] => false,
         }
     }

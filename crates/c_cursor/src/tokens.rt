@@ -20,24 +20,6 @@ pub fn is(token: &Token, sign: Sign) -> bool
     }
 }
 
-pub fn is_name(token: &Token) -> bool
-    ensures { result ≡ spec.is_name token.now }
-{
-    matches!(&token.kind, Kind::Name(_))
-}
-
-pub fn is_constant(token: &Token) -> bool
-    ensures { result ≡ spec.is_constant token.now }
-{
-    matches!(&token.kind, Kind::Constant(_))
-}
-
-pub fn is_text(token: &Token) -> bool
-    ensures { result ≡ spec.is_text token.now }
-{
-    matches!(&token.kind, Kind::StringLiteral(_))
-}
-
 pub fn type_word(token: &Token) -> Option<TypeWord>
     ensures { result ≡ spec.type_word_at token.now }
 {
@@ -147,39 +129,45 @@ pub fn direction(token: &Token) -> Option<Direction>
 }
 
 /// Whether the token begins an operand: a unary operator, a name, a constant or a parenthesis.
+#[tactic(auto, unfolding(c_tree::specs::Tokens::same_punctuator))]
 pub fn begins_cast(token: &Token) -> bool
     ensures { result ≡ begins.begins_cast token.now }
 {
-    unary_operator(token).is_some()
-        || is_name(token)
-        || is_constant(token)
-        || is(token, Sign::Mark(Punctuator::OpenRound))
-}
-
-pub fn begins_simple(token: &Token) -> bool
-    ensures { result ≡ begins.begins_simple token.now }
-{
-    is_name(token) || direction(token).is_some()
+    match &token.kind {
+        Kind::Name(_) | Kind::Constant(_) => true,
+        Kind::Punctuator(
+            Punctuator::Plus
+            | Punctuator::Minus
+            | Punctuator::Tilde
+            | Punctuator::Exclamation
+            | Punctuator::OpenRound,
+        ) => true,
+        _ => false,
+    }
 }
 
 /// Whether the token begins a block or a control statement.
+#[tactic(auto, unfolding(c_tree::specs::Tokens::same_keyword, c_tree::specs::Tokens::same_punctuator))]
 pub fn begins_compound(token: &Token) -> bool
     ensures { result ≡ begins.begins_compound token.now }
 {
-    is(token, Sign::Mark(Punctuator::OpenCurly))
-        || is(token, Sign::Word(Keyword::If))
-        || is(token, Sign::Word(Keyword::While))
-        || is(token, Sign::Word(Keyword::Do))
-        || is(token, Sign::Word(Keyword::For))
+    match &token.kind {
+        Kind::Punctuator(Punctuator::OpenCurly) => true,
+        Kind::Keyword(Keyword::If | Keyword::While | Keyword::Do | Keyword::For) => true,
+        _ => false,
+    }
 }
 
+#[tactic(auto, unfolding(c_tree::specs::Tokens::same_keyword, c_tree::specs::Tokens::same_punctuator))]
 pub fn begins_statement(token: &Token) -> bool
     ensures { result ≡ begins.begins_statement token.now }
 {
-    begins_compound(token)
-        || is(token, Sign::Mark(Punctuator::Semicolon))
-        || is(token, Sign::Word(Keyword::Break))
-        || is(token, Sign::Word(Keyword::Continue))
-        || is(token, Sign::Word(Keyword::Return))
-        || begins_simple(token)
+    match &token.kind {
+        Kind::Name(_) => true,
+        Kind::Punctuator(Punctuator::Semicolon | Punctuator::PlusPlus | Punctuator::MinusMinus) => {
+            true
+        }
+        Kind::Keyword(Keyword::Break | Keyword::Continue | Keyword::Return) => true,
+        _ => begins_compound(token),
+    }
 }
