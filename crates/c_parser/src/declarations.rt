@@ -15,7 +15,7 @@ use c_statement_parser::statements::{Bodies, statement};
 use c_token::{Keyword, Punctuator};
 use c_tree::{
     Block, Expression, ExternalDeclaration, Function, GlobalDeclaration, GlobalDeclarator,
-    Initializer, Name, Parameter, Sign, Specifiers, TranslationUnit,
+    Initializer, Name, Parameter, Sign, TranslationUnit,
 };
 use grammar::{Fault, too_deep};
 use sqlite_items::{Boxed, Items};
@@ -142,23 +142,8 @@ fn list(alloc: Global, cursor: &mut Cursor<'_>, room: usize) -> Result<Initializ
     Ok(Initializer::List(values))
 }
 
-/// What an object begins with.
-#[tactic(auto, unfolding(c_reading::specs::Declarations::read_initial, c_reading::specs::Declarations::read_mutex, c_reading::specs::Declarations::read_initial_value))]
-fn initial(alloc: Global, cursor: &mut Cursor<'_>, room: usize) -> Result<Initializer, Fault>
-    ensures { Steps (spec.read_initial room (below room) cursor.old) result cursor.new }
-{
-    if cursor.sees(Sign::Mark(Punctuator::OpenCurly)) {
-        list(alloc, cursor, inside(room))
-    } else if cursor.sees(Sign::Word(Keyword::MutexInitializer)) {
-        cursor.word(Keyword::MutexInitializer)?;
-        Ok(Initializer::Mutex)
-    } else {
-        Ok(Initializer::Value(value(alloc, cursor, room)?))
-    }
-}
-
 /// `=` and what an object begins with, if there is one.
-#[tactic(auto, unfolding(c_reading::specs::Declarations::read_optional_initializer, c_reading::specs::Declarations::read_initializer))]
+#[tactic(auto, unfolding(c_reading::specs::Declarations::read_optional_initializer, c_reading::specs::Declarations::read_initializer, c_reading::specs::Declarations::read_initial, c_reading::specs::Declarations::read_mutex, c_reading::specs::Declarations::read_initial_value))]
 fn optional_initializer(
     alloc: Global,
     cursor: &mut Cursor<'_>,
@@ -170,7 +155,14 @@ fn optional_initializer(
         return Ok(None);
     }
     cursor.mark(Punctuator::Assign)?;
-    Ok(Some(initial(alloc, cursor, room)?))
+    if cursor.sees(Sign::Mark(Punctuator::OpenCurly)) {
+        Ok(Some(list(alloc, cursor, inside(room))?))
+    } else if cursor.sees(Sign::Word(Keyword::MutexInitializer)) {
+        cursor.word(Keyword::MutexInitializer)?;
+        Ok(Some(Initializer::Mutex))
+    } else {
+        Ok(Some(Initializer::Value(value(alloc, cursor, room)?)))
+    }
 }
 
 /// The variable whose name was read.
@@ -214,28 +206,6 @@ fn globals(
     Ok(found)
 }
 
-/// The variables of which the first name was read.
-#[tactic(auto, unfolding(c_reading::specs::Declarations::read_objects))]
-fn objects(
-    alloc: Global,
-    cursor: &mut Cursor<'_>,
-    room: usize,
-    specifiers: Specifiers,
-    is_pointer: bool,
-    name: Name,
-) -> Result<ExternalDeclaration, Fault>
-    ensures { Steps (spec.read_objects room (below room) specifiers is_pointer name cursor.old) result cursor.new }
-{
-    let first = global(alloc, cursor, room, name)?;
-    let declarators = globals(alloc, cursor, room, first)?;
-    cursor.mark(Punctuator::Semicolon)?;
-    Ok(ExternalDeclaration::Objects(GlobalDeclaration {
-        specifiers,
-        is_pointer,
-        declarators,
-    }))
-}
-
 // ---- functions, and the text as a whole
 
 /// A body, or the `;` of a prototype.
@@ -255,45 +225,39 @@ fn body(alloc: Global, cursor: &mut Cursor<'_>, room: usize) -> Result<Option<Bl
     }
 }
 
-/// The function whose name was read.
-#[tactic(auto, unfolding(c_reading::specs::Declarations::read_function))]
-fn function(
-    alloc: Global,
-    cursor: &mut Cursor<'_>,
-    room: usize,
-    specifiers: Specifiers,
-    is_pointer: bool,
-    name: Name,
-) -> Result<ExternalDeclaration, Fault>
-    ensures { Steps (spec.read_function room (below room) specifiers is_pointer name cursor.old) result cursor.new }
-{
-    let parameters = parameters(alloc, cursor, inside(room))?;
-    let body = body(alloc, cursor, room)?;
-    Ok(ExternalDeclaration::Function(Function {
-        specifiers,
-        is_pointer,
-        name,
-        parameters,
-        body,
-    }))
-}
-
-#[tactic(auto, unfolding(c_reading::specs::Declarations::read_external))]
+/// A function, or the variables of a declaration.
+#[tactic(auto, unfolding(c_reading::specs::Declarations::read_external, c_reading::specs::Declarations::read_function, c_reading::specs::Declarations::read_objects))]
 fn external(
     alloc: Global,
     cursor: &mut Cursor<'_>,
     room: usize,
-) -> Result<ExternalDeclaration, Fault>
+) -> Result<Boxed<ExternalDeclaration>, Fault>
     ensures { Steps (spec.read_external room (below room) cursor.old) result cursor.new }
 {
     let specifiers = specifiers(alloc, cursor)?;
     let is_pointer = star(cursor)?;
     let name = cursor.name(alloc)?;
     if cursor.sees(Sign::Mark(Punctuator::OpenRound)) {
-        function(alloc, cursor, room, specifiers, is_pointer, name)
-    } else {
-        objects(alloc, cursor, room, specifiers, is_pointer, name)
+        let parameters = parameters(alloc, cursor, inside(room))?;
+        let body = body(alloc, cursor, room)?;
+        let function = ExternalDeclaration::Function(Function {
+            specifiers,
+            is_pointer,
+            name,
+            parameters,
+            body,
+        });
+        return Ok(Boxed::new(alloc, function)?);
     }
+    let first = global(alloc, cursor, room, name)?;
+    let declarators = globals(alloc, cursor, room, first)?;
+    cursor.mark(Punctuator::Semicolon)?;
+    let objects = ExternalDeclaration::Objects(GlobalDeclaration {
+        specifiers,
+        is_pointer,
+        declarators,
+    });
+    Ok(Boxed::new(alloc, objects)?)
 }
 
 /// The declarations behind the first one.
@@ -301,17 +265,17 @@ fn externals(
     alloc: Global,
     cursor: &mut Cursor<'_>,
     room: usize,
-    first: ExternalDeclaration,
+    first: Boxed<ExternalDeclaration>,
 ) -> Result<Items<ExternalDeclaration>, Fault>
     ensures { Steps (spec.read_externals room (below room) first cursor.old) result cursor.new }
 {
     let mut found = Items::new(alloc);
-    found.push(first)?;
+    found.push(first.into_inner())?;
     for _turn in 0..cursor.left() {
         if !cursor.sees_type_word() {
             return Ok(found);
         }
-        found.push(external(alloc, cursor, room)?)?;
+        found.push(external(alloc, cursor, room)?.into_inner())?;
     }
     Ok(found)
 }

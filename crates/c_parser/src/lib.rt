@@ -24,7 +24,7 @@ pub const NESTING_LIMIT: usize = 64;
 
 /// Why tokens have no tree. The tokens are counted from 0, and the offset is that of the token in the text; it is 0 where
 /// there is no such token, since the tokens end without the end of a text.
-#[derive(Clone, Copy, Debug, PartialEq, Eq)]
+#[derive(Clone, Copy)]
 pub enum ParseError {
     /// Some sentence starts with the tokens before this one, and none with this one too. At the number of tokens where
     /// they end too early.
