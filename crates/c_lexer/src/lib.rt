@@ -5,6 +5,7 @@
 pub mod fault;
 pub mod lexeme;
 pub mod meaning;
+mod names;
 mod step;
 
 ghost use Rattle.std.specs.Prelude.{List, Result};

@@ -1,14 +1,12 @@
 // What a lexeme means where it stands: a token, or a part of a directive.
 
-ghost use Rattle.std.specs.Prelude.{◌≡◌, ◌∷◌, ◌++◌, [], List, Bool, Option, map, position, slice_get, option_and_then, IfOk, OnOk, false};
-ghost use Rattle.std.specs.List.{list_any};
-ghost use Rattle.std.specs.Str.{bytes_eq};
+ghost use Rattle.std.specs.Prelude.{◌≡◌, [], IfOk, OnOk, false};
 ghost use Rattle.c_lexer.specs.Meaning as spec;
 ghost use Rattle.c_token.specs.Spelling.{keyword_of};
 
 use crate::lexeme::{Class, behind, front};
+use crate::names::Names;
 use c_token::{Constant, Keyword, Kind};
-use indexmap::IndexSet;
 use sqlite_items::Items;
 use std::alloc::{AllocError, Global};
 
@@ -61,7 +59,7 @@ pub struct Effect {
 pub(crate) struct Context<'t> {
     pub(crate) mode: Mode,
     /// The names that directives define, in order.
-    names: IndexSet<&'t [u8]>,
+    names: Names<'t>,
     /// The constants of these names.
     values: Items<Constant>,
 }
@@ -76,22 +74,6 @@ fn only(mode: Mode) -> Option<Effect>
     })
 }
 
-/// The place of the name among them.
-fn place_of(names: &IndexSet<&[u8]>, name: &[u8]) -> Option<usize>
-    ensures { result ≡ position (bytes_eq name.now) (map (λ k. k.now) names.now.keys) }
-{
-    names.get_index_of(&name)
-}
-
-/// Adds the name at the end.
-fn add<'t>(names: &mut IndexSet<&'t [u8]>, name: &'t [u8]) -> Result<(), AllocError>
-    requires { list_any (bytes_eq name.now) (map (λ k. k.now) names.old.keys) ≡ false }
-    ensures { OnOk result (map (λ k. k.now) names.new.keys ≡ map (λ k. k.now) names.old.keys ++ name.now ∷ []) }
-{
-    names.insert(name)?;
-    Ok(())
-}
-
 impl<'t> Context<'t> {
     ghost use Rattle.c_lexer.specs.Contexts.{state_of};
     ghost use Rattle.c_lexer.specs.declared.meaning.Action.TheVariants as action;
@@ -102,23 +84,16 @@ impl<'t> Context<'t> {
     {
         Context {
             mode: Mode::LineStart,
-            names: IndexSet::new(alloc),
+            names: Names::new(alloc),
             values: Items::new(alloc),
         }
-    }
-
-    /// Whether a directive has defined the name.
-    fn is_defined(&self, word: &[u8]) -> bool
-        ensures { result ≡ spec.is_defined (state_of self.now) word.now }
-    {
-        self.names.contains(&word)
     }
 
     /// The constant that a directive has given the name.
     fn defined(&self, word: &[u8]) -> Option<Constant>
         ensures { result ≡ spec.defined (state_of self.now) word.now }
     {
-        let index = place_of(&self.names, word)?;
+        let index = self.names.place_of(word)?;
         self.values.get(index).copied()
     }
 
@@ -188,7 +163,7 @@ impl<'t> Context<'t> {
             }
             (Awaits::Header, Class::Header(_)) => only(Mode::Directive(hash, Awaits::LineEnd)),
             (Awaits::Name, Class::Word) => {
-                if Keyword::from_spelling(word).is_some() || self.is_defined(word) {
+                if Keyword::from_spelling(word).is_some() || self.names.contains(word) {
                     return None;
                 }
                 Some(Effect {
@@ -247,7 +222,7 @@ impl<'t> Context<'t> {
         requires { spec.is_defined (state_of self.old) word.now ≡ false }
         ensures { OnOk result (state_of self.new ≡ spec.after_action mode action.Name word.now (state_of self.old)) }
     {
-        add(&mut self.names, word)?;
+        self.names.add(word)?;
         self.mode = mode;
         Ok(())
     }
