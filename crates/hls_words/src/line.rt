@@ -2,13 +2,14 @@ ghost use Rattle.std.specs.Prelude.{◌≡◌, Ok, Option, Some, None, false, ma
 ghost use Rattle.clap.specs.Words.{app_of, rule_of, rows_of, one_of, first_of, found_of, kind_of, subcommand_rows_of, with_rule, with_subcommand};
 ghost use Rattle.clap.specs.declared.builder.command.Command.TheViews.{out-Command as fields_of};
 ghost use Rattle.clap.specs.declared.error.kind.ErrorKind.TheVariants.{OutOfMemory};
-ghost use Rattle.hls_words.specs.Line.{build_in, build_line, command_line, number_in, number_of, number_rule, required};
-ghost use Rattle.hls_words.specs.Line.{flag_rule, is_set, replay_line, run_in, run_line, sim_in, sim_line, step_in, step_line, task_in, task_of};
+ghost use Rattle.hls_words.specs.Line.{build_line, command_line, number_in, number_of, number_rule, required};
+ghost use Rattle.hls_words.specs.Line.{flag_rule, is_set, run_in, run_line, sim_line, step_in, step_line, task_in, task_of};
 ghost use Rattle.hls_words.specs.Line.{walk_in, walk_line};
 
 use crate::{Task, WordsError};
+use clap::builder::ValueParser;
 use clap::error::ErrorKind;
-use clap::{Arg, ArgAction, ArgMatches, Command, Error, value_parser};
+use clap::{Arg, ArgAction, ArgMatches, Command, Error};
 use std::alloc::{AllocError, Global};
 use turns::turns;
 
@@ -31,7 +32,7 @@ fn number_option<'a>(alloc: Global, name: &'a str, low: u32, high: u32) -> Arg<'
 {
     Arg::new(alloc, name)
         .long(name)
-        .value_parser(value_parser!(u32).range(low as i64..=high as i64))
+        .value_parser(ValueParser::Signed(low as i64, high as i64))
 }
 
 /// The same where the option has to be given.
@@ -63,8 +64,8 @@ fn step_command<'a>(alloc: Global) -> Result<Command<'a>, AllocError>
     ensures local { IfOk result (λ c. (fields_of c).has_globals ≡ false) }
 {
     let cycles = required_number(alloc, "cycles", 0, u32::MAX);
-    let vcd = flag_option(alloc, "vcd");
-    Command::new(alloc, "step").arg(cycles)?.arg(vcd)
+    let command = Command::new(alloc, "step").arg(cycles)?;
+    command.arg(flag_option(alloc, "vcd"))
 }
 
 fn run_command<'a>(alloc: Global) -> Result<Command<'a>, AllocError>
@@ -72,15 +73,8 @@ fn run_command<'a>(alloc: Global) -> Result<Command<'a>, AllocError>
     ensures local { IfOk result (λ c. (fields_of c).has_globals ≡ false) }
 {
     let entries = number_option(alloc, "entries", 1, MOST_ENTRIES);
-    let journal = flag_option(alloc, "journal");
-    Command::new(alloc, "run").arg(entries)?.arg(journal)
-}
-
-fn replay_command<'a>(alloc: Global) -> Command<'a>
-    ensures line { app_of result ≡ replay_line }
-    ensures local { (fields_of result).has_globals ≡ false }
-{
-    Command::new(alloc, "replay")
+    let command = Command::new(alloc, "run").arg(entries)?;
+    command.arg(flag_option(alloc, "journal"))
 }
 
 fn walk_command<'a>(alloc: Global) -> Result<Command<'a>, AllocError>
@@ -118,7 +112,7 @@ fn whole_command<'a>(alloc: Global) -> Result<Command<'a>, AllocError>
     let program = with_command(program, build_command(alloc));
     let program = with_command(program, step_command(alloc));
     let program = with_command(program, run_command(alloc));
-    let program = with_command(program, Ok(replay_command(alloc)));
+    let program = with_command(program, Ok(Command::new(alloc, "replay")));
     let program = with_command(program, walk_command(alloc));
     with_command(program, sim_command(alloc))
 }
@@ -152,13 +146,6 @@ fn number(
         Some(n) if low <= n && n <= high => Some(n),
         _ => None,
     }
-}
-
-fn build_task(matches: &ArgMatches<'_>) -> Option<Task>
-    ensures { result ≡ build_in (rows_of (found_of matches.now)) }
-{
-    let jobs = number(matches, "jobs", 1, MOST_JOBS, Some(1))?;
-    Some(Task::Build { jobs })
 }
 
 /// Whether a flag is set.
@@ -205,24 +192,23 @@ fn walk_task(alloc: Global, matches: &ArgMatches<'_>) -> Result<Option<Task>, Al
     Ok(turns(alloc, list)?.map(Task::Walk))
 }
 
-fn sim_task(matches: &ArgMatches<'_>) -> Option<Task>
-    ensures { result ≡ sim_in (rows_of (found_of matches.now)) }
-{
-    let cycles = number(matches, "cycles", 0, u32::MAX, None)?;
-    Some(Task::Sim { cycles })
-}
-
 /// What the command of this name asks for with these values.
 fn task(alloc: Global, name: &str, matches: &ArgMatches<'_>) -> Result<Option<Task>, AllocError>
     ensures { IfOk result (λ r. r ≡ task_in name.now (rows_of (found_of matches.now))) }
 {
     match name {
-        "build" => Ok(build_task(matches)),
+        "build" => match number(matches, "jobs", 1, MOST_JOBS, Some(1)) {
+            Some(jobs) => Ok(Some(Task::Build { jobs })),
+            None => Ok(None),
+        },
         "step" => Ok(step_task(matches)),
         "run" => Ok(run_task(matches)),
         "replay" => Ok(Some(Task::Replay)),
         "walk" => walk_task(alloc, matches),
-        "sim" => Ok(sim_task(matches)),
+        "sim" => match number(matches, "cycles", 0, u32::MAX, None) {
+            Some(cycles) => Ok(Some(Task::Sim { cycles })),
+            None => Ok(None),
+        },
         _ => Ok(None),
     }
 }

@@ -1,5 +1,4 @@
 use sqlite_items::Items;
-use thiserror::Error;
 use turns::Turn;
 
 /// What the program is asked to do.
@@ -20,10 +19,10 @@ pub enum Task {
 }
 
 /// Why the words give no task.
-#[derive(Clone, Copy, Debug, PartialEq, Eq, Error)]
+#[derive(Clone, Copy)]
 pub enum WordsError {
-    #[error("the words are not of the command line")]
+    /// They are not of the command line.
     Usage,
-    #[error("out of memory")]
+    /// Memory ran out.
     Mem,
 }
