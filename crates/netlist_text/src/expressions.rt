@@ -1,6 +1,6 @@
 // The right side of an assign.
 
-ghost use Rattle.std.specs.Prelude.{◌≡◌, IfOk};
+ghost use Rattle.std.specs.Prelude.{◌≡◌, IfOk, if◌then◌else◌};
 ghost use Rattle.netlist_text.specs.LaidOut as laid;
 ghost use Rattle.netlist.specs.declared.netlist.Value.TheVariants as v;
 
@@ -40,50 +40,40 @@ fn conditional(
     })
 }
 
+/// A division, of two's complement numbers or not.
 fn division(
     parent: &Module,
     width: u64,
+    is_signed: bool,
     operator: DivisionOperator,
     left: usize,
     right: usize,
 ) -> Result<Expression, AllocError>
-    ensures { IfOk result (λ e. e ≡ laid.expression parent.now width (v.Division operator left right)) }
+    ensures { IfOk result (λ e. e ≡ laid.expression parent.now width (if is_signed then v.SignedDivision operator left right else v.Division operator left right)) }
 {
     let zero = Constant { width, value: 0 };
     let tested = signal_name(parent, right)?;
     let left = signal_name(parent, left)?;
     let right = signal_name(parent, right)?;
-    Ok(Expression::Division {
-        tested,
-        zero,
-        guarded: zero,
-        operator,
-        left,
-        right,
-    })
-}
-
-fn signed_division(
-    parent: &Module,
-    width: u64,
-    operator: DivisionOperator,
-    left: usize,
-    right: usize,
-) -> Result<Expression, AllocError>
-    ensures { IfOk result (λ e. e ≡ laid.expression parent.now width (v.SignedDivision operator left right)) }
-{
-    let zero = Constant { width, value: 0 };
-    let tested = signal_name(parent, right)?;
-    let left = signal_name(parent, left)?;
-    let right = signal_name(parent, right)?;
-    Ok(Expression::SignedDivision {
-        tested,
-        zero,
-        guarded: zero,
-        operator,
-        left,
-        right,
-    })
+    if is_signed {
+        Ok(Expression::SignedDivision {
+            tested,
+            zero,
+            guarded: zero,
+            operator,
+            left,
+            right,
+        })
+    } else {
+        Ok(Expression::Division {
+            tested,
+            zero,
+            guarded: zero,
+            operator,
+            left,
+            right,
+        })
+    }
 }
 
 /// The bound is the number of words, as a constant of the address's width.
@@ -164,12 +154,12 @@ pub fn expression(
             operator,
             left,
             right,
-        } => division(parent, width, *operator, *left, *right),
+        } => division(parent, width, false, *operator, *left, *right),
         Value::SignedDivision {
             operator,
             left,
             right,
-        } => signed_division(parent, width, *operator, *left, *right),
+        } => division(parent, width, true, *operator, *left, *right),
         Value::MemoryRead { memory, address } => memory_read(parent, width, *memory, *address),
         Value::Select { of, high, low } => select(parent, *of, *high, *low),
         Value::Concatenation(parts) => Ok(Expression::Concatenation(signal_names(

@@ -38,42 +38,31 @@ fn first_output(of: &Module, outputs: &[usize]) -> usize
     of.signals.len().saturating_sub(outputs.len())
 }
 
-/// All input ports and all output ports of the instance's module.
-fn connections(
-    alloc: Global,
-    parent: &Module,
-    of: &Module,
-    instance: &Instance,
-) -> Result<Items<Connection>, AllocError>
-    ensures { IfOk result (λ all. all ≡ laid.connections parent.now of.now instance.now) }
-{
-    let mut all = Items::new(alloc);
-    let outputs = instance.outputs.as_slice();
-    ties(&mut all, parent, of, 0, instance.inputs.as_slice())?;
-    ties(&mut all, parent, of, first_output(of, outputs), outputs)?;
-    Ok(all)
-}
-
+/// The instance, with all input ports and all output ports of its module.
 fn instance(
     alloc: Global,
     modules: &[Module],
     parent: &Module,
     instance: &Instance,
-) -> Result<Item, AllocError>
-    ensures { IfOk result (λ x. x ≡ laid.instance_item modules.now parent.now instance.now) }
+) -> Result<tree::Instance, AllocError>
+    ensures { IfOk result (λ x. x ≡ laid.instance_of modules.now parent.now instance.now) }
 {
     let of = match sqlite_items::at(modules, instance.of) {
         Some(module) => module,
         None => parent,
     };
+    let outputs = instance.outputs.as_slice();
+    let first = first_output(of, outputs);
+    let mut connections = Items::new(alloc);
+    ties(&mut connections, parent, of, 0, instance.inputs.as_slice())?;
+    ties(&mut connections, parent, of, first, outputs)?;
     let module_name = of.name.clone()?;
     let name = instance.name.clone()?;
-    let connections = connections(alloc, parent, of, instance)?;
-    Ok(Item::Instance(tree::Instance {
+    Ok(tree::Instance {
         module_name,
         name,
         connections,
-    }))
+    })
 }
 
 fn instances(
@@ -85,7 +74,7 @@ fn instances(
     ensures { OnOk result (out.new ≡ out.old ++ map (laid.instance_item modules.now parent.now) parent.now.instances) }
 {
     for one in parent.instances.as_slice() {
-        out.push(instance(alloc, modules, parent, one)?)?;
+        out.push(Item::Instance(instance(alloc, modules, parent, one)?))?;
     }
     Ok(())
 }

@@ -1,8 +1,7 @@
 // The always block of a module.
 
-ghost use Rattle.std.specs.Prelude.{◌≡◌, [], ◌∷◌, IfOk, map};
+ghost use Rattle.std.specs.Prelude.{◌≡◌, IfOk, map};
 ghost use Rattle.netlist_text.specs.LaidOut as laid;
-ghost use Rattle.verilog_tree.specs.declared.tree.Statement.TheVariants as s;
 
 use crate::names::{memory_name, signal_name};
 use netlist::netlist::{Argument, Effect, Module};
@@ -71,21 +70,7 @@ fn effect_statement(
     }
 }
 
-/// `if (condition) begin .. end` round one statement.
-fn conditional(
-    alloc: Global,
-    parent: &Module,
-    condition: usize,
-    inner: Statement,
-) -> Result<Statement, AllocError>
-    ensures { IfOk result (λ x. x ≡ s.If (laid.signal_name parent.now condition) (inner ∷ [])) }
-{
-    let condition = signal_name(parent, condition)?;
-    let mut body = Items::new(alloc);
-    body.push(inner)?;
-    Ok(Statement::If { condition, body })
-}
-
+/// The statement of an effect in an `if (condition) begin .. end` for each condition.
 fn guarded(
     alloc: Global,
     parent: &Module,
@@ -97,8 +82,10 @@ fn guarded(
     match conditions {
         [] => effect_statement(alloc, parent, effect),
         [outermost, others @ ..] => {
-            let inner = guarded(alloc, parent, others, effect)?;
-            conditional(alloc, parent, *outermost, inner)
+            let condition = signal_name(parent, *outermost)?;
+            let mut body = Items::new(alloc);
+            body.push(guarded(alloc, parent, others, effect)?)?;
+            Ok(Statement::If { condition, body })
         }
     }
 }
