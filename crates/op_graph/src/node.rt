@@ -51,56 +51,52 @@ fn make_node(number: usize, operation: &Operation) -> Node
     ensures { result ≡ node_of number operation.now }
 {
     match operation {
-        Operation::Unary { operand, .. } => new_node(
-            Kind::Simple,
-            value_below(number, operand),
-            None,
-        ),
+        Operation::Unary { operand, .. } => Node {
+            kind: Kind::Simple,
+            left: value_below(number, operand),
+            right: None,
+        },
         Operation::Binary {
             operator,
             ty,
             left,
             right,
-        } => new_node(
-            operator_kind(*operator, *ty),
-            value_below(number, left),
-            value_below(number, right),
-        ),
-        Operation::ReadGlobal { global, index, .. } => {
-            let kind = global_kind(*global, false);
-            new_node(kind, value_below(number, index), None)
-        }
+        } => Node {
+            kind: operator_kind(*operator, *ty),
+            left: value_below(number, left),
+            right: value_below(number, right),
+        },
+        Operation::ReadGlobal { global, index, .. } => Node {
+            kind: global_kind(*global, false),
+            left: value_below(number, index),
+            right: None,
+        },
         Operation::WriteGlobal {
             global,
             index,
             value,
             ..
-        } => new_node(
-            global_kind(*global, true),
-            value_below(number, index),
-            value_below(number, value),
-        ),
-        Operation::ReadArray { array, index, .. } => {
-            let kind = array_kind(*array, false);
-            new_node(kind, value_below(number, index), None)
-        }
+        } => Node {
+            kind: global_kind(*global, true),
+            left: value_below(number, index),
+            right: value_below(number, value),
+        },
+        Operation::ReadArray { array, index, .. } => Node {
+            kind: array_kind(*array, false),
+            left: value_below(number, index),
+            right: None,
+        },
         Operation::WriteArray {
             array,
             index,
             value,
             ..
-        } => new_node(
-            array_kind(*array, true),
-            value_below(number, index),
-            value_below(number, value),
-        ),
+        } => Node {
+            kind: array_kind(*array, true),
+            left: value_below(number, index),
+            right: value_below(number, value),
+        },
     }
-}
-
-fn new_node(kind: Kind, left: Option<usize>, right: Option<usize>) -> Node
-    ensures { result ≡ record { kind = kind; left = left; right = right } }
-{
-    Node { kind, left, right }
 }
 
 fn global_kind(object: u32, writes: bool) -> Kind

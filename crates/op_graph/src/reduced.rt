@@ -1,12 +1,10 @@
 // The constraints of a block for a planner: those of neighbouring accesses alone.
-ghost use Rattle.std.specs.Prelude.{◌≡◌, ℕ, ◌+◌, ◌-◌, ◌*◌, ◌<◌, ◌≤◌, [], ◌∷◌, ◌++◌, length, Some, IfOk, OnOk, suc};
+ghost use Rattle.std.specs.Prelude.{◌≡◌, ◌+◌, ◌-◌, ◌*◌, ◌<◌, ◌≤◌, ◌++◌, length, IfOk, OnOk, suc};
 ghost use Rattle.std.specs.List.{All};
-ghost use Rattle.std.specs.Ordering.{nat_cmp};
-ghost use Rattle.std.specs.BTreeMap.{get};
 ghost use Rattle.schedule_sdc.specs.Solution.{IsWithin};
 ghost use Rattle.op_graph.specs.Graph.{UseEarlier, kind_at};
 ghost use Rattle.op_graph.specs.Table.{HasItsSolutions};
-ghost use Rattle.op_graph.specs.Reduced.{AreLast, AreFirst, global_at, write_at, after_access, after_write, before_write};
+ghost use Rattle.op_graph.specs.Reduced.{AreLast, AreFirst, global_at, write_at, after_write};
 ghost use Rattle.op_graph.specs.Reduced.{global_rows, all_globals, array_rows, all_arrays, read_rows, all_reads};
 
 use crate::node::{Kind, Node};
@@ -58,20 +56,7 @@ fn put_global(
     let Kind::Global { object, .. } = nodes[j].kind else {
         return Ok(());
     };
-    let before = last.insert(object, j)?;
-    put_after_access(list, nodes, j, before)
-}
-
-fn put_after_access(
-    list: &mut Vec<Constraint>,
-    nodes: &[Node],
-    j: usize,
-    before: Option<usize>,
-) -> Result<(), AllocError>
-    requires { (i : ℕ) → before ≡ Some i → i < length nodes.now }
-    ensures { OnOk result (list.new.items ≡ list.old.items ++ after_access nodes.now j before) }
-{
-    match before {
+    match last.insert(object, j)? {
         Some(i) => put(list, i, j, gap_after(nodes[i].kind.writes())),
         None => Ok(()),
     }
@@ -102,17 +87,12 @@ fn put_array(
     let Kind::Array { object, writes } = nodes[j].kind else {
         return Ok(());
     };
-    put_after_write(list, found(last, object), j)?;
     if writes {
-        last.insert(object, j)?;
+        let before = last.insert(object, j)?;
+        put_after_write(list, before, j)
+    } else {
+        put_after_write(list, last.get(&object).copied(), j)
     }
-    Ok(())
-}
-
-fn found(map: &BTreeMap<u32, usize>, object: u32) -> Option<usize>
-    ensures { result ≡ get nat_cmp map.now object }
-{
-    map.get(&object).copied()
 }
 
 fn put_after_write(
@@ -158,18 +138,8 @@ fn put_read(
         next.insert(object, i)?;
         return Ok(());
     }
-    put_before_write(list, i, found(next, object))
-}
-
-fn put_before_write(
-    list: &mut Vec<Constraint>,
-    i: usize,
-    next: Option<usize>,
-) -> Result<(), AllocError>
-    ensures { OnOk result (list.new.items ≡ list.old.items ++ before_write i next) }
-{
-    match next {
-        Some(j) => put(list, i, j, 1),
+    match next.get(&object) {
+        Some(j) => put(list, i, *j, 1),
         None => Ok(()),
     }
 }

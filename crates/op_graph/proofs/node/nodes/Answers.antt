@@ -9,6 +9,9 @@ loop-number-preserved c =
     (slice_get_read c.args.operations.now (length c.args.operations.now) c.loop-number.number c.index-operations-number.result refl c.loop-number-test.true c.index-operations-number.is)
     c.loop-number.invariant (rw c.make_node.ensures at c.in_ok-push.ensures.items)
 
+pub returns-clause-nodes : goal.returns-clause-nodes
+returns-clause-nodes c = whole c.args.operations.now c.loop-number.number c.loop-number.nodes.items (omega (arith, c.loop-number-test.false)) c.loop-number.invariant
+
 pub returns-clause-earlier : goal.returns-clause-earlier
 returns-clause-earlier c =
     use_earlier c.args.operations.now c.loop-number.nodes.items

@@ -1,4 +1,4 @@
-use Rattle.std.proofs.Common.{add-one}
+use Rattle.std.proofs.Common.{◌≡◌, length, add-one, arith}
 use Rattle.op_graph.proofs.Appending.{one_step}
 use Rattle.op_graph.proofs.reduced.put_arrays.Goals as goal
 
@@ -10,3 +10,8 @@ loop-j-preserved c = record {
 
 pub put_array-requires-clause-last : goal.put_array-requires-clause-last
 put_array-requires-clause-last c = c.loop-j.invariant.last
+
+pub returns : goal.returns
+returns c =
+    let all : c.loop-j.j ≡ length c.args.nodes.now = omega arith in
+    rw all at c.loop-j.invariant.rows

@@ -1,4 +1,4 @@
-use Rattle.std.proofs.Common.{add-one}
+use Rattle.std.proofs.Common.{◌≡◌, length, add-one, arith}
 use Rattle.op_graph.proofs.Appending.{one_step}
 use Rattle.op_graph.proofs.reduced.put_reads.Goals as goal
 
@@ -10,3 +10,8 @@ loop-behind-preserved c = record {
 
 pub put_read-requires-clause-next : goal.put_read-requires-clause-next
 put_read-requires-clause-next c = c.loop-behind.invariant.next
+
+pub returns : goal.returns
+returns c =
+    let all : c.loop-behind.behind ≡ length c.args.nodes.now = omega arith in
+    rw all at c.loop-behind.invariant.rows

@@ -1,4 +1,4 @@
-use Rattle.std.proofs.Common.{add-one}
+use Rattle.std.proofs.Common.{◌≡◌, length, add-one, arith}
 use Rattle.op_graph.proofs.Appending.{one_step}
 use Rattle.op_graph.proofs.rows.put_uses.Goals as goal
 
@@ -7,3 +7,8 @@ loop-j-preserved c = rw add-one (one_step _ _ _ _ _ c.loop-j.invariant c.in_ok-p
 
 pub put_operands-requires-clause-earlier : goal.put_operands-requires-clause-earlier
 put_operands-requires-clause-earlier c = c.requires
+
+pub returns : goal.returns
+returns c =
+    let all : c.loop-j.j ≡ length c.args.nodes.now = omega arith in
+    rw all at c.loop-j.invariant

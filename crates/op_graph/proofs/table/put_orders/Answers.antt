@@ -1,6 +1,11 @@
-use Rattle.std.proofs.Common.{add-one}
+use Rattle.std.proofs.Common.{◌≡◌, length, add-one, arith}
 use Rattle.op_graph.proofs.Appending.{one_step}
 use Rattle.op_graph.proofs.table.put_orders.Goals as goal
 
 pub loop-j-preserved : goal.loop-j-preserved
 loop-j-preserved c = rw add-one (one_step _ _ _ _ _ c.loop-j.invariant c.in_ok-put_orders_into.ensures)
+
+pub returns : goal.returns
+returns c =
+    let all : c.loop-j.j ≡ length c.args.nodes.now = omega arith in
+    rw all at c.loop-j.invariant
