@@ -1,6 +1,6 @@
 // Two blocks in one.
 
-ghost use Rattle.std.specs.Prelude.{◌≡◌, ◌+◌, ◌^◌, ◌<◌, List, ◌++◌, length, map, IfOk, OnOk};
+ghost use Rattle.std.specs.Prelude.{◌≡◌, ◌+◌, ◌^◌, ◌<◌, List, ◌++◌, length, map, OnOk};
 ghost use Rattle.block_ir.specs.declared.block.Final.{Final as GhostFinal};
 ghost use Rattle.straight_code.specs.Closing.{HasNoted};
 ghost use Rattle.block_merge.specs.Joined as spec;
@@ -26,39 +26,34 @@ pub fn hold(alloc: Global, held: &mut OpenBlock, finals: &[Final]) -> Result<(),
     Ok(())
 }
 
-/// A block, of which variables hold what it leaves, and the next one behind it. Then they hold what both leave.
-pub fn joined(
+/// The next block behind one of which variables hold what it leaves. Then they hold what both leave.
+pub fn join_next(
     alloc: Global,
     held: &mut OpenBlock,
-    block: Block,
+    block: &mut Block,
     next: &Block,
-) -> Result<Block, AllocError>
-    requires few { length block.operations + length next.now.operations < 2 ^ 32 }
-    requires steps { block.steps + next.now.steps < 2 ^ 32 }
-    ensures block { IfOk result (λ j. j ≡ spec.joined held.old.current block next.now) }
-    ensures left { IfOk result (λ j. spec.HasLeft held.old.current block.finals → spec.HasLeft held.new.current j.finals) }
+) -> Result<(), AllocError>
+    requires few { length block.old.operations + length next.now.operations < 2 ^ 32 }
+    requires steps { block.old.steps + next.now.steps < 2 ^ 32 }
+    ensures block { OnOk result (block.new ≡ spec.joined held.old.current block.old next.now) }
+    ensures left { OnOk result (spec.HasLeft held.old.current block.old.finals → spec.HasLeft held.new.current block.new.finals) }
     ensures noted { OnOk result (HasNoted held.old → HasNoted held.new) }
     ensures size { OnOk result (length held.new.current ≡ length held.old.current) }
 {
-    let Block {
-        mut operations,
-        mut finals,
-        next: _,
-        steps,
-    } = block;
     let before = Before {
-        count: operations.len() as u32,
+        count: block.operations.len() as u32,
         left: held,
     };
-    push_moved(alloc, &before, &mut operations, next.operations.as_slice())?;
+    push_moved(
+        alloc,
+        &before,
+        &mut block.operations,
+        next.operations.as_slice(),
+    )?;
     let more = moved_finals(alloc, &before, next.finals.as_slice())?;
-    let end = moved_next(alloc, &before, &next.next)?;
+    block.next = moved_next(alloc, &before, &next.next)?;
     hold(alloc, held, more.as_slice())?;
-    finals.append(more)?;
-    Ok(Block {
-        operations,
-        finals,
-        next: end,
-        steps: steps + next.steps,
-    })
+    block.finals.append(more)?;
+    block.steps += next.steps;
+    Ok(())
 }

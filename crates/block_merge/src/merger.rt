@@ -13,7 +13,7 @@ ghost use Rattle.block_merge.specs.Maximal.{IsMaximal, IsMaximalAt, AreCounted, 
 ghost use Rattle.block_merge.specs.Steps as steps;
 
 use crate::follow::{block_at, counts, fit, is_once, jump_of};
-use crate::joining::{hold, joined};
+use crate::joining::{hold, join_next};
 use block_ir::block::{Block, Next};
 use block_ir::code::{Stage, ThreadCode};
 use sqlite_items::Items;
@@ -93,9 +93,9 @@ impl Merger {
         ensures { OnOk result (steps.JoinsBlocks self.old self.new first second) }
     {
         let next = self.take(alloc, second);
-        let block = self.take(alloc, first);
-        let both = joined(alloc, &mut self.held, block, &next)?;
-        self.stages[first] = Stage::Run(both);
+        let mut block = self.take(alloc, first);
+        join_next(alloc, &mut self.held, &mut block, &next)?;
+        self.stages[first] = Stage::Run(block);
         self.counts.set(second, 0);
         Ok(())
     }
@@ -106,18 +106,9 @@ impl Merger {
         ensures { OnOk result (steps.HoldsAt self.old first → steps.Tidies self.old self.new first) }
     {
         let left = self.held.close(alloc, Next::Jump(0))?;
-        let Block {
-            operations,
-            finals: _,
-            next,
-            steps,
-        } = self.take(alloc, first);
-        self.stages[first] = Stage::Run(Block {
-            operations,
-            finals: left.finals,
-            next,
-            steps,
-        });
+        let mut block = self.take(alloc, first);
+        block.finals = left.finals;
+        self.stages[first] = Stage::Run(block);
         Ok(())
     }
 

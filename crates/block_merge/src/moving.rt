@@ -45,6 +45,20 @@ pub fn moved(alloc: Global, before: &Before, operand: &Operand) -> Result<Operan
     })
 }
 
+/// Both operands of an operation.
+fn both_moved(
+    alloc: Global,
+    before: &Before,
+    left: &Operand,
+    right: &Operand,
+) -> Result<(Operand, Operand), AllocError>
+    ensures { IfOk result (λ both. both ≡ (spec.moved before.now.count before.now.left.now.current left.now, spec.moved before.now.count before.now.left.now.current right.now)) }
+{
+    let left = moved(alloc, before, left)?;
+    let right = moved(alloc, before, right)?;
+    Ok((left, right))
+}
+
 /// This operation behind those of the block.
 fn push_one(
     alloc: Global,
@@ -69,12 +83,15 @@ fn push_one(
             ty,
             left,
             right,
-        } => operations.push(Operation::Binary {
-            operator: *operator,
-            ty: *ty,
-            left: moved(alloc, before, left)?,
-            right: moved(alloc, before, right)?,
-        }),
+        } => {
+            let (left, right) = both_moved(alloc, before, left, right)?;
+            operations.push(Operation::Binary {
+                operator: *operator,
+                ty: *ty,
+                left,
+                right,
+            })
+        }
         Operation::ReadGlobal {
             global,
             length,
@@ -89,12 +106,15 @@ fn push_one(
             length,
             index,
             value,
-        } => operations.push(Operation::WriteGlobal {
-            global: *global,
-            length: *length,
-            index: moved(alloc, before, index)?,
-            value: moved(alloc, before, value)?,
-        }),
+        } => {
+            let (index, value) = both_moved(alloc, before, index, value)?;
+            operations.push(Operation::WriteGlobal {
+                global: *global,
+                length: *length,
+                index,
+                value,
+            })
+        }
         Operation::ReadArray {
             array,
             length,
@@ -109,12 +129,15 @@ fn push_one(
             length,
             index,
             value,
-        } => operations.push(Operation::WriteArray {
-            array: *array,
-            length: *length,
-            index: moved(alloc, before, index)?,
-            value: moved(alloc, before, value)?,
-        }),
+        } => {
+            let (index, value) = both_moved(alloc, before, index, value)?;
+            operations.push(Operation::WriteArray {
+                array: *array,
+                length: *length,
+                index,
+                value,
+            })
+        }
     }
 }
 

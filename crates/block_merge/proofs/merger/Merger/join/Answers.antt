@@ -18,10 +18,10 @@ take-block-requires c = (
 
 pub returns : goal.returns
 returns c =
-    join_joins c.args.self.now _ c.args.first c.args.second c.take-block.result c.take-next.result c.in_ok-both.both (Run c.take-block.result) (Run c.take-next.result)
+    join_joins c.args.self.now _ c.args.first c.args.second c.take-block.result c.take-next.result c.join_next.new.block (Run c.take-block.result) (Run c.take-next.result)
     c.take-next.new.self.stages.items c.take-block.new.self.stages.items c.take-block.new.self.held c.requires.apart
     c.take-next.ensures.block refl c.take-next.ensures.stages c.take-block.ensures.block refl c.take-block.ensures.stages
-    refl (c.take-block.ensures.held ∙ c.take-next.ensures.held) c.in_ok-both.ensures.block
+    refl (c.take-block.ensures.held ∙ c.take-next.ensures.held) c.in_ok-join_next.ensures.block
     (c.set.ensures ∙ ap (λ cs. slice_set cs c.args.second 0) (c.take-block.ensures.counts ∙ c.take-next.ensures.counts))
-    c.in_ok-both.ensures.left c.in_ok-both.ensures.noted c.in_ok-both.ensures.size
+    c.in_ok-join_next.ensures.left c.in_ok-join_next.ensures.noted c.in_ok-join_next.ensures.size
     (c.take-block.ensures.most ∙ c.take-next.ensures.most)
