@@ -37,8 +37,7 @@ fn numbers(alloc: Global, program: &Program) -> Result<Items<usize>, AllocError>
     ensures { IfOk result (λ numbers. numbers ≡ module_numbers (program_of program.now)) }
 {
     let functions = thread_functions(alloc, program)?;
-    let numbers = module_numbers(alloc, program, functions.as_slice())?;
-    Ok(numbers)
+    module_numbers(alloc, program, functions.as_slice())
 }
 
 /// The net of a resolved program within the limits, by the plans of its thread functions, and its Verilog.
@@ -57,6 +56,5 @@ pub fn written(
     let wanted = wanted(alloc, program, &banks)?;
     let modules = modules(alloc, program, banks.spreads.as_slice(), &wanted, plans)?;
     let numbers = numbers(alloc, program)?;
-    let written = verilog(alloc, numbers, modules, &wanted)?;
-    Ok(written)
+    verilog(alloc, numbers, modules, &wanted)
 }

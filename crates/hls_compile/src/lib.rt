@@ -12,7 +12,6 @@ ghost use Rattle.c_accepted.specs.Profile.{IsAccepted, IsRefused};
 ghost use Rattle.hls_compile.specs.Compiled.{IsCompiled};
 ghost use Rattle.hls_compile.specs.Plans.{ArePlans};
 ghost use Rattle.hls_compile.specs.declared.CompileError.TheVariants as error;
-ghost use Rattle.thread_bodies.specs.Parts.{IsGoodText};
 
 use c_profile::{Accepted, ProfileError, accept};
 use c_program::tree::Program;
@@ -21,7 +20,6 @@ use netlist::netlist::Netlist;
 use sqlite_items::Items;
 use std::alloc::{AllocError, Global};
 use std::thread::Threads;
-use table_text::Written;
 use thiserror::Error;
 use thread_bodies::{PlannedFunction, plan_functions};
 
@@ -41,7 +39,7 @@ pub struct Compiled {
 }
 
 /// Why a text does not compile.
-#[derive(Clone, Copy, Debug, PartialEq, Eq, Error)]
+#[derive(Clone, Copy, Debug, Error)]
 pub enum CompileError {
     /// The text is not of the profile.
     #[error("refused")]
@@ -56,30 +54,6 @@ impl From<AllocError> for CompileError {
     fn from(_error: AllocError) -> CompileError {
         CompileError::Memory
     }
-}
-
-/// The net of a program with its Verilog, and the plans that it is made by.
-#[derive(Drop)]
-struct Built {
-    written: Written,
-    plans: Items<PlannedFunction>,
-}
-
-/// Plans the thread functions of a resolved program within the limits, and makes its Verilog.
-fn build<R: Threads + Sync>(
-    rt: &R,
-    alloc: Global,
-    program: &Program,
-    jobs: u32,
-) -> Result<Built, AllocError>
-    requires resolved { IsResolved (program_of program.now) }
-    requires limits { first_passed (program_of program.now) ≡ None }
-    ensures good { IfOk result (λ b. IsGoodText (program_of program.now) b.written.net b.written.text) }
-    ensures plans { IfOk result (λ b. ArePlans (program_of program.now) b.written.net b.plans) }
-{
-    let plans = plan_functions(rt, alloc, program, jobs)?;
-    let written = hardware::written(alloc, program, plans.as_slice())?;
-    Ok(Built { written, plans })
 }
 
 /// The program of a text, within all limits, or why there is none.
@@ -108,12 +82,13 @@ pub fn compile<R: Threads + Sync>(
     ensures refused { IfErr result (λ e. (r : refusal.Refusal) → e ≡ error.Refused r → IsRefused text.now r) }
 {
     let accepted = program_in(alloc, text)?;
-    let built = build(rt, alloc, &accepted.program, jobs)?;
+    let plans = plan_functions(rt, alloc, &accepted.program, jobs)?;
+    let written = hardware::written(alloc, &accepted.program, plans.as_slice())?;
     Ok(Compiled {
-        text: built.written.text,
-        net: built.written.net,
+        text: written.text,
+        net: written.net,
         program: accepted.program,
         weight: accepted.weight,
-        plans: built.plans,
+        plans,
     })
 }

@@ -1,13 +1,29 @@
+use Rattle.std.proofs.Common.{subst, sym}
 use Rattle.c_program.specs.Plain.{program_of}
+use Rattle.thread_bodies.specs.Plans.{ArePlanned}
+use Rattle.hls_compile.specs.Plans.{RunPlanned}
 use Rattle.hls_compile.proofs.Making.{few_threads}
 use Rattle.hls_compile.proofs.compile.Goals as goal
+
+pub written-requires : goal.written-requires
+written-requires g c = record {
+  resolved = c.in_ok-accepted.ensures.resolved;
+  limits = c.in_ok-accepted.ensures.limits;
+  planned = subst (ArePlanned (program_of c.in_ok-accepted.accepted.program)) (sym c.as_slice.ensures) c.in_ok-plans.ensures;
+}
 
 pub returns-clause-ok : goal.returns-clause-ok
 returns-clause-ok g c = record {
   accepted = c.in_ok-accepted.ensures.ok;
   few = few_threads (program_of c.in_ok-accepted.accepted.program) c.in_ok-accepted.ensures.limits;
-  good = c.in_ok-built.ensures.good.good;
-  net = c.in_ok-built.ensures.good.net;
-  threaded = c.in_ok-built.ensures.good.threaded;
-  modules = c.in_ok-built.ensures.good.modules;
+  good = c.in_ok-written.ensures.good.good;
+  net = c.in_ok-written.ensures.good.net;
+  threaded = c.in_ok-written.ensures.good.threaded;
+  modules = c.in_ok-written.ensures.good.modules;
+}
+
+pub returns-clause-plans : goal.returns-clause-plans
+returns-clause-plans g c = record {
+  planned = c.in_ok-plans.ensures;
+  run = subst (RunPlanned (program_of c.in_ok-accepted.accepted.program) c.in_ok-written.written.net) c.as_slice.ensures c.in_ok-written.ensures.run;
 }

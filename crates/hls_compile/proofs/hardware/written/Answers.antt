@@ -1,4 +1,5 @@
 use Rattle.std.proofs.Common.{ℕ, List, subst, sym}
+use Rattle.std.proofs.lemmas.Result.{IfOk-weaker}
 use Rattle.c_program.specs.Plain.{program_of}
 use Rattle.bank_partition.specs.declared.banks.Spread.{Spread}
 use Rattle.program_cores.specs.Cores.{AreCoresOf}
@@ -47,10 +48,10 @@ returns-clause-good c =
       laid = c.in_ok-modules.ensures.laid;
       bodies = c.in_ok-modules.ensures.bodies;
     }) in
-    is_good P c.in_ok-banks.banks c.in_ok-wanted.wanted c.args.plans.now c.in_ok-modules.modules c.requires.resolved c.requires.limits c.in_ok-banks.ensures made
-    c.in_ok-written.written.net c.in_ok-written.written.text
-    (subst (λ (ns : List ℕ). IsTextOf ns c.in_ok-modules.modules c.in_ok-wanted.wanted c.in_ok-written.written.net c.in_ok-written.written.text) c.in_ok-numbers.ensures
-    c.in_ok-written.ensures)
+    IfOk-weaker c.verilog.result _ _
+    (λ w is. is_good P c.in_ok-banks.banks c.in_ok-wanted.wanted c.args.plans.now c.in_ok-modules.modules c.requires.resolved c.requires.limits c.in_ok-banks.ensures made
+    w.net w.text (subst (λ (ns : List ℕ). IsTextOf ns c.in_ok-modules.modules c.in_ok-wanted.wanted w.net w.text) c.in_ok-numbers.ensures is))
+    c.verilog.ensures
 
 pub returns-clause-run : goal.returns-clause-run
 returns-clause-run c =
@@ -62,7 +63,7 @@ returns-clause-run c =
       laid = c.in_ok-modules.ensures.laid;
       bodies = c.in_ok-modules.ensures.bodies;
     }) in
-    run_planned P c.in_ok-banks.banks c.in_ok-wanted.wanted c.args.plans.now c.in_ok-modules.modules c.requires.resolved c.requires.limits c.in_ok-banks.ensures made
-    c.in_ok-written.written.net c.in_ok-written.written.text
-    (subst (λ (ns : List ℕ). IsTextOf ns c.in_ok-modules.modules c.in_ok-wanted.wanted c.in_ok-written.written.net c.in_ok-written.written.text) c.in_ok-numbers.ensures
-    c.in_ok-written.ensures)
+    IfOk-weaker c.verilog.result _ _
+    (λ w is. run_planned P c.in_ok-banks.banks c.in_ok-wanted.wanted c.args.plans.now c.in_ok-modules.modules c.requires.resolved c.requires.limits c.in_ok-banks.ensures made
+    w.net w.text (subst (λ (ns : List ℕ). IsTextOf ns c.in_ok-modules.modules c.in_ok-wanted.wanted w.net w.text) c.in_ok-numbers.ensures is))
+    c.verilog.ensures
