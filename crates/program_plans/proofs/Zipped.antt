@@ -1,7 +1,9 @@
 -- Functions that take their codes and plans one after another.
-use Rattle.std.proofs.Common.{◌≡◌, ℕ, ◌+◌, ◌≤◌, List, [], ◌∷◌, ◌++◌, length, take, map, refl, sym, ap, ◌∙◌, arith, length-append}
-use Rattle.std.specs.Prelude.{string_bytes}
-use Rattle.std.proofs.lemmas.List.{append-nil, length-map, take_all}
+use Rattle.std.proofs.Common.{◌≡◌, ℕ, ◌+◌, ◌<◌, ◌≤◌, List, [], ◌∷◌, ◌++◌, length, get_or, take, map, Some, refl, sym, ap, subst, ◌∙◌, arith, length-append, append_assoc}
+use Rattle.std.specs.Prelude.{slice_get, string_bytes}
+use Rattle.std.specs.List.{remove}
+use Rattle.std.proofs.lemmas.List.{append-nil, length-map, map-append, take_all, take_more}
+use Rattle.std.proofs.lemmas.Option.{none-some, same_Some}
 use Rattle.c_program.specs.Tree.{Program}
 use Rattle.block_ir.specs.declared.code.ThreadCode.{ThreadCode}
 use Rattle.block_ir.specs.declared.plan.Planned.{Planned}
@@ -31,6 +33,28 @@ none_begun P fs codes plans planned e = record {
   codes_are = ap (λ (l : List PlannedFunction). map code_of l ++ codes) e;
   plans_are = ap (λ (l : List PlannedFunction). map plan_of l ++ plans) e;
 }
+
+one_more : {X : Type 0} (g : PlannedFunction → X) (planned : List PlannedFunction) (p : PlannedFunction) (xs new all : List X) → slice_get xs 0 ≡ Some (g p) → new ≡ remove xs 0 →
+    map g planned ++ xs ≡ all → map g (planned ++ p ∷ []) ++ new ≡ all
+one_more g planned p [] new all first rest was = absurd (none-some (g p) first)
+one_more {X} g planned p (x ∷ xs) new all first rest was =
+    ap (λ (l : List X). l ++ new) (map-append g planned (p ∷ [])) ∙ append_assoc (map g planned) (g p ∷ []) new ∙ ap (λ (l : List X). map g planned ++ g p ∷ l) rest
+    ∙ ap (λ (y : X). map g planned ++ y ∷ xs) (sym (same_Some x (g p) first)) ∙ was
+
+-- one more function takes the first code and the first plan that are left
+pub begun_next : (P : Program) (fs : List ℕ) (codes : List ThreadCode) (plans : List Planned) (i : ℕ) (cs new_cs : List ThreadCode) (ps new_ps : List Planned)
+    (planned new : List PlannedFunction) (p : PlannedFunction) → i < length fs → AreBegun P fs codes plans i cs ps planned → string_bytes p.name ≡ function_name P (get_or fs i 0) →
+    slice_get cs 0 ≡ Some p.code → new_cs ≡ remove cs 0 → slice_get ps 0 ≡ Some p.plan → new_ps ≡ remove ps 0 → new ≡ planned ++ p ∷ [] →
+    AreBegun P fs codes plans (i + 1) new_cs new_ps new
+begun_next P fs codes plans i cs new_cs ps new_ps planned new p lt was name code codes_left plan plans_left pushed =
+    subst (AreBegun P fs codes plans (i + 1) new_cs new_ps) (sym pushed) (record {
+      names_are =
+          map-append name_of planned (p ∷ []) ∙ ap (λ (l : List (List ℕ)). l ++ name_of p ∷ []) was.names_are
+          ∙ ap (λ (n : List ℕ). map (function_name P) (take i fs) ++ n ∷ []) name ∙ sym (map-append (function_name P) (take i fs) (get_or fs i 0 ∷ []))
+          ∙ ap (map (function_name P)) (sym (take_more fs i 0 lt));
+      codes_are = one_more code_of planned p cs new_cs codes code codes_left was.codes_are;
+      plans_are = one_more plan_of planned p ps new_ps plans plan plans_left was.plans_are;
+    })
 
 left_count : {X : Type 0} (g : PlannedFunction → X) (planned : List PlannedFunction) (xs all : List X) → map g planned ++ xs ≡ all → length planned + length xs ≡ length all
 left_count g planned xs all e = ap (λ n. n + length xs) (sym (length-map planned g)) ∙ sym (length-append (map g planned) xs) ∙ ap length e

@@ -52,8 +52,7 @@ fn code(
 {
     let code = lowered(alloc, program, function)?;
     let merged = merge(alloc, code, 4 * weight as usize)?;
-    let kept = drop_empty(alloc, merged)?;
-    Ok(kept)
+    drop_empty(alloc, merged)
 }
 
 /// The codes of a program's thread functions, in their order, with maximal blocks.

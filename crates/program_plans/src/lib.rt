@@ -48,6 +48,5 @@ pub fn plan_functions<R: Threads + Sync>(
     let functions = thread_functions(alloc, program)?;
     let codes = codes(alloc, program, &functions)?;
     let plans = plan_all(rt, alloc, codes.as_slice(), jobs)?;
-    let planned = planned(alloc, program, &functions, codes, plans)?;
-    Ok(planned)
+    planned(alloc, program, &functions, codes, plans)
 }

@@ -1,4 +1,5 @@
 use Rattle.std.proofs.Common.{List, ℕ, sym, ◌∙◌, subst}
+use Rattle.std.proofs.lemmas.Result.{IfOk-weaker}
 use Rattle.c_program.specs.Plain.{program_of}
 use Rattle.block_ir.specs.declared.code.ThreadCode.{ThreadCode}
 use Rattle.least_plan.specs.Plans as parallel
@@ -21,11 +22,21 @@ planned-requires-clause-plans g c =
     ∙ codes_count P c.deref-2.result.now c.in_ok-codes.codes
     (subst (λ (fs : List ℕ). AreCodes P fs c.in_ok-codes.codes) (c.deref.ensures.value ∙ sym c.deref-2.ensures.value) c.in_ok-codes.ensures)
 
+pub codes-requires-clause-resolved : goal.codes-requires-clause-resolved
+codes-requires-clause-resolved g c = c.requires.resolved
+
+pub codes-requires-clause-limits : goal.codes-requires-clause-limits
+codes-requires-clause-limits g c = c.requires.limits
+
+pub codes-requires-clause-threads : goal.codes-requires-clause-threads
+codes-requires-clause-threads g c = c.deref.ensures.value ∙ c.in_ok-functions.ensures
+
 pub returns : goal.returns
 returns g c =
     let P = program_of c.args.program.now in
-    are_planned P c.in_ok-codes.codes c.in_ok-plans.plans c.in_ok-planned.planned
+    IfOk-weaker c.planned.result _ _
+    (λ p is. are_planned P c.in_ok-codes.codes c.in_ok-plans.plans p
     (subst (λ (fs : List ℕ). AreCodes P fs c.in_ok-codes.codes) (c.deref.ensures.value ∙ c.in_ok-functions.ensures) c.in_ok-codes.ensures)
     (subst (λ (cs : List ThreadCode). parallel.ArePlanned cs c.in_ok-plans.plans) c.as_slice.ensures c.in_ok-plans.ensures)
-    (subst (λ (fs : List ℕ). AreZipped P fs c.in_ok-codes.codes c.in_ok-plans.plans c.in_ok-planned.planned) (c.deref-2.ensures.value ∙ c.in_ok-functions.ensures)
-    c.in_ok-planned.ensures)
+    (subst (λ (fs : List ℕ). AreZipped P fs c.in_ok-codes.codes c.in_ok-plans.plans p) (c.deref-2.ensures.value ∙ c.in_ok-functions.ensures) is))
+    c.planned.ensures

@@ -10,6 +10,15 @@ use Rattle.program_plans.proofs.codes.codes.Goals as goal
 pub loop-function-init : goal.loop-function-init
 loop-function-init c = subst (AreCodes (program_of c.args.program.now) []) (sym c.new-codes.ensures) tt
 
+pub code-requires-clause-resolved : goal.code-requires-clause-resolved
+code-requires-clause-resolved c = c.requires.resolved
+
+pub code-requires-clause-limits : goal.code-requires-clause-limits
+code-requires-clause-limits c = c.requires.limits
+
+pub code-requires-clause-weight : goal.code-requires-clause-weight
+code-requires-clause-weight c = c.in_ok-weight.ensures
+
 pub code-requires-clause-runs : goal.code-requires-clause-runs
 code-requires-clause-runs c =
     let fs = c.args.functions.now in
