@@ -9,8 +9,6 @@ ghost use Rattle.hls_commands.specs.Answers.{Gave, IsBuilt, IsPlain, IsStepped, 
 ghost use Rattle.hls_commands.specs.Inside.{AnswersStop, StopsBy, due_of, line_bytes, stop_of};
 ghost use Rattle.hls_commands.specs.declared.commands.Stop.TheVariants.{Memory};
 ghost use Rattle.hls_compile.specs.Compiled.{IsCompiled};
-ghost use Rattle.cycle_sim.specs.Round.{IsRound};
-ghost use Rattle.vcd_trace.specs.Trace.{IsTraced};
 ghost use Rattle.cycle_sim.specs.declared.sim.OpenError.TheVariants as causes;
 
 use crate::answer::{Answer, Line, Out};
@@ -38,7 +36,7 @@ use turns::Turn;
 use vcd_trace::trace::trace;
 
 /// Why a command stops before it has an answer of its own.
-#[derive(Clone, Copy, Debug, PartialEq, Eq, Error)]
+#[derive(Clone, Copy, Debug, Error)]
 pub enum Stop {
     #[error("a read failed")]
     ReadFault,
@@ -208,41 +206,27 @@ fn memory_alone(error: OpenError) -> AllocError
     }
 }
 
-/// Runs a net. Each that a text is compiled to has a simulator.
-fn ran(alloc: Global, built: &Compiled, cycles: u32) -> Result<Ran, AllocError>
-    requires { (text : _) × IsCompiled text (program_of built.now.program) built.now.weight built.now.net built.now.text }
-    ensures { IfOk result (λ r. IsRound built.now.net.modules (thread_count (program_of built.now.program)) cycles r.cycles r.is_done r.printed) }
-{
-    match run(alloc, built.net.modules.as_slice(), cycles) {
-        Ok(ran) => Ok(ran),
-        Err(error) => Err(memory_alone(error)),
-    }
-}
-
-/// The same with a dump in place of what the net writes.
-fn traced(alloc: Global, built: &Compiled, cycles: u32) -> Result<Ran, AllocError>
-    requires { (text : _) × IsCompiled text (program_of built.now.program) built.now.weight built.now.net built.now.text }
-    ensures { IfOk result (λ r. IsTraced built.now.net.modules (thread_count (program_of built.now.program)) cycles r.cycles r.is_done r.printed) }
-{
-    match trace(alloc, built.net.modules.as_slice(), cycles) {
-        Ok(traced) => Ok(Ran {
-            cycles: traced.cycles,
-            is_done: traced.is_done,
-            printed: traced.text,
-        }),
-        Err(error) => Err(memory_alone(error)),
-    }
-}
-
-/// Runs a net, for what it writes or for its dump.
+/// Runs a net, for what it writes or for its dump. Each that a text is compiled to has a simulator.
 fn ran_as(alloc: Global, built: &Compiled, cycles: u32, vcd: bool) -> Result<Ran, AllocError>
     requires { (text : _) × IsCompiled text (program_of built.now.program) built.now.weight built.now.net built.now.text }
     ensures { IfOk result (λ r. RunsAs vcd built.now.net.modules (thread_count (program_of built.now.program)) cycles r.cycles r.is_done r.printed) }
 {
+    let modules = built.net.modules.as_slice();
     if vcd {
-        return traced(alloc, built, cycles);
+        match trace(alloc, modules, cycles) {
+            Ok(traced) => Ok(Ran {
+                cycles: traced.cycles,
+                is_done: traced.is_done,
+                printed: traced.text,
+            }),
+            Err(error) => Err(memory_alone(error)),
+        }
+    } else {
+        match run(alloc, modules, cycles) {
+            Ok(ran) => Ok(ran),
+            Err(error) => Err(memory_alone(error)),
+        }
     }
-    ran(alloc, built, cycles)
 }
 
 /// The status of a run.
@@ -281,26 +265,17 @@ fn step<R: Threads + Sync, S: Source>(
     })
 }
 
-/// The answer to a stop, where there is memory for its line.
-fn stop_answer(alloc: Global, stop: Stop) -> Result<Answer, AllocError>
-    ensures { IfOk result (λ a. AnswersStop stop (due_of a)) }
-{
-    match stop {
-        Stop::ReadFault => Ok(plain(alloc, Status::ReadFault, Line::Fixed(READ_FAULT))),
-        Stop::Memory => Ok(plain(alloc, Status::Memory, Line::Fixed(MEMORY))),
-        Stop::Refused(refusal) => {
-            let line = refusal_line(alloc, refusal)?;
-            Ok(plain(alloc, Status::Refused(refusal), Line::Made(line)))
-        }
-    }
-}
-
+/// The answer to a stop; want of memory for its line has an answer of its own.
 fn stopped(alloc: Global, stop: Stop) -> Answer
     ensures { AnswersStop stop (due_of result) }
 {
-    match stop_answer(alloc, stop) {
-        Ok(answer) => answer,
-        Err(_) => plain(alloc, Status::Memory, Line::Fixed(MEMORY)),
+    match stop {
+        Stop::ReadFault => plain(alloc, Status::ReadFault, Line::Fixed(READ_FAULT)),
+        Stop::Memory => plain(alloc, Status::Memory, Line::Fixed(MEMORY)),
+        Stop::Refused(refusal) => match refusal_line(alloc, refusal) {
+            Ok(line) => plain(alloc, Status::Refused(refusal), Line::Made(line)),
+            Err(_) => plain(alloc, Status::Memory, Line::Fixed(MEMORY)),
+        },
     }
 }
 

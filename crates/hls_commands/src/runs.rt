@@ -5,8 +5,6 @@ ghost use Rattle.hls_words.specs.declared.task.Task.TheVariants.{Replay, Run};
 ghost use Rattle.c_program.specs.Plain.{program_of};
 ghost use Rattle.c_program.specs.Weight.{thread_count};
 ghost use Rattle.hls_compile.specs.Compiled.{IsCompiled};
-ghost use Rattle.run_command.specs.Runs.{IsRunAnswer};
-ghost use Rattle.run_command.specs.Replays.{IsReplayAnswer};
 ghost use Rattle.hls_commands.specs.Answers.{Gave, GaveJournal, IsRunBy, most_replayed, verdict_status};
 ghost use Rattle.hls_commands.specs.Inside.{IsAnswerOf, IsReplayOrBad, StopsBy, due_of};
 
@@ -18,13 +16,12 @@ use hls_compile::{Compiled, compile};
 use hls_io::{Bytes, ReadAllError, Source, read_all};
 use hls_status::status::Status;
 use journal_laws::verdict::Verdict;
-use journal_text::entry::Entry;
 use journal_text::text::{JournalText, parted};
 use run_command::Gate;
 use run_command::replay::{ReplayAnswer, replay_net};
-use run_command::run::{RunAnswer, run_net};
+use run_command::run::run_net;
 use sqlite_items::Items;
-use std::alloc::{AllocError, Global};
+use std::alloc::Global;
 use std::sync::Wait;
 use std::thread::Threads;
 
@@ -51,23 +48,6 @@ fn threads_of(built: &Compiled) -> usize
     thread_count(&built.program) as usize
 }
 
-/// Runs a net by a worker for each of its threads.
-fn ran_by_workers<R: Threads + Wait + Sync, G: Gate + Sync>(
-    rt: &R,
-    alloc: Global,
-    built: &Compiled,
-    entries: u32,
-    journal: bool,
-    gate: &G,
-) -> Result<RunAnswer, AllocError>
-    requires { (text : _) × IsCompiled text (program_of built.now.program) built.now.weight built.now.net built.now.text }
-    ensures { IfOk result (IsRunAnswer built.now.net.modules (thread_count (program_of built.now.program)) entries journal) }
-{
-    let threads = threads_of(built);
-    let modules = built.net.modules.as_slice();
-    run_net(rt, alloc, modules, threads, entries as usize, journal, gate)
-}
-
 /// Runs the Verilog by workers, for so many entries at most.
 #[tactic(auto, using(crate::proofs::RefusalLemmas::stops_run))]
 pub fn run_workers<R: Threads + Wait + Sync, S: Source, G: Gate + Sync>(
@@ -83,7 +63,9 @@ pub fn run_workers<R: Threads + Wait + Sync, S: Source, G: Gate + Sync>(
     ensures later { S.faults source.old ≤ S.faults source.new }
 {
     let built = compiled(rt, alloc, source, 1)?;
-    let ran = ran_by_workers(rt, alloc, &built, entries, journal, gate)?;
+    let threads = threads_of(&built);
+    let modules = built.net.modules.as_slice();
+    let ran = run_net(rt, alloc, modules, threads, entries as usize, journal, gate)?;
     Ok(Answer {
         status: verdict_status(ran.verdict),
         text: built.text,
@@ -116,7 +98,6 @@ fn behind(whole: &Bytes, rest: usize) -> &[u8]
 }
 
 /// A journal, and the net of the text behind it.
-#[derive(Drop)]
 struct Given {
     journal: JournalText,
     built: Compiled,
@@ -140,20 +121,6 @@ fn compiled_with_journal<R: Threads + Sync, S: Source>(
         Ok(built) => Ok(Given { journal, built }),
         Err(error) => Err(stop_of(error)),
     }
-}
-
-/// Does the entries of a journal again on a net.
-fn replayed(
-    alloc: Global,
-    built: &Compiled,
-    entries: Items<Entry>,
-    bad: Option<usize>,
-) -> Result<ReplayAnswer, AllocError>
-    requires { (text : _) × IsCompiled text (program_of built.now.program) built.now.weight built.now.net built.now.text }
-    ensures { IfOk result (IsReplayAnswer built.now.net.modules (thread_count (program_of built.now.program)) entries bad) }
-{
-    let threads = threads_of(built);
-    replay_net(alloc, built.net.modules.as_slice(), threads, entries, bad)
 }
 
 /// The answer of a replay.
@@ -195,6 +162,8 @@ pub fn replay_journal<R: Threads + Sync, S: Source>(
     ensures later { S.faults source.old ≤ S.faults source.new }
 {
     let Given { journal, built } = compiled_with_journal(rt, alloc, source)?;
-    let replay = replayed(alloc, &built, journal.entries, journal.bad)?;
+    let threads = threads_of(&built);
+    let modules = built.net.modules.as_slice();
+    let replay = replay_net(alloc, modules, threads, journal.entries, journal.bad)?;
     Ok(replay_answer(alloc, built.text, replay))
 }
