@@ -1,4 +1,4 @@
-use Rattle.std.proofs.Common.{◌≡◌, ◌++◌, ◌∷◌, [], arith}
+use Rattle.std.proofs.Common.{◌≡◌, ◌<◌, ◌++◌, ◌∷◌, [], length, arith, rules}
 use Rattle.schedule_sdc.specs.History.{at}
 use Rattle.schedule_sdc.proofs.Back.{given_at, behind_before, further, closed, begun}
 use Rattle.schedule_sdc.proofs.cycle.places_between.Goals as goal
@@ -46,3 +46,17 @@ bounds-steps-here c = c.requires.ends.within
 
 pub bounds-steps-here-in-loop-here : goal.bounds-steps-here-in-loop-here
 bounds-steps-here-in-loop-here c = c.loop-here.invariant.within
+
+pub offset_bounds-steps-here : goal.offset_bounds-steps-here
+offset_bounds-steps-here c = search (rules, c.requires.ends.within)
+
+pub offset_bounds-steps-here-in-loop-here : goal.offset_bounds-steps-here-in-loop-here
+offset_bounds-steps-here-in-loop-here c = search (rules, c.loop-here.invariant.within)
+
+pub offset_bounds-steps-here-in-loop-here-2 : goal.offset_bounds-steps-here-in-loop-here-2
+offset_bounds-steps-here-in-loop-here-2 c =
+    let b = c.loop-here.invariant.behind in
+    let h = c.requires.history in
+    let gv = given_at h.0 h.1 c.args.steps.now h.2 _ c.loop-here.invariant.within c.args.ends.earlier c.loop-here-test.true b.0 b.1 in
+    let l : (at c.args.steps.now c.loop-here.here).before < length c.args.steps.now = omega (arith, gv.earlier, c.loop-here.invariant.within) in
+    search (rules, l)

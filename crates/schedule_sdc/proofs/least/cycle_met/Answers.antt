@@ -53,3 +53,11 @@ pub rounds-preserved : goal.rounds-preserved
 rounds-preserved c =
     let i = c.loop-c.invariant in
     record { sound = i.sound; shallow = i.shallow; early = i.early }
+
+pub positive_cycle-requires : goal.positive_cycle-requires
+positive_cycle-requires c =
+    let history = rw c.loop-c.invariant.sound.starts_length at c.in_ok-raise.ensures.sound.history in
+    (c.args.list.now, rw c.as_slice.ensures.value history)
+
+pub positive_cycle-requires-in-rounds : goal.positive_cycle-requires-in-rounds
+positive_cycle-requires-in-rounds c = (c.args.list.now, rw c.as_slice-in-rounds.ensures.value c.loop-c.invariant.sound.history)
