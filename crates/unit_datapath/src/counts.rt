@@ -1,7 +1,6 @@
 // How many units there are for an operator.
 
-ghost use Rattle.std.specs.Prelude.{◌≡◌, ◌≤◌, ◌⊎◌, ◌&&◌, not, length, slice_get, Some};
-ghost use Rattle.block_ir.specs.declared.code.Stage.TheVariants as taken;
+ghost use Rattle.std.specs.Prelude.{◌≡◌, ◌≤◌, ◌⊎◌, ◌&&◌, not, length, slice_get};
 ghost use Rattle.block_datapath.specs.Units.{same_operator, same_type, unit_type, has_constant};
 ghost use Rattle.unit_datapath.specs.Counts.{IsCountOf, OperationHas, BlockHas, StageHas, CodeHas};
 
@@ -53,19 +52,13 @@ fn stage_count(
 {
     match stage {
         Stage::Run(block) => match planned.stages.get(number) {
-            Some(plan) => plan_count(operator, ty, block, plan),
+            Some(plan) => match plan {
+                StagePlan::Run(plan) => block_count(operator, ty, block, plan),
+                StagePlan::Act => 0,
+            },
             None => 0,
         },
         Stage::Act { .. } => 0,
-    }
-}
-
-fn plan_count(operator: BinaryOperator, ty: CType, block: &Block, plan: &StagePlan) -> usize
-    ensures { IsCountOf (StageHas operator ty (taken.Run block.now) (Some plan.now)) result }
-{
-    match plan {
-        StagePlan::Run(plan) => block_count(operator, ty, block, plan),
-        StagePlan::Act => 0,
     }
 }
 

@@ -1,8 +1,6 @@
 // Links of the multiplexers of units, one for each operation.
 
-ghost use Rattle.std.specs.Prelude.{◌≡◌, ◌≤◌, ◌||◌, length, slice_get, Some, OnOk};
-ghost use Rattle.block_ir.specs.declared.code.Stage.TheVariants as taken;
-ghost use Rattle.block_ir.specs.declared.plan.StagePlan.TheVariants as stage_plan;
+ghost use Rattle.std.specs.Prelude.{◌≡◌, ◌≤◌, ◌||◌, length, slice_get, OnOk};
 ghost use Rattle.unit_datapath.specs.Links.{LinksOperands, LinksOperation, LinksFirst, LinksBlock, LinksStage, LinksStages, HasWork};
 
 use crate::inputs::{UnitInputs, link_unit};
@@ -39,6 +37,7 @@ pub fn link_stages(
     Ok(())
 }
 
+/// A stage, where it is a block by a plan of one and has work for a unit of the kind.
 fn link_stage(
     wires: &mut Wires,
     inputs: &mut UnitInputs,
@@ -54,52 +53,20 @@ fn link_stage(
 {
     match stage {
         Stage::Run(block) => match planned.stages.get(number) {
-            Some(plan) => link_run(wires, inputs, registers, code, kind, number, block, plan),
+            Some(plan) => match plan {
+                StagePlan::Run(plan) => {
+                    if has_work(kind, block) {
+                        let stage = number as u64;
+                        link_block(wires, inputs, registers, code, kind, stage, block, plan)
+                    } else {
+                        Ok(())
+                    }
+                }
+                StagePlan::Act => Ok(()),
+            },
             None => Ok(()),
         },
         Stage::Act { .. } => Ok(()),
-    }
-}
-
-/// A block by its plan, where the stage's plan is one of a block.
-fn link_run(
-    wires: &mut Wires,
-    inputs: &mut UnitInputs,
-    registers: &Registers,
-    code: &ThreadCode,
-    kind: &UnitKind,
-    number: usize,
-    block: &Block,
-    plan: &StagePlan,
-) -> Result<(), AllocError>
-    ensures { OnOk result (LinksStage code.now registers.now kind.now number (taken.Run block.now) (Some plan.now) wires.old.signals wires.new.signals inputs.old inputs.new) }
-{
-    match plan {
-        StagePlan::Run(plan) => link_planned(
-            wires, inputs, registers, code, kind, number, block, plan,
-        ),
-        StagePlan::Act => Ok(()),
-    }
-}
-
-fn link_planned(
-    wires: &mut Wires,
-    inputs: &mut UnitInputs,
-    registers: &Registers,
-    code: &ThreadCode,
-    kind: &UnitKind,
-    number: usize,
-    block: &Block,
-    plan: &BlockPlan,
-) -> Result<(), AllocError>
-    ensures { OnOk result (LinksStage code.now registers.now kind.now number (taken.Run block.now) (Some (stage_plan.Run plan.now)) wires.old.signals wires.new.signals
-        inputs.old inputs.new) }
-{
-    if has_work(kind, block) {
-        let stage = number as u64;
-        link_block(wires, inputs, registers, code, kind, stage, block, plan)
-    } else {
-        Ok(())
     }
 }
 

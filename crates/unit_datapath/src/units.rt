@@ -80,10 +80,34 @@ fn lay_kind(
 {
     let counts = kind_counts(code, planned, kind);
     if counts.most == 0 {
-        Ok(())
-    } else {
-        lay_counted(wires, all, registers, code, planned, kind, counts)
+        return Ok(());
     }
+    let inputs = lay_inputs(wires, registers, code, planned, kind, counts.most)?;
+    let ty = kind.ty;
+    lay_results(
+        wires,
+        all,
+        &inputs,
+        BinaryOperator::Multiply,
+        ty,
+        counts.products,
+    )?;
+    lay_results(
+        wires,
+        all,
+        &inputs,
+        BinaryOperator::Divide,
+        ty,
+        counts.quotients,
+    )?;
+    lay_results(
+        wires,
+        all,
+        &inputs,
+        BinaryOperator::Remainder,
+        ty,
+        counts.remainders,
+    )
 }
 
 fn kind_counts(code: &ThreadCode, planned: &Planned, kind: &UnitKind) -> UnitCounts
@@ -118,46 +142,6 @@ fn operator_count(
     }
 }
 
-fn lay_counted(
-    wires: &mut Wires,
-    all: &mut Items<UnitResults>,
-    registers: &Registers,
-    code: &ThreadCode,
-    planned: &Planned,
-    kind: &UnitKind,
-    counts: UnitCounts,
-) -> Result<(), AllocError>
-    requires { AreCountsOf code.now planned.now kind.now counts }
-    ensures { OnOk result (LaysMore code.now registers.now planned.now kind.now wires.old.signals wires.new.signals all.old all.new) }
-{
-    let inputs = lay_inputs(wires, registers, code, planned, kind, counts.most)?;
-    let ty = kind.ty;
-    lay_results(
-        wires,
-        all,
-        &inputs,
-        BinaryOperator::Multiply,
-        ty,
-        counts.products,
-    )?;
-    lay_results(
-        wires,
-        all,
-        &inputs,
-        BinaryOperator::Divide,
-        ty,
-        counts.quotients,
-    )?;
-    lay_results(
-        wires,
-        all,
-        &inputs,
-        BinaryOperator::Remainder,
-        ty,
-        counts.remainders,
-    )
-}
-
 /// The operands of the units of a kind.
 fn lay_inputs(
     wires: &mut Wires,
@@ -189,30 +173,12 @@ fn lay_results(
     ensures { OnOk result (LaysResults inputs.now operator ty count wires.old.signals wires.new.signals all.old all.new) }
 {
     if count == 0 {
-        Ok(())
-    } else {
-        lay_list(wires, all, inputs, operator, ty, count)
+        return Ok(());
     }
-}
-
-fn lay_list(
-    wires: &mut Wires,
-    all: &mut Items<UnitResults>,
-    inputs: &UnitInputs,
-    operator: BinaryOperator,
-    ty: CType,
-    count: usize,
-) -> Result<(), AllocError>
-    requires some { 0 < count }
-    requires lefts { count ≤ length inputs.now.lefts }
-    requires rights { count ≤ length inputs.now.rights }
-    ensures { OnOk result (LaysResults inputs.now operator ty count wires.old.signals wires.new.signals all.old all.new) }
-{
     let places = unit_results(wires, inputs, operator, ty, count)?;
     all.push(UnitResults {
         operator,
         ty,
         places,
-    })?;
-    Ok(())
+    })
 }
