@@ -18,27 +18,31 @@ use c_tree::TranslationUnit;
 use declarations::unit;
 use grammar::Fault;
 use std::alloc::Global;
+use thiserror::Error;
 
 /// How deep a token may be nested.
 pub const NESTING_LIMIT: usize = 64;
 
 /// Why tokens have no tree. The tokens are counted from 0, and the offset is that of the token in the text; it is 0 where
 /// there is no such token, since the tokens end without the end of a text.
-#[derive(Clone, Copy)]
+#[derive(Clone, Copy, Debug, Error)]
 pub enum ParseError {
     /// Some sentence starts with the tokens before this one, and none with this one too. At the number of tokens where
     /// they end too early.
+    #[error("no sentence has the token at byte {offset}")]
     Syntax {
         token: usize,
         offset: usize,
     },
     /// This token is the first one that is nested deeper than the limit; the count is its nesting.
+    #[error("the token at byte {offset} is nested {count} deep")]
     Nesting {
         token: usize,
         count: usize,
         offset: usize,
     },
     /// Memory ran out.
+    #[error("out of memory")]
     Memory,
 }
 

@@ -1,4 +1,5 @@
 use sqlite_items::Items;
+use thiserror::Error;
 use turns::Turn;
 
 /// What the program is asked to do.
@@ -19,10 +20,10 @@ pub enum Task {
 }
 
 /// Why the words give no task.
-#[derive(Clone, Copy)]
+#[derive(Clone, Copy, Debug, Error)]
 pub enum WordsError {
-    /// They are not of the command line.
+    #[error("the words are not of the command line")]
     Usage,
-    /// Memory ran out.
+    #[error("out of memory")]
     Mem,
 }
