@@ -7,45 +7,40 @@ use std::alloc::{AllocError, Global};
 use std::process::Abort;
 use std::test::Fail;
 
-fn has_parts(
-    alloc: Global,
-    text: &[u8],
-    entries: &[Entry],
-    rest: usize,
-) -> Result<bool, AllocError> {
-    let parts = parted(alloc, text)?;
-    Ok(parts.entries.as_slice() == entries && parts.bad == None && parts.rest == rest)
+/// What the two lines spell.
+const ENTRIES: [Entry; 2] = [
+    Entry {
+        thread: 1,
+        closed: 4096,
+        opened: true,
+    },
+    Entry {
+        thread: 0,
+        closed: 0,
+        opened: false,
+    },
+];
+
+fn entries() -> &'static [Entry] {
+    &ENTRIES
 }
 
-fn is_spelled(alloc: Global, entries: &[Entry], text: &[u8]) -> Result<bool, AllocError> {
-    let lines = spelled(alloc, entries)?;
-    Ok(lines.as_slice() == text)
+/// Two lines are read, and what stands behind them begins at byte 23.
+fn is_read(alloc: Global) -> Result<bool, AllocError> {
+    let parts = parted(alloc, b"//@ 1 4096 s\n//@ 0 0 -\nint main")?;
+    Ok(parts.entries.as_slice() == entries() && parts.bad.is_none() && parts.rest == 23)
 }
 
-/// Two lines and what stands behind them.
+fn is_spelled(alloc: Global) -> Result<bool, AllocError> {
+    let lines = spelled(alloc, entries())?;
+    Ok(lines.as_slice() == b"//@ 1 4096 s\n//@ 0 0 -\n".as_slice())
+}
+
 #[test]
 fn a_journal_is_read_and_spelled(rt: HostRuntime) -> Result<(), Fail> {
-    let text = b"//@ 1 4096 s\n//@ 0 0 -\nint main";
-    let entries = [
-        Entry {
-            thread: 1,
-            closed: 4096,
-            opened: true,
-        },
-        Entry {
-            thread: 0,
-            closed: 0,
-            opened: false,
-        },
-    ];
-    assert!(rt; has_parts(rt.alloc(), text.as_slice(), entries.as_slice(), 23)?);
-    assert!(rt;
-        is_spelled(
-            rt.alloc(),
-            entries.as_slice(),
-            b"//@ 1 4096 s\n//@ 0 0 -\n".as_slice()
-        )?
-    );
+    let is_read = is_read(rt.alloc())?;
+    let is_spelled = is_spelled(rt.alloc())?;
+    assert!(rt; is_read && is_spelled);
     Ok(())
 }
 

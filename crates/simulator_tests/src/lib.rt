@@ -5,6 +5,8 @@
 #[cfg(test)]
 mod dumps;
 #[cfg(test)]
+mod expected;
+#[cfg(test)]
 mod integers;
 #[cfg(test)]
 mod journals;

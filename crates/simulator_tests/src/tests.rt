@@ -2,26 +2,16 @@
 
 ghost use Rattle.cycle_sim.specs.Opened.{IsOpenable};
 
-use crate::nets::{counter, looped, net_of};
+use crate::nets::{counter, dumped, looped, net_of};
 use cycle_sim::run::run;
 use cycle_sim::sim::{OpenError, Sim};
 use hls_io::Bytes;
+use net_registers::listing::Listing;
+use net_registers::registers::{register, registers};
 use netlist::netlist::Module;
 use std::alloc::{AllocError, Global};
 use std::process::Abort;
 use std::test::Fail;
-
-/// `left` and `right` depend on themselves, and `left` stands first: behind `clk` and `ready`.
-#[test]
-fn a_loop_is_named_by_its_first_signal(rt: HostRuntime) -> Result<(), Fail> {
-    let net = net_of(rt.alloc(), looped())?;
-    let is_named = match Sim::open(rt.alloc(), net.modules.as_slice()) {
-        Err(OpenError::Loop { module, signal }) => module == 0 && signal == 2,
-        Err(OpenError::Memory) | Ok(_) => false,
-    };
-    assert!(rt; is_named);
-    Ok(())
-}
 
 /// Whether done is shown so, by `done` and behind one cycle in which each arbiter prefers thread 5.
 fn shows(sim: &mut Sim<'_>, out: &mut Bytes, is_done: bool) -> Result<bool, AllocError> {
@@ -87,20 +77,61 @@ fn ends(sim: &mut Sim<'_>, out: &mut Bytes) -> Result<bool, AllocError> {
     Ok(first == 2 && more == 0 && out.as_slice() == b"3,0;3,1;".as_slice())
 }
 
+/// Whether register 0 has this number, and no other register is there.
+fn has_register(sim: &Sim<'_>, listing: &Listing, number: u64) -> bool {
+    register(sim, listing, 0) == Some(number) && register(sim, listing, 1).is_none()
+}
+
+/// The only register is 0, and 1 behind a cycle.
+fn counts(alloc: Global, sim: &mut Sim<'_>, out: &mut Bytes) -> Result<bool, AllocError> {
+    let listing = registers(alloc, sim)?;
+    let is_new = has_register(sim, &listing, 0);
+    let cycles = sim.lockstep(1, out)?;
+    Ok(is_new && cycles == 1 && has_register(sim, &listing, 1))
+}
+
 #[derive(Clone, Copy)]
 enum Case {
     Choice,
     Copy,
     Banks,
     End,
+    Register,
 }
 
-fn holds(case: Case, sim: &mut Sim<'_>, out: &mut Bytes) -> Result<bool, AllocError> {
+/// Each case, and what its failure is called.
+const CASES: [(&str, Case); 5] = [
+    ("a cycle takes its choice", Case::Choice),
+    ("a copy leaves its original", Case::Copy),
+    ("an element stands in its bank", Case::Banks),
+    ("lockstep ends where done is shown", Case::End),
+    ("a register has its number", Case::Register),
+];
+
+fn cases() -> &'static [(&'static str, Case)] {
+    &CASES
+}
+
+/// The text of the net that a case is about.
+fn text_of(case: Case) -> &'static str {
+    match case {
+        Case::Choice | Case::Copy | Case::Banks | Case::End => counter(),
+        Case::Register => dumped(),
+    }
+}
+
+fn holds(
+    alloc: Global,
+    case: Case,
+    sim: &mut Sim<'_>,
+    out: &mut Bytes,
+) -> Result<bool, AllocError> {
     match case {
         Case::Choice => takes_its_choice(sim, out),
         Case::Copy => goes_its_own_way(sim, out),
         Case::Banks => has_banks(sim, out),
         Case::End => ends(sim, out),
+        Case::Register => counts(alloc, sim, out),
     }
 }
 
@@ -110,24 +141,35 @@ fn holds_at_start(alloc: Global, modules: &[Module], case: Case) -> Result<bool,
 {
     let mut sim = Sim::open(alloc, modules)?;
     let mut out = Bytes::new(alloc);
-    let holds = holds(case, &mut sim, &mut out)?;
+    let holds = holds(alloc, case, &mut sim, &mut out)?;
     Ok(holds)
 }
 
 #[test]
-fn a_simulator_of_the_counter(rt: HostRuntime) -> Result<(), Fail> {
-    let net = net_of(rt.alloc(), counter())?;
-    for (name, case) in [
-        ("a cycle takes its choice", Case::Choice),
-        ("a copy leaves its original", Case::Copy),
-        ("an element stands in its bank", Case::Banks),
-        ("lockstep ends where done is shown", Case::End),
-    ] {
-        let holds = holds_at_start(rt.alloc(), net.modules.as_slice(), case)?;
+fn a_simulator_at_its_start(rt: HostRuntime) -> Result<(), Fail> {
+    for (name, case) in cases() {
+        let net = net_of(rt.alloc(), text_of(*case))?;
+        let holds = holds_at_start(rt.alloc(), net.modules.as_slice(), *case)?;
         if !holds {
-            rt.panic(name);
+            rt.panic(*name);
         }
     }
+    Ok(())
+}
+
+/// `left` and `right` depend on themselves, and `left` stands first: behind `clk` and `ready`.
+#[test]
+fn a_loop_is_named_by_its_first_signal(rt: HostRuntime) -> Result<(), Fail> {
+    let net = net_of(rt.alloc(), looped())?;
+    let opened = holds_at_start(rt.alloc(), net.modules.as_slice(), Case::End);
+    let is_named = matches!(
+        opened,
+        Err(OpenError::Loop {
+            module: 0,
+            signal: 2
+        })
+    );
+    assert!(rt; is_named);
     Ok(())
 }
 
@@ -141,6 +183,10 @@ const RUNS: [Row; 4] = [
     (20, 2, true, "3,0;3,1;"),
 ];
 
+fn runs() -> &'static [Row] {
+    &RUNS
+}
+
 fn is_run(alloc: Global, modules: &[Module], row: &Row) -> Result<bool, OpenError>
     requires { IsOpenable modules.now }
 {
@@ -151,7 +197,7 @@ fn is_run(alloc: Global, modules: &[Module], row: &Row) -> Result<bool, OpenErro
 #[test]
 fn a_run_tells_its_cycles(rt: HostRuntime) -> Result<(), Fail> {
     let net = net_of(rt.alloc(), counter())?;
-    for row in &RUNS {
+    for row in runs() {
         let is_run = is_run(rt.alloc(), net.modules.as_slice(), row)?;
         if !is_run {
             rt.panic(row.0);
