@@ -62,11 +62,17 @@ fn are_rows(stages: &[Stage], rows: &[Row]) -> bool {
     stages.len() == rows.len()
 }
 
+/// Whether just these rows are left of a code.
+fn are_left(alloc: Global, before: &[Row], after: &[Row]) -> Result<bool, AllocError> {
+    let code = drop_empty(alloc, code(alloc, before)?)?;
+    Ok(are_rows(code.stages.as_slice(), after))
+}
+
 #[test]
 fn drops_empty_stages(rt: HostRuntime) -> Result<(), Fail> {
     for (before, after) in &ROWS {
-        let code = drop_empty(rt.alloc(), code(rt.alloc(), before)?)?;
-        if !are_rows(code.stages.as_slice(), after) {
+        let are_left = are_left(rt.alloc(), before, after)?;
+        if !are_left {
             rt.panic(before.len());
         }
     }

@@ -9,36 +9,6 @@ use std::alloc::{AllocError, Global};
 use std::process::Abort;
 use std::test::Fail;
 
-fn planned(alloc: Global, list: &[Small], last: u32) -> Result<Planned, AllocError> {
-    let code = code(alloc, list, Some(last))?;
-    plan(alloc, &code)
-}
-
-fn show_stage(out: &mut String, stage: &StagePlan) -> Result<(), AllocError> {
-    match stage {
-        StagePlan::Act => out.push_str("an act, "),
-        StagePlan::Run(run) => write!(
-            out,
-            "{:?} to {}, units {:?}, registers {:?}, ",
-            run.starts.as_slice(),
-            run.states,
-            run.units.as_slice(),
-            run.registers.as_slice()
-        ),
-    }
-}
-
-/// What a test says of the plan of a block: the starts and the states, the units, the registers and how many there are.
-fn shown(alloc: Global, list: &[Small], last: u32) -> Result<String, AllocError> {
-    let planned = planned(alloc, list, last)?;
-    let mut out = String::new(alloc);
-    for stage in planned.stages.as_slice() {
-        show_stage(&mut out, stage)?;
-    }
-    write!(out, "{} in all", planned.registers)?;
-    Ok(out)
-}
-
 /// `x = a + b + c + d;`: of the three sums the last one waits a state.
 const SUMS: [Small; 3] = [
     Binary(Add, Local, Local),
@@ -63,41 +33,96 @@ const WRITTEN: [Small; 3] = [
     WriteGlobal(0, Value(1)),
 ];
 
-/// Blocks, the operation whose value variable 0 has in the end, and what is said of their plans.
-const PLANS: [(&[Small], u32, &str); 5] = [
-    (
-        &SUMS,
-        2,
-        "[0, 0, 1] to 2, units [0, 0, 0], registers [None, Some(0), None], an act, 1 in all",
-    ),
-    (
-        &QUOTIENT,
-        2,
-        "[0, 1, 3] to 11, units [0, 0, 0], registers [Some(0), Some(0), None], an act, 1 in all",
-    ),
-    (
-        &PRODUCTS,
-        3,
-        "[0, 0, 2, 3] to 5, units [0, 1, 0, 0], registers [Some(0), Some(1), Some(0), None], an act, 2 in all",
-    ),
-    (
-        &READ,
-        0,
-        "[0] to 2, units [0], registers [None], an act, 0 in all",
-    ),
-    (
-        &WRITTEN,
-        1,
-        "[0, 2, 3] to 4, units [0, 0, 0], registers [Some(0), Some(0), None], an act, 1 in all",
-    ),
+/// The C text of a block, its operations, the one whose value variable 0 has in the end, and its plan.
+struct Case {
+    text: &'static str,
+    operations: &'static [Small],
+    last: u32,
+    starts: &'static [u64],
+    states: u64,
+    units: &'static [u32],
+    registers: &'static [Option<u32>],
+    register_count: u32,
+}
+
+const CASES: [Case; 5] = [
+    Case {
+        text: "x = a + b + c + d;",
+        operations: &SUMS,
+        last: 2,
+        starts: &[0, 0, 1],
+        states: 2,
+        units: &[0, 0, 0],
+        registers: &[None, Some(0), None],
+        register_count: 1,
+    },
+    Case {
+        text: "x = (a + b) * c / d;",
+        operations: &QUOTIENT,
+        last: 2,
+        starts: &[0, 1, 3],
+        states: 11,
+        units: &[0, 0, 0],
+        registers: &[Some(0), Some(0), None],
+        register_count: 1,
+    },
+    Case {
+        text: "x = (a * b + c * d) * e;",
+        operations: &PRODUCTS,
+        last: 3,
+        starts: &[0, 0, 2, 3],
+        states: 5,
+        units: &[0, 1, 0, 0],
+        registers: &[Some(0), Some(1), Some(0), None],
+        register_count: 2,
+    },
+    Case {
+        text: "x = g;",
+        operations: &READ,
+        last: 0,
+        starts: &[0],
+        states: 2,
+        units: &[0],
+        registers: &[None],
+        register_count: 0,
+    },
+    Case {
+        text: "x = g + 1; g = x;",
+        operations: &WRITTEN,
+        last: 1,
+        starts: &[0, 2, 3],
+        states: 4,
+        units: &[0, 0, 0],
+        registers: &[Some(0), Some(0), None],
+        register_count: 1,
+    },
 ];
+
+fn planned(alloc: Global, case: &Case) -> Result<Planned, AllocError> {
+    let code = code(alloc, case.operations, Some(case.last))?;
+    plan(alloc, &code)
+}
+
+/// Whether it is the plan of the block and of the return behind it.
+fn is_planned(planned: &Planned, case: &Case) -> bool {
+    match planned.stages.as_slice() {
+        [StagePlan::Run(run), end] if matches!(end, StagePlan::Act) => {
+            run.starts.as_slice() == case.starts
+                && run.states == case.states
+                && run.units.as_slice() == case.units
+                && run.registers.as_slice() == case.registers
+                && planned.registers == case.register_count
+        }
+        _ => false,
+    }
+}
 
 #[test]
 fn plans(rt: HostRuntime) -> Result<(), Fail> {
-    for (list, last, expected) in &PLANS {
-        let out = shown(rt.alloc(), list, *last)?;
-        if out.as_str() != *expected {
-            rt.panic(*expected);
+    for case in &CASES {
+        let planned = planned(rt.alloc(), case)?;
+        if !is_planned(&planned, case) {
+            rt.panic(case.text);
         }
     }
     Ok(())

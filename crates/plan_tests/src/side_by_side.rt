@@ -44,10 +44,15 @@ fn starts(planned: &Planned) -> &[u64] {
     }
 }
 
-/// Whether a code alone has the same plan.
-fn is_planned(alloc: Global, code: &ThreadCode, planned: &Planned) -> Result<bool, AllocError> {
-    let alone = plan(alloc, code)?;
-    Ok(starts(planned) == starts(&alone) && planned.registers == alone.registers)
+/// Whether each code has the plan that it has alone.
+fn are_alone(alloc: Global, codes: &[ThreadCode], plans: &[Planned]) -> Result<bool, AllocError> {
+    for (code, planned) in codes.iter().zip(plans) {
+        let alone = plan(alloc, code)?;
+        if starts(planned) != starts(&alone) || planned.registers != alone.registers {
+            return Ok(false);
+        }
+    }
+    Ok(plans.len() == codes.len())
 }
 
 #[test]
@@ -55,14 +60,9 @@ fn plans_each_code(rt: HostRuntime) -> Result<(), Fail> {
     let codes = codes(rt.alloc())?;
     for jobs in [0, 1, 2, 3, 16] {
         let plans = plan_all(&rt, rt.alloc(), codes.as_slice(), jobs)?;
-        if plans.len() != codes.len() {
+        let are_alone = are_alone(rt.alloc(), codes.as_slice(), plans.as_slice())?;
+        if !are_alone {
             rt.panic(jobs);
-        }
-        for (code, planned) in codes.as_slice().iter().zip(plans.as_slice()) {
-            let is_planned = is_planned(rt.alloc(), code, planned)?;
-            if !is_planned {
-                rt.panic(jobs);
-            }
         }
     }
     Ok(())

@@ -17,7 +17,6 @@ pub enum Place {
 
 /// An operation: an operator, or an access of a scalar global or of the first element of a local array of four, which
 /// becomes 1.
-#[derive(Clone, Copy)]
 pub enum Small {
     Binary(BinaryOperator, Place, Place),
     ReadGlobal(u32),
@@ -46,33 +45,33 @@ fn operand(alloc: Global, place: Place) -> Operand {
     }
 }
 
-fn operation(alloc: Global, small: Small) -> Operation {
+fn operation(alloc: Global, small: &Small) -> Operation {
     let index = operand(alloc, Place::Constant(0));
     match small {
         Small::Binary(operator, left, right) => Operation::Binary {
-            operator,
+            operator: *operator,
             ty: CType::INT,
-            left: operand(alloc, left),
-            right: operand(alloc, right),
+            left: operand(alloc, *left),
+            right: operand(alloc, *right),
         },
         Small::ReadGlobal(global) => Operation::ReadGlobal {
-            global,
+            global: *global,
             length: 1,
             index,
         },
         Small::WriteGlobal(global, place) => Operation::WriteGlobal {
-            global,
+            global: *global,
             length: 1,
             index,
-            value: operand(alloc, place),
+            value: operand(alloc, *place),
         },
         Small::ReadArray(array) => Operation::ReadArray {
-            array,
+            array: *array,
             length: 4,
             index,
         },
         Small::WriteArray(array) => Operation::WriteArray {
-            array,
+            array: *array,
             length: 4,
             index,
             value: operand(alloc, Place::Constant(1)),
@@ -83,7 +82,7 @@ fn operation(alloc: Global, small: Small) -> Operation {
 pub fn operations(alloc: Global, list: &[Small]) -> Result<Items<Operation>, AllocError> {
     let mut operations = Items::new(alloc);
     for small in list {
-        operations.push(operation(alloc, *small))?;
+        operations.push(operation(alloc, small))?;
     }
     Ok(operations)
 }

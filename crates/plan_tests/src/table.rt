@@ -10,18 +10,6 @@ use std::alloc::{AllocError, Global};
 use std::process::Abort;
 use std::test::Fail;
 
-fn table(alloc: Global, list: &[Small]) -> Result<Vec<Constraint>, AllocError> {
-    let operations = operations(alloc, list)?;
-    let graph = nodes(alloc, operations.as_slice())?;
-    constraints(alloc, graph.as_slice())
-}
-
-fn reduced(alloc: Global, list: &[Small]) -> Result<Vec<Constraint>, AllocError> {
-    let operations = operations(alloc, list)?;
-    let graph = nodes(alloc, operations.as_slice())?;
-    reduced_constraints(alloc, graph.as_slice())
-}
-
 /// `a + b + c + d`: of three sums two may be handed on in one state.
 const SUMS: [Small; 3] = [
     Binary(Add, Local, Local),
@@ -51,9 +39,13 @@ const GLOBALS: [Small; 4] = [
 /// A constraint as where it is from, where it leads, and its gap.
 type Row = (usize, usize, i64);
 
-const TABLES: [(&[Small], &[Row]); 4] = [
+/// A block, whether its list is the reduced one or the table, and the rows of that.
+type Case = (&'static [Small], bool, &'static [Row]);
+
+const CASES: [Case; 6] = [
     (
         &SUMS,
+        false,
         &[
             (0, 1, 0),
             (1, 2, 0),
@@ -63,9 +55,10 @@ const TABLES: [(&[Small], &[Row]); 4] = [
             (2, 3, 1),
         ],
     ),
-    (&PRODUCTS, &[(0, 1, 2), (0, 2, 2), (1, 2, 8)]),
+    (&PRODUCTS, false, &[(0, 1, 2), (0, 2, 2), (1, 2, 8)]),
     (
         &ACCESSES,
+        false,
         &[
             (0, 2, 1),
             (1, 2, 1),
@@ -78,6 +71,7 @@ const TABLES: [(&[Small], &[Row]); 4] = [
     ),
     (
         &GLOBALS,
+        false,
         &[
             (0, 1, 2),
             (0, 2, 2),
@@ -88,11 +82,9 @@ const TABLES: [(&[Small], &[Row]); 4] = [
             (3, 4, 2),
         ],
     ),
-];
-
-const REDUCED: [(&[Small], &[Row]); 2] = [
     (
         &ACCESSES,
+        true,
         &[
             (2, 3, 1),
             (1, 2, 1),
@@ -105,6 +97,7 @@ const REDUCED: [(&[Small], &[Row]); 2] = [
     ),
     (
         &GLOBALS,
+        true,
         &[
             (0, 1, 2),
             (1, 2, 1),
@@ -115,6 +108,16 @@ const REDUCED: [(&[Small], &[Row]); 2] = [
         ],
     ),
 ];
+
+fn listed(alloc: Global, list: &[Small], is_reduced: bool) -> Result<Vec<Constraint>, AllocError> {
+    let operations = operations(alloc, list)?;
+    let graph = nodes(alloc, operations.as_slice())?;
+    if is_reduced {
+        reduced_constraints(alloc, graph.as_slice())
+    } else {
+        constraints(alloc, graph.as_slice())
+    }
+}
 
 fn are_rows(list: &[Constraint], rows: &[Row]) -> bool {
     for (constraint, (from, to, gap)) in list.iter().zip(rows) {
@@ -127,20 +130,9 @@ fn are_rows(list: &[Constraint], rows: &[Row]) -> bool {
 
 #[test]
 fn tables(rt: HostRuntime) -> Result<(), Fail> {
-    for (list, rows) in &TABLES {
-        let table = table(rt.alloc(), list)?;
-        if !are_rows(table.as_slice(), rows) {
-            rt.panic(rows.len());
-        }
-    }
-    Ok(())
-}
-
-#[test]
-fn reduced_tables(rt: HostRuntime) -> Result<(), Fail> {
-    for (list, rows) in &REDUCED {
-        let reduced = reduced(rt.alloc(), list)?;
-        if !are_rows(reduced.as_slice(), rows) {
+    for (list, is_reduced, rows) in &CASES {
+        let listed = listed(rt.alloc(), list, *is_reduced)?;
+        if !are_rows(listed.as_slice(), rows) {
             rt.panic(rows.len());
         }
     }

@@ -4,7 +4,7 @@ use Rattle.op_graph.specs.Graph.{nodes_of}
 use Rattle.least_plan.specs.Planned.{AreLeastStarts}
 use Rattle.least_plan.specs.Steps.{AreSoon}
 use Rattle.plan_tests.proofs.Sizes.{length_nodes, fits}
-use Rattle.plan_tests.proofs.bindings.bind.Goals as goal
+use Rattle.plan_tests.proofs.bindings.is_bound.Goals as goal
 
 pub least_starts-requires-clause-earlier : goal.least_starts-requires-clause-earlier
 least_starts-requires-clause-earlier c = rw c.as_slice-2.ensures.value c.in_ok-graph.ensures.earlier
