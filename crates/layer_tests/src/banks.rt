@@ -21,30 +21,47 @@ fn banks_of_x(alloc: Global) -> Result<Banks, Fail>
     Ok(banks)
 }
 
+/// Whether there is one global, of six elements, the last of which is the second word of the second bank; the third bank
+/// has one word.
+fn has_last_element(banks: &Banks) -> bool
+    requires { AreBanks banks.now.spreads.items (shapes banks.now) }
+{
+    let Some(spread) = banks.spreads.get(0) else {
+        return false;
+    };
+    let place = Place {
+        bank: 1,
+        address: 1,
+    };
+    let last = Element {
+        global: 0,
+        index: 5,
+    };
+    banks.spreads.len() == 1
+        && spread.length == 6
+        && banks.place(0, 5) == place
+        && banks.element(1, 1) == Some(last)
+        && banks.element(2, 1).is_none()
+}
+
 /// Whether it is a bank of x with -12 alone.
 fn has_last(bank: &Bank) -> bool {
     bank.name.as_str() == "x" && bank.initial.as_slice() == [4294967284].as_slice()
 }
 
+/// Whether there are four banks, of which the third has -12 alone.
+fn are_four(banks: &[Bank]) -> bool {
+    match banks.get(2) {
+        Some(third) => banks.len() == 4 && has_last(third),
+        None => false,
+    }
+}
+
 #[test]
 fn six_elements_in_four_banks(rt: HostRuntime) -> Result<(), Fail> {
-    let banks = banks_of_x(rt.alloc())?;
     assert!(rt; bank_count(5, 6) == 4);
-    assert!(rt; banks.banks.len() == 4);
-    assert!(rt; banks.spreads.len() == 1);
-    let spread = banks.spreads[0];
-    assert!(rt; spread.length == 6);
-    let place = Place {
-        bank: 1,
-        address: 1,
-    };
-    assert!(rt; banks.place(0, 5) == place);
-    let fifth = Element {
-        global: 0,
-        index: 5,
-    };
-    assert!(rt; banks.element(1, 1) == Some(fifth));
-    assert!(rt; banks.element(2, 1).is_none());
-    assert!(rt; matches!(banks.banks.get(2), Some(bank) if has_last(bank)));
+    let banks = banks_of_x(rt.alloc())?;
+    assert!(rt; are_four(banks.banks.as_slice()));
+    assert!(rt; has_last_element(&banks));
     Ok(())
 }

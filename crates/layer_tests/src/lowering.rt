@@ -10,7 +10,131 @@ use hls_ints::CType;
 use ir_lower::functions::lower;
 use sqlite_items::Items;
 use std::alloc::{AllocError, Global};
+use std::process::Abort;
 use std::test::Fail;
+
+/// Where a stage leads, the second label of a branch too, and its steps. An act has 0, and a return leads to 0.
+pub(crate) type Shape = [usize; 3];
+
+/// A thread function of a text, and its code.
+struct Lowered {
+    text: &'static str,
+    /// How many thread functions the text has.
+    functions: usize,
+    /// The number of this one; main is 0.
+    number: usize,
+    /// The widths of the variables, which are signed: each scalar local, and behind them the words that hold the values of a
+    /// printf, the value of a call, or the operands of a pthread call, as many as any function needs.
+    widths: &'static [u32],
+    shapes: &'static [Shape],
+}
+
+/// A thread that main creates and joins.
+const CREATING: &str =
+    "pthread_t t; void *w(void *arg){return NULL;} int main(void){pthread_create(&t, NULL, w, NULL); pthread_join(t, NULL); return 0;}";
+
+const LOWERED: [Lowered; 5] = [
+    // the declarator, both assignments and the values of the printf are one block
+    Lowered {
+        text: "int main(void){int x; x = 6; x = x * 7; printf(\"%d\", x); return 0;}",
+        functions: 1,
+        number: 0,
+        widths: &[32, 64],
+        shapes: &[[1, 1, 4], [2, 2, 0], [0, 0, 0]],
+    },
+    // the blocks of the declarator and the first assignment, of the head, of the if, of the printf with its act, and of the
+    // last part
+    Lowered {
+        text: "int main(void){int x; for (x = 1; x < 4; x = x + 1){if (x < 3) continue; printf(\"%d\", x);}}",
+        functions: 1,
+        number: 0,
+        widths: &[32, 64],
+        shapes: &[
+            [1, 1, 2],
+            [2, 6, 1],
+            [5, 3, 1],
+            [4, 4, 1],
+            [5, 5, 0],
+            [1, 1, 1],
+            [0, 0, 0],
+        ],
+    },
+    // the steps that pass the argument and return are in one block; the next stores the value
+    Lowered {
+        text: "int f(int x){return x * 7;} int main(void){int x; x = f(6); return 0;}",
+        functions: 1,
+        number: 0,
+        widths: &[32, 32, 64],
+        shapes: &[[1, 1, 3], [2, 2, 1], [0, 0, 0]],
+    },
+    // the step that evaluates the operands of each call, and its act
+    Lowered {
+        text: CREATING,
+        functions: 2,
+        number: 0,
+        widths: &[64, 64],
+        shapes: &[[1, 1, 1], [2, 2, 0], [3, 3, 1], [4, 4, 0], [0, 0, 0]],
+    },
+    // the start routine returns at once, and has its argument in its only local
+    Lowered {
+        text: CREATING,
+        functions: 2,
+        number: 1,
+        widths: &[64, 64, 64],
+        shapes: &[[0, 0, 0]],
+    },
+];
+
+fn rows() -> &'static [Lowered] {
+    &LOWERED
+}
+
+fn shape(stage: &Stage) -> Shape {
+    match stage {
+        Stage::Run(block) => match &block.next {
+            Next::Jump(to) => [*to, *to, block.steps as usize],
+            Next::Branch {
+                test: _,
+                nonzero,
+                zero,
+            } => [*nonzero, *zero, block.steps as usize],
+        },
+        Stage::Act { act, next } => match act {
+            Act::Return => [0, 0, 0],
+            _ => [*next, *next, 0],
+        },
+    }
+}
+
+fn has_shapes(stages: &[Stage], wanted: &[Shape]) -> bool {
+    for index in 0..stages.len() {
+        match wanted.get(index) {
+            Some(wanted) if shape(&stages[index]).as_slice() == wanted.as_slice() => {}
+            _ => return false,
+        }
+    }
+    stages.len() == wanted.len()
+}
+
+fn has_widths(types: &[CType], wanted: &[u32]) -> bool {
+    for index in 0..types.len() {
+        let ty = types[index];
+        match wanted.get(index) {
+            Some(width) if ty.bits() == *width && ty.is_signed() => {}
+            _ => return false,
+        }
+    }
+    types.len() == wanted.len()
+}
+
+/// Whether the code of that number has these variables and stages. That of main has no argument, and that of each other
+/// thread function has it in the first variable.
+pub(crate) fn is_code(code: &ThreadCode, number: usize, widths: &[u32], shapes: &[Shape]) -> bool {
+    let argument = if number == 0 { None } else { Some(0) };
+    code.argument == argument
+        && has_widths(code.variables.as_slice(), widths)
+        && has_shapes(code.stages.as_slice(), shapes)
+}
 
 /// The program of a text.
 fn resolved(alloc: Global, text: &[u8]) -> Result<Accepted, ProfileError>
@@ -27,80 +151,23 @@ fn codes_of(alloc: Global, text: &[u8]) -> Result<Items<ThreadCode>, Fail> {
     Ok(codes)
 }
 
-/// Where a stage leads, the second label of a branch too, and its steps.
-fn shape(stage: &Stage) -> (usize, usize, u32) {
-    match stage {
-        Stage::Run(block) => match &block.next {
-            Next::Jump(to) => (*to, *to, block.steps),
-            Next::Branch {
-                test: _,
-                nonzero,
-                zero,
-            } => (*nonzero, *zero, block.steps),
-        },
-        Stage::Act { act, next } => match act {
-            Act::Return => (0, 0, 0),
-            _ => (*next, *next, 0),
-        },
-    }
+fn is_lowered(alloc: Global, row: &Lowered) -> Result<bool, Fail> {
+    let codes = codes_of(alloc, row.text.as_bytes())?;
+    Ok(match codes.get(row.number) {
+        Some(code) => {
+            codes.len() == row.functions && is_code(code, row.number, row.widths, row.shapes)
+        }
+        None => false,
+    })
 }
 
-fn has_shapes(code: &ThreadCode, wanted: &[(usize, usize, u32)]) -> bool {
-    let stages = code.stages.as_slice();
-    for (stage, wanted) in stages.iter().zip(wanted) {
-        if shape(stage) != *wanted {
-            return false;
+#[test]
+fn lowers_each_text(rt: HostRuntime) -> Result<(), Fail> {
+    for row in rows() {
+        if !is_lowered(rt.alloc(), row)? {
+            rt.panic(row.text);
         }
     }
-    stages.len() == wanted.len()
-}
-
-/// Whether the code of that number has stages of these shapes.
-fn are_shapes(codes: &Items<ThreadCode>, number: usize, wanted: &[(usize, usize, u32)]) -> bool {
-    match codes.get(number) {
-        Some(code) => has_shapes(code, wanted),
-        None => false,
-    }
-}
-
-/// Whether the code of main has these variables.
-fn has_variables(codes: &Items<ThreadCode>, wanted: &[CType]) -> bool {
-    match codes.get(0) {
-        Some(code) => code.variables.as_slice() == wanted,
-        None => false,
-    }
-}
-
-/// Whether the code of that number has its argument in this variable.
-fn has_argument(codes: &Items<ThreadCode>, number: usize, wanted: Option<u32>) -> bool {
-    match codes.get(number) {
-        Some(code) => code.argument == wanted,
-        None => false,
-    }
-}
-
-fn straight() -> &'static str {
-    "int main(void){int x; x = 6; x = x * 7; printf(\"%d\", x); return 0;}"
-}
-
-fn looping() -> &'static str {
-    "int main(void){int x; for (x = 1; x < 4; x = x + 1){if (x < 3) continue; printf(\"%d\", x);}}"
-}
-
-fn calling() -> &'static str {
-    "int f(int x){return x * 7;} int main(void){int x; x = f(6); return 0;}"
-}
-
-fn creating() -> &'static str {
-    "pthread_t t; void *w(void *arg){return NULL;} int main(void){pthread_create(&t, NULL, w, NULL); pthread_join(t, NULL); return 0;}"
-}
-
-/// The declarator, both assignments and the values of the printf are one block.
-#[test]
-fn lowers_straight_code(rt: HostRuntime) -> Result<(), Fail> {
-    let codes = codes_of(rt.alloc(), straight().as_bytes())?;
-    assert!(rt; codes.len() == 1);
-    assert!(rt; are_shapes(&codes, 0, &[(1, 1, 4), (2, 2, 0), (0, 0, 0)]));
     Ok(())
 }
 
@@ -114,53 +181,19 @@ fn long(alloc: Global, count: u32) -> Result<Vec<u8>, AllocError> {
     Ok(text)
 }
 
-/// A long body is one block and a return, and no stack is exhausted.
+/// Whether a long body is one block and a return.
+fn is_one_block(alloc: Global) -> Result<bool, Fail> {
+    let text = long(alloc, 4000)?;
+    let codes = codes_of(alloc, text.as_slice())?;
+    Ok(match codes.get(0) {
+        Some(code) => is_code(code, 0, &[32], &[[1, 1, 4001], [0, 0, 0]]),
+        None => false,
+    })
+}
+
+/// No stack is exhausted.
 #[test]
 fn lowers_a_long_body(rt: HostRuntime) -> Result<(), Fail> {
-    let text = long(rt.alloc(), 4000)?;
-    let codes = codes_of(rt.alloc(), text.as_slice())?;
-    assert!(rt; are_shapes(&codes, 0, &[(1, 1, 4001), (0, 0, 0)]));
-    Ok(())
-}
-
-/// The blocks of the declarator and the first assignment, of the head, of the if, of the printf with its act, and of the last
-/// part.
-const LOOP: [(usize, usize, u32); 7] = [
-    (1, 1, 2),
-    (2, 6, 1),
-    (5, 3, 1),
-    (4, 4, 1),
-    (5, 5, 0),
-    (1, 1, 1),
-    (0, 0, 0),
-];
-
-#[test]
-fn lowers_a_loop(rt: HostRuntime) -> Result<(), Fail> {
-    let codes = codes_of(rt.alloc(), looping().as_bytes())?;
-    assert!(rt; are_shapes(&codes, 0, &LOOP));
-    Ok(())
-}
-
-/// The steps that pass the argument and return are in one block; the next stores the value.
-#[test]
-fn lowers_a_call(rt: HostRuntime) -> Result<(), Fail> {
-    let codes = codes_of(rt.alloc(), calling().as_bytes())?;
-    assert!(rt; are_shapes(&codes, 0, &[(1, 1, 3), (2, 2, 1), (0, 0, 0)]));
-    assert!(rt; has_variables(&codes, &[CType::INT, CType::INT, CType::LONG]));
-    Ok(())
-}
-
-/// A thread that main creates and joins: the step that evaluates the operands of each call, and its act. The start routine
-/// returns at once, and has its argument in its only local.
-#[test]
-fn lowers_a_start_routine(rt: HostRuntime) -> Result<(), Fail> {
-    let codes = codes_of(rt.alloc(), creating().as_bytes())?;
-    assert!(rt; codes.len() == 2);
-    let wanted = [(1, 1, 1), (2, 2, 0), (3, 3, 1), (4, 4, 0), (0, 0, 0)];
-    assert!(rt; are_shapes(&codes, 0, &wanted));
-    assert!(rt; are_shapes(&codes, 1, &[(0, 0, 0)]));
-    assert!(rt; has_argument(&codes, 0, None));
-    assert!(rt; has_argument(&codes, 1, Some(0)));
+    assert!(rt; is_one_block(rt.alloc())?);
     Ok(())
 }

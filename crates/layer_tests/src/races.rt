@@ -4,34 +4,13 @@ use c_interpreter::step::step;
 use c_profile::accept;
 use c_program::tree::Program;
 use c_state::state::{State, start};
-use race_check::access::Access;
 use race_check::footprint::footprint;
-use race_check::race::{Race, races};
+use race_check::race::races;
 use sqlite_items::Items;
 use std::alloc::{AllocError, Global};
 use std::process::Abort;
 use std::test::Fail;
 use turns::{Turn, turns};
-
-/// The state after these turns.
-fn after<'p>(alloc: Global, program: &'p Program, turns: &[Turn]) -> Result<State<'p>, AllocError> {
-    let mut state = start(alloc, program)?;
-    for turn in turns {
-        for _ in 0..turn.steps {
-            step(alloc, program, &mut state, turn.thread)?;
-        }
-    }
-    Ok(state)
-}
-
-/// The turns of a list, which may be empty.
-fn listed(alloc: Global, list: &str) -> Result<Option<Items<Turn>>, AllocError> {
-    if list.is_empty() {
-        Ok(Some(Items::new(alloc)))
-    } else {
-        turns(alloc, list)
-    }
-}
 
 /// Two threads add to one global, without a mutex.
 const ADDING: &str =
@@ -49,112 +28,101 @@ const CROSSING: &str =
     "pthread_t t[2]; int g[4]; int h; void *w(void *arg){h = g[3] + g[1]; return NULL;} int main(void){pthread_create(&t[0], NULL, w, NULL); \
     pthread_create(&t[1], NULL, w, NULL); g[3] = 5; return 0;}";
 
-/// A text, its turns, and the first race of the next steps, if there is one: its threads, and the global and the index that both touch.
-const RACES: [(&str, &str, &str); 7] = [
-    (ADDING, "", ""),
-    (ADDING, "0*11,1*3", ""),
-    (ADDING, "0*11,1*3,2*3", "1 and 2 at 0[0]"),
+/// A text, its turns, a thread, and what the next step of the thread touches: for each read and write the global and the index.
+/// Where there is no thread, it is the first race of all next steps, if there is one: its threads, and the global and the index
+/// that both touch.
+type Row = (&'static str, &'static str, &'static [usize], &'static str);
+
+const ROWS: [Row; 17] = [
+    (ADDING, "", &[], ""),
+    (ADDING, "0*11,1*3", &[], ""),
+    (ADDING, "0*11,1*3,2*3", &[], "1 and 2 at 0[0]"),
     // a thread that waits at the barrier races with none, though its next statement writes what main's does
-    (WAITING, "0*4,1*2", ""),
-    (WAITING, "0*4,1*2,0*3", "0 and 1 at 0[0]"),
+    (WAITING, "0*4,1*2", &[], ""),
+    (WAITING, "0*4,1*2,0*3", &[], "0 and 1 at 0[0]"),
     // main writes g[3], which both threads read; after it the threads write h
-    (CROSSING, "0*4", "0 and 1 at 0[3]"),
-    (CROSSING, "0*5", "1 and 2 at 1[0]"),
-];
-
-fn race_rows() -> &'static [(&'static str, &'static str, &'static str)] {
-    &RACES
-}
-
-fn first_race(
-    alloc: Global,
-    program: &Program,
-    turns: &[Turn],
-) -> Result<Option<Race>, AllocError> {
-    let state = after(alloc, program, turns)?;
-    races(alloc, program, &state)
-}
-
-fn shown_race(alloc: Global, race: &Race) -> Result<String, AllocError> {
-    let at = race.location;
-    format!(in alloc;
-        "{} and {} at {}[{}]",
-        race.first, race.second, at.global, at.index
-    )
-}
-
-fn has_race(alloc: Global, text: &str, list: &str, expected: &str) -> Result<bool, Fail> {
-    let accepted = accept(alloc, text.as_bytes())?;
-    let Some(turns) = listed(alloc, list)? else {
-        return Ok(false);
-    };
-    match first_race(alloc, &accepted.program, turns.as_slice())? {
-        Some(race) => Ok(shown_race(alloc, &race)?.as_str() == expected),
-        None => Ok(expected.is_empty()),
-    }
-}
-
-#[test]
-fn tells_the_first_race(rt: HostRuntime) -> Result<(), Fail> {
-    for (text, list, expected) in race_rows() {
-        if !has_race(rt.alloc(), text, list, expected)? {
-            rt.panic(*text);
-        }
-    }
-    Ok(())
-}
-
-/// A text, its turns, a thread, and what its next step touches: for each read and write the global and the index.
-const TOUCHES: [(&str, &str, usize, &str); 10] = [
-    (ADDING, "0*11,1*3", 1, "r0[0] w0[0] "),
+    (CROSSING, "0*4", &[], "0 and 1 at 0[3]"),
+    (CROSSING, "0*5", &[], "1 and 2 at 1[0]"),
+    (ADDING, "0*11,1*3", &[1], "r0[0] w0[0] "),
     // the right side, then the index, which reads k and an element itself
     (
         "int g[4]; int k; int main(void){k = 2; g[g[k]] = g[k] + 1; return 0;}",
         "0",
-        0,
+        &[0],
         "r1[0] r0[2] r1[0] r0[2] w0[0] ",
     ),
     // the right side, the index, the old value
     (
         "int g[4]; int k; int main(void){k = 2; g[k] += k; return 0;}",
         "0",
-        0,
+        &[0],
         "r1[0] r1[0] r0[2] w0[2] ",
     ),
-    ("int x; int main(void){return x;}", "", 0, "r0[0] "),
+    ("int x; int main(void){return x;}", "", &[0], "r0[0] "),
     // the arguments of printf, and then its act
     (
         "int x; int main(void){printf(\"%d\\n\", x); return 0;}",
         "",
-        0,
+        &[0],
         "r0[0] ",
     ),
     (
         "int x; int main(void){printf(\"%d\\n\", x); return 0;}",
         "0",
-        0,
+        &[0],
         "",
     ),
     // an undefined step: a divisor of 0, and a return of main while a thread lives
-    ("int x; int main(void){x = 1 / x; return 0;}", "", 0, ""),
+    ("int x; int main(void){x = 1 / x; return 0;}", "", &[0], ""),
     (
         "pthread_t t; int x; void *w(void *arg){return NULL;} int main(void){pthread_create(&t, NULL, w, NULL); return x;}",
         "0*2",
-        0,
+        &[0],
         "",
     ),
     // a waiter at a barrier, and no thread at all
-    (WAITING, "0*4,1*2", 1, ""),
-    (WAITING, "", 7, ""),
+    (WAITING, "0*4,1*2", &[1], ""),
+    (WAITING, "", &[7], ""),
 ];
 
-fn touch_rows() -> &'static [(&'static str, &'static str, usize, &'static str)] {
-    &TOUCHES
+fn rows() -> &'static [Row] {
+    &ROWS
 }
 
-fn shown_accesses(alloc: Global, accesses: &[Access]) -> Result<String, AllocError> {
+/// The turns of a list, which may be empty.
+fn listed(alloc: Global, list: &str) -> Result<Option<Items<Turn>>, AllocError> {
+    if list.is_empty() {
+        Ok(Some(Items::new(alloc)))
+    } else {
+        turns(alloc, list)
+    }
+}
+
+/// Takes the steps of these turns.
+fn take<'p>(
+    alloc: Global,
+    program: &'p Program,
+    state: &mut State<'p>,
+    turns: &[Turn],
+) -> Result<(), AllocError> {
+    for turn in turns {
+        for _ in 0..turn.steps {
+            step(alloc, program, state, turn.thread)?;
+        }
+    }
+    Ok(())
+}
+
+/// What the next step of a thread touches.
+fn shown_accesses<'p>(
+    alloc: Global,
+    program: &'p Program,
+    state: &State<'p>,
+    thread: usize,
+) -> Result<String, AllocError> {
+    let accesses = footprint(alloc, program, state, thread)?;
     let mut out = String::new(alloc);
-    for access in accesses {
+    for access in accesses.as_slice() {
         let kind = if access.written { "w" } else { "r" };
         let at = access.location;
         write!(out, "{kind}{}[{}] ", at.global, at.index)?;
@@ -162,37 +130,51 @@ fn shown_accesses(alloc: Global, accesses: &[Access]) -> Result<String, AllocErr
     Ok(out)
 }
 
-fn touched(
+/// The first race of the next steps; empty where there is none.
+fn shown_race<'p>(
+    alloc: Global,
+    program: &'p Program,
+    state: &State<'p>,
+) -> Result<String, AllocError> {
+    let Some(race) = races(alloc, program, state)? else {
+        return Ok(String::new(alloc));
+    };
+    let at = race.location;
+    format!(in alloc;
+        "{} and {} at {}[{}]",
+        race.first, race.second, at.global, at.index
+    )
+}
+
+/// What a row asks for, of the state after these turns.
+fn shown(
     alloc: Global,
     program: &Program,
     turns: &[Turn],
-    thread: usize,
+    thread: &[usize],
 ) -> Result<String, AllocError> {
-    let state = after(alloc, program, turns)?;
-    let accesses = footprint(alloc, program, &state, thread)?;
-    shown_accesses(alloc, accesses.as_slice())
+    let mut state = start(alloc, program)?;
+    take(alloc, program, &mut state, turns)?;
+    match thread.first() {
+        Some(thread) => shown_accesses(alloc, program, &state, *thread),
+        None => shown_race(alloc, program, &state),
+    }
 }
 
-fn touches(
-    alloc: Global,
-    text: &str,
-    list: &str,
-    thread: usize,
-    expected: &str,
-) -> Result<bool, Fail> {
-    let accepted = accept(alloc, text.as_bytes())?;
-    let Some(turns) = listed(alloc, list)? else {
+fn is_shown(alloc: Global, row: &Row) -> Result<bool, Fail> {
+    let accepted = accept(alloc, row.0.as_bytes())?;
+    let Some(turns) = listed(alloc, row.1)? else {
         return Ok(false);
     };
-    let touched = touched(alloc, &accepted.program, turns.as_slice(), thread)?;
-    Ok(touched.as_str() == expected)
+    let shown = shown(alloc, &accepted.program, turns.as_slice(), row.2)?;
+    Ok(shown.as_str() == row.3)
 }
 
 #[test]
-fn tells_what_a_step_touches(rt: HostRuntime) -> Result<(), Fail> {
-    for (text, list, thread, expected) in touch_rows() {
-        if !touches(rt.alloc(), text, list, *thread, expected)? {
-            rt.panic(*text);
+fn tells_what_is_touched_and_the_first_race(rt: HostRuntime) -> Result<(), Fail> {
+    for row in rows() {
+        if !is_shown(rt.alloc(), row)? {
+            rt.panic(row.0);
         }
     }
     Ok(())

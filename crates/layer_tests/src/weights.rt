@@ -1,4 +1,4 @@
-// A text with a call and a thread, whose weights are known, and the bounds of two texts.
+// Texts whose weights are known, and the type of an operator.
 use c_limits::bound;
 use c_profile::accept;
 use c_program::threads::{thread_count, thread_functions, weight};
@@ -10,10 +10,57 @@ use std::alloc::{AllocError, Global};
 use std::process::Abort;
 use std::test::Fail;
 
-/// f weighs 1, and 1 each for its return and its operator; w 1, and 1 for its return; main 1, and 1 each for the declarator, the argument,
-/// the create and its index, and what f weighs. Each has a parameter or a local, and main also that of f.
-fn counted() -> &'static str {
-    "pthread_t t[3]; int f(int x){return x < 1;} void *w(void *arg){return NULL;} int main(void){int x = f(x); pthread_create(&t[0], NULL, w, NULL);}"
+/// A text and what is counted of its program.
+struct Counted {
+    text: &'static str,
+    /// Of each function the weight, with what it calls.
+    weights: &'static [u32],
+    /// Of each function the elements of its locals, with those of what it calls.
+    locals: &'static [u32],
+    /// Main and the start routines, in the order of their definitions behind main.
+    routines: &'static [usize],
+    /// The sum of the weights of these.
+    weight: u32,
+    /// Main and the elements of the thread objects.
+    threads: u128,
+    /// 64 times the weight and 1.
+    bound: u32,
+}
+
+const COUNTED: [Counted; 3] = [
+    // f weighs 1, and 1 each for its return and its operator; w 1, and 1 for its return; main 1, and 1 each for the declarator,
+    // the argument, the create and its index, and what f weighs; each has a parameter or a local, and main also that of f
+    Counted {
+        text: "pthread_t t[3]; int f(int x){return x < 1;} void *w(void *arg){return NULL;} int main(void){int x = f(x); pthread_create(&t[0], NULL, w, NULL);}",
+        weights: &[3, 2, 8],
+        locals: &[1, 1, 2],
+        routines: &[2, 1],
+        weight: 10,
+        threads: 4,
+        bound: 704,
+    },
+    Counted {
+        text: "int main(void){int x = 6; x = x * 7; printf(\"%d\\n\", x); return 0;}",
+        weights: &[6],
+        locals: &[1],
+        routines: &[0],
+        weight: 6,
+        threads: 1,
+        bound: 448,
+    },
+    Counted {
+        text: "int main(void){int i; for (i = 1; i < 4; i++) printf(\"%d\\n\", i); return 0;}",
+        weights: &[9],
+        locals: &[1],
+        routines: &[0],
+        weight: 9,
+        threads: 1,
+        bound: 640,
+    },
+];
+
+fn rows() -> &'static [Counted] {
+    &COUNTED
 }
 
 fn has_amounts(
@@ -31,63 +78,46 @@ fn has_routines(alloc: Global, program: &Program, wanted: &[usize]) -> Result<bo
     Ok(functions.as_slice() == wanted)
 }
 
-/// The weight of the program is that of main and of w.
+fn has_counts(alloc: Global, program: &Program, wanted: &Counted) -> Result<bool, AllocError> {
+    Ok(
+        thread_count(program) == wanted.threads
+            && weight(alloc, program)? == wanted.weight
+            && bound(alloc, program)? == wanted.bound
+            && has_amounts(alloc, program, Amount::Weight, wanted.weights)?
+            && has_amounts(alloc, program, Amount::LocalElements, wanted.locals)?
+            && has_routines(alloc, program, wanted.routines)?,
+    )
+}
+
+fn is_counted(alloc: Global, row: &Counted) -> Result<bool, Fail> {
+    let accepted = accept(alloc, row.text.as_bytes())?;
+    let has_counts = has_counts(alloc, &accepted.program, row)?;
+    Ok(has_counts)
+}
+
 #[test]
-fn counts_a_call(rt: HostRuntime) -> Result<(), Fail> {
-    let accepted = accept(rt.alloc(), counted().as_bytes())?;
-    let program = &accepted.program;
-    assert!(rt; has_amounts(rt.alloc(), program, Amount::Weight, &[3, 2, 8])?);
-    assert!(rt; has_amounts(rt.alloc(), program, Amount::LocalElements, &[1, 1, 2])?);
-    assert!(rt; has_routines(rt.alloc(), program, &[2, 1])?);
-    assert!(rt; weight(rt.alloc(), program)? == 10);
-    assert!(rt; thread_count(program) == 4);
+fn counts_each_text(rt: HostRuntime) -> Result<(), Fail> {
+    for row in rows() {
+        if !is_counted(rt.alloc(), row)? {
+            rt.panic(row.text);
+        }
+    }
     Ok(())
 }
 
-/// `x < 1`, of an int x.
-fn comparison(alloc: Global) -> Result<Expression, AllocError> {
+/// The type of `x < 1`, of an int x.
+fn type_of_comparison(alloc: Global) -> Result<CType, AllocError> {
     let x = Box::new(
         alloc,
         Expression::Variable(Storage::Automatic, 0, CType::INT),
     )?;
     let one = Box::new(alloc, Expression::Constant(CType::INT, 1))?;
-    Ok(Expression::Binary(BinaryOperator::Less, CType::INT, x, one))
+    let below = Expression::Binary(BinaryOperator::Less, CType::INT, x, one);
+    Ok(expression_type(&below))
 }
 
 #[test]
 fn has_the_type_of_an_operator(rt: HostRuntime) -> Result<(), Fail> {
-    let below = comparison(rt.alloc())?;
-    assert!(rt; expression_type(&below) == CType::INT);
-    Ok(())
-}
-
-/// A text, and 64 times its weight and 1: the weights are 6 and 9.
-const BOUNDS: [(&str, u32); 2] = [
-    (
-        "int main(void){int x = 6; x = x * 7; printf(\"%d\\n\", x); return 0;}",
-        448,
-    ),
-    (
-        "int main(void){int i; for (i = 1; i < 4; i++) printf(\"%d\\n\", i); return 0;}",
-        640,
-    ),
-];
-
-fn bound_rows() -> &'static [(&'static str, u32)] {
-    &BOUNDS
-}
-
-fn bound_of(alloc: Global, text: &str) -> Result<u32, Fail> {
-    let accepted = accept(alloc, text.as_bytes())?;
-    Ok(bound(alloc, &accepted.program)?)
-}
-
-#[test]
-fn bounds_the_cycles_of_a_program(rt: HostRuntime) -> Result<(), Fail> {
-    for (text, expected) in bound_rows() {
-        if bound_of(rt.alloc(), text)? != *expected {
-            rt.panic(*text);
-        }
-    }
+    assert!(rt; type_of_comparison(rt.alloc())? == CType::INT);
     Ok(())
 }

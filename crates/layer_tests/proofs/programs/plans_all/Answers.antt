@@ -1,6 +1,6 @@
 use Rattle.c_program.specs.Plain.{program_of}
 use Rattle.accepted_program.proofs.Laws.{resolved_law}
-use Rattle.layer_tests.proofs.programs.plans_of.Goals as goal
+use Rattle.layer_tests.proofs.programs.plans_all.Goals as goal
 
 pub plan_functions-requires-clause-resolved : goal.plan_functions-requires-clause-resolved
 plan_functions-requires-clause-resolved g c κs within =
