@@ -22,9 +22,13 @@ fn finds(alloc: Global, net: &Net, expected: Finding) -> bool {
     }
 }
 
-/// Whether the check finds this in the tree of a text.
-fn finds_in_text(alloc: Global, text: &str, expected: Finding) -> Result<bool, Fault> {
-    let net = parsed(alloc, text)?;
+/// Whether the check finds this in the tree of the text that these parts make.
+fn finds_in_text(alloc: Global, parts: &[&str], expected: Finding) -> Result<bool, Fault> {
+    let mut text = String::new(alloc);
+    for part in parts {
+        text.push_str(part)?;
+    }
+    let net = parsed(alloc, text.as_str())?;
     Ok(finds(alloc, &net, expected))
 }
 
@@ -39,20 +43,19 @@ fn top() -> &'static str {
 /// A net is well formed, but not with two modules of one name.
 #[test]
 fn nets(rt: HostRuntime) -> Result<(), Fail> {
-    for (last, expected) in [("", None), (counter(), in_module(2, ModulePart::Head))] {
-        let text = format!(in rt.alloc(); "{}{}{last}", counter(), top())?;
-        let is_found = finds_in_text(rt.alloc(), text.as_str(), expected)?;
-        assert!(rt; is_found);
-    }
+    let twice = [counter(), top(), counter()];
+    let holds = finds_in_text(rt.alloc(), &[counter(), top()], None)?
+        && finds_in_text(rt.alloc(), &twice, in_module(2, ModulePart::Head))?;
+    assert!(rt; holds);
     Ok(())
 }
 
 const PORTS: &str = "input wire clk, input wire en, output wire done";
 
-/// The eight items of the counter.
+/// The eight items of the counter, and a space.
 fn items() -> &'static str {
     "reg [1:0] q_0; wire [1:0] n_1; wire [1:0] c_2; assign n_1 = q_0 + c_2; assign c_2 = 2'd1; assign done = q_0[1]; \
-    initial begin q_0 = 2'd0; end always @(posedge clk) begin q_0 <= n_1; end"
+    initial begin q_0 = 2'd0; end always @(posedge clk) begin q_0 <= n_1; end "
 }
 
 const NINTH: ModulePart = ModulePart::Item(8);
@@ -118,9 +121,15 @@ fn changes() -> &'static [(&'static str, &'static str, &'static str, ModulePart)
 #[test]
 fn broken_rules(rt: HostRuntime) -> Result<(), Fail> {
     for (rule, ports, item, part) in changes() {
-        let text = format!(in rt.alloc(); "module counter({ports}); {} {item} endmodule", items())?;
-        let is_found = finds_in_text(rt.alloc(), text.as_str(), in_module(0, *part))?;
-        if !is_found {
+        let parts = [
+            "module counter(",
+            *ports,
+            "); ",
+            items(),
+            *item,
+            " endmodule",
+        ];
+        if !finds_in_text(rt.alloc(), &parts, in_module(0, *part))? {
             rt.panic(*rule);
         }
     }

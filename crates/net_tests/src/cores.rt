@@ -7,7 +7,7 @@ use bank_cores::name::GlobalName;
 use barrier_cores::barrier;
 use fork_join_cores::forks;
 use mutex_cores::mutex;
-use netlist::netlist::{Action, Effect, Memory, Module};
+use netlist::netlist::{Action, Effect, Memory, Module, Signal};
 use print_core::format::Part;
 use print_core::printer;
 use sqlite_items::Items;
@@ -15,33 +15,8 @@ use std::alloc::{AllocError, Global};
 use std::process::Abort;
 use std::test::Fail;
 
-fn is_arbiter(module: &Module) -> bool {
-    let signals = module.signals.as_slice();
-    module.name.as_str() == "arbiter"
-        && name_at(signals, 0) == "clk"
-        && name_at(signals, 3) == "ask_3"
-        && matches!(signals.last(), Some(grant) if grant.is_output)
-}
-
-fn makes_an_arbiter(alloc: Global) -> Result<bool, AllocError> {
-    let module = arbiter::module(alloc, 2)?;
-    Ok(is_arbiter(&module))
-}
-
-fn has_words(memory: &Memory) -> bool {
-    memory.name.as_str() == "bank_x_1" && memory.initial.as_slice() == [0, 7].as_slice()
-}
-
-fn is_bank(module: &Module) -> bool {
-    let signals = module.signals.as_slice();
-    module.name.as_str() == "bank_x_1"
-        && matches!(module.memories.get(0), Some(memory) if has_words(memory))
-        && name_at(signals, signals.len().saturating_sub(1)) == "told_33"
-        && module.actions.len() == 3
-}
-
-/// Two words, of which the second begins as 7.
-fn makes_a_bank(alloc: Global) -> Result<bool, AllocError> {
+/// A bank of two words, of which the second begins as 7.
+fn two_words(alloc: Global) -> Result<Module, AllocError> {
     let shape = bank::Shape {
         threads: 2,
         name: GlobalName::from_text(alloc, "x")?,
@@ -50,21 +25,11 @@ fn makes_a_bank(alloc: Global) -> Result<bool, AllocError> {
         width: 32,
         initial: Items::from_slice(alloc, &[0, 7])?,
     };
-    let module = bank::module(alloc, &shape)?;
-    Ok(is_bank(&module))
+    bank::module(alloc, &shape)
 }
 
-fn is_written(action: &Action) -> bool {
-    match &action.effect {
-        Effect::Write { text, arguments } => {
-            text.as_str() == "%0d\\t100%%\\n" && arguments.len() == 1
-        }
-        _ => false,
-    }
-}
-
-/// One site, of a signed number and a text.
-fn makes_a_printer(alloc: Global) -> Result<bool, AllocError> {
+/// A printer of one site, which has a signed number and a text.
+fn one_site(alloc: Global) -> Result<Module, AllocError> {
     let mut parts = Items::new(alloc);
     parts.push(Part::Signed)?;
     parts.push(Part::Text(Items::from_slice(alloc, b"\t100%\n")?))?;
@@ -75,34 +40,14 @@ fn makes_a_printer(alloc: Global) -> Result<bool, AllocError> {
         values: 1,
         sites,
     };
-    let module = printer::module(alloc, &shape)?;
-    Ok(matches!(module.actions.get(0), Some(action) if is_written(action)))
+    printer::module(alloc, &shape)
 }
 
 /// A mutex that is free at the start.
-fn makes_a_mutex(alloc: Global) -> Result<bool, AllocError> {
-    let shape = mutex::Shape {
-        threads: 2,
-        initialised: true,
-    };
-    let module = mutex::module(alloc, &shape)?;
-    Ok(module.name.as_str() == "mutex_1" && module.signals.len() == 33 && module.actions.len() == 1)
-}
-
-fn makes_a_barrier(alloc: Global) -> Result<bool, AllocError> {
-    let module = barrier::module(alloc, &barrier::Shape { threads: 2 })?;
-    Ok(module.name.as_str() == "barrier" && module.actions.len() == 3)
-}
-
-/// The thread ids of three threads.
-fn makes_forks(alloc: Global) -> Result<bool, AllocError> {
-    let module = forks::module(alloc, &forks::Shape { threads: 3 })?;
-    Ok(
-        module.name.as_str() == "forkjoin"
-            && module.memories.len() == 2
-            && module.actions.len() == 2,
-    )
-}
+const FREE: mutex::Shape = mutex::Shape {
+    threads: 2,
+    initialised: true,
+};
 
 #[derive(Clone, Copy)]
 enum Core {
@@ -114,30 +59,88 @@ enum Core {
     Forks,
 }
 
-fn is_made(alloc: Global, core: Core) -> Result<bool, AllocError> {
+/// The module of a core for two threads; the printer is for one, and the thread ids are those of three.
+fn made(alloc: Global, core: Core) -> Result<Module, AllocError> {
     match core {
-        Core::Arbiter => makes_an_arbiter(alloc),
-        Core::Bank => makes_a_bank(alloc),
-        Core::Printer => makes_a_printer(alloc),
-        Core::Mutex => makes_a_mutex(alloc),
-        Core::Barrier => makes_a_barrier(alloc),
-        Core::Forks => makes_forks(alloc),
+        Core::Arbiter => arbiter::module(alloc, 2),
+        Core::Bank => two_words(alloc),
+        Core::Printer => one_site(alloc),
+        Core::Mutex => mutex::module(alloc, &FREE),
+        Core::Barrier => barrier::module(alloc, &barrier::Shape { threads: 2 }),
+        Core::Forks => forks::module(alloc, &forks::Shape { threads: 3 }),
     }
+}
+
+fn ends_with_an_output(signals: &[Signal]) -> bool {
+    matches!(signals.last(), Some(last) if last.is_output)
+}
+
+/// Whether the first memory is that of the bank.
+fn has_words(memories: &[Memory]) -> bool {
+    match memories {
+        [words, ..] => {
+            words.name.as_str() == "bank_x_1" && words.initial.as_slice() == [0, 7].as_slice()
+        }
+        [] => false,
+    }
+}
+
+/// Whether the first action writes the site: its percent sign doubled, its tab and newline as escapes.
+fn is_written(actions: &[Action]) -> bool {
+    match actions {
+        [
+            Action {
+                effect: Effect::Write { text, arguments },
+                ..
+            },
+            ..
+        ] => text.as_str() == "%0d\\t100%%\\n" && arguments.len() == 1,
+        _ => false,
+    }
+}
+
+/// Whether the module has the ports, the words and the actions of the core.
+fn has_parts(core: Core, module: &Module) -> bool {
+    let signals = &module.signals;
+    let actions = module.actions.len();
+    match core {
+        Core::Arbiter => {
+            name_at(signals, 0) == "clk"
+                && name_at(signals, 3) == "ask_3"
+                && ends_with_an_output(signals.as_slice())
+        }
+        Core::Bank => {
+            has_words(module.memories.as_slice())
+                && name_at(signals, signals.len().saturating_sub(1)) == "told_33"
+                && actions == 3
+        }
+        Core::Printer => is_written(module.actions.as_slice()),
+        Core::Mutex => signals.len() == 33 && actions == 1,
+        Core::Barrier => actions == 3,
+        Core::Forks => module.memories.len() == 2 && actions == 2,
+    }
+}
+
+/// The cores and the names of their modules.
+const CORES: [(&str, Core); 6] = [
+    ("arbiter", Core::Arbiter),
+    ("bank_x_1", Core::Bank),
+    ("printer", Core::Printer),
+    ("mutex_1", Core::Mutex),
+    ("barrier", Core::Barrier),
+    ("forkjoin", Core::Forks),
+];
+
+fn named_cores() -> &'static [(&'static str, Core)] {
+    &CORES
 }
 
 #[test]
 fn cores(rt: HostRuntime) -> Result<(), Fail> {
-    for (name, core) in [
-        ("the arbiter of two threads", Core::Arbiter),
-        ("the bank of two words", Core::Bank),
-        ("the printer of one site", Core::Printer),
-        ("the mutex of two threads", Core::Mutex),
-        ("the barrier of two threads", Core::Barrier),
-        ("the ids of three threads", Core::Forks),
-    ] {
-        let is_made = is_made(rt.alloc(), core)?;
-        if !is_made {
-            rt.panic(name);
+    for (name, core) in named_cores() {
+        let module = made(rt.alloc(), *core)?;
+        if module.name.as_str() != *name || !has_parts(*core, &module) {
+            rt.panic(*name);
         }
     }
     Ok(())

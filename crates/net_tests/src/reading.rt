@@ -29,8 +29,9 @@ fn is_as_marked(alloc: Global, text: &str) -> Result<bool, AllocError> {
     })
 }
 
-/// Texts at which no sentence goes on, or whose bytes make no token.
-const SENTENCES: [&str; 17] = [
+/// Nets, and texts that are none.
+const TEXTS: [&str; 68] = [
+    // Texts at which no sentence goes on, or whose bytes make no token.
     "^",
     "  // nothing\n ^",
     "module top(^); endmodule",
@@ -49,14 +50,7 @@ const SENTENCES: [&str; 17] = [
     "module top(input wire clk, output wire done); always @(posedge ^done) begin end endmodule",
     "module top(input wire clk, output wire done); reg q; initial begin q = 1'd0; \
         end always @(posedge clk) begin if (q) begin if (q) begin q <= q; $write(\"%0d\\n\", q, $signed(q^; end end end assign done = q; endmodule",
-];
-
-fn sentence_texts() -> &'static [&'static str] {
-    &SENTENCES
-}
-
-/// Nets, and nets of which one part breaks a rule.
-const RULES: [&str; 40] = [
+    // Nets, and nets of which one part breaks a rule.
     "module top(input wire clk, input wire en, output wire done); reg [1:0] q_0; wire [1:0] n_1; wire [1:0] c_2; assign c_2 = 2'd1; \
         assign n_1 = q_0 + c_2; assign done = q_0[1]; initial begin q_0 = 2'd0; end always @(posedge clk) begin q_0 <= n_1; end endmodule",
     "module top(input wire clk, output wire done); wire a_0; assign a_0 = ~a_0; assign done = a_0 == a_0; endmodule",
@@ -105,14 +99,7 @@ const RULES: [&str; 40] = [
     "module top(input wire clk, ^output wire done); reg [0:0] m [0:3]; wire [1:0] a; endmodule",
     "module top(input wire clk, input wire en, ^input wire en, output wire done); assign done = 1'd1; endmodule",
     "module top(input wire clk, ^input wire [64:0] en, output wire done); assign done = 1'd1; endmodule",
-];
-
-fn rule_texts() -> &'static [&'static str] {
-    &RULES
-}
-
-/// Nets, and nets whose `top` is none that is run.
-const TOPS: [&str; 11] = [
+    // Nets, and nets whose `top` is none that is run.
     "module ^top(output wire done); assign done = 1'd1; endmodule",
     "module ^top(input wire clk); endmodule",
     "module tip(input wire clk, output wire done); assign done = 1'd1; endmodule^",
@@ -126,17 +113,15 @@ const TOPS: [&str; 11] = [
     "module top(input wire clk, ^output wire [1:0] done); assign done = 2'd1; endmodule",
 ];
 
-fn top_texts() -> &'static [&'static str] {
-    &TOPS
+fn texts() -> &'static [&'static str] {
+    &TEXTS
 }
 
 #[test]
 fn texts_are_as_marked(rt: HostRuntime) -> Result<(), Fail> {
-    for texts in [sentence_texts(), rule_texts(), top_texts()] {
-        for text in texts {
-            if !is_as_marked(rt.alloc(), text)? {
-                rt.panic(*text);
-            }
+    for text in texts() {
+        if !is_as_marked(rt.alloc(), text)? {
+            rt.panic(*text);
         }
     }
     Ok(())

@@ -4,6 +4,7 @@ use grammar::Fault;
 use net_netlist::netlist;
 use netlist::netlist::Signal;
 use netlist_text::text_of;
+use sqlite_items::Items;
 use std::alloc::Global;
 use verilog_expressions::cursor::Cursor;
 use verilog_lexer::tokens::lex;
@@ -44,7 +45,7 @@ pub fn laid(alloc: Global, text: &str) -> Result<Net, Fault> {
 }
 
 /// The name of the signal at a place, or nothing.
-pub fn name_at(signals: &[Signal], place: usize) -> &str {
+pub fn name_at(signals: &Items<Signal>, place: usize) -> &str {
     match signals.get(place) {
         Some(signal) => signal.name.as_str(),
         None => "",

@@ -10,7 +10,7 @@ use verilog_writer::write;
 fn is_counter(modules: &[Module]) -> bool {
     match modules {
         [laid] => {
-            laid.name.as_str() == "counter" && (laid.ports.len(), laid.items.len()) == (3, 8)
+            laid.name.as_str() == "counter" && laid.ports.len() == 3 && laid.items.len() == 8
         }
         _ => false,
     }

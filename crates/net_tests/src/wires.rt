@@ -6,6 +6,7 @@ use netlist::netlist::{Signal, Source, Value};
 use operator_wires::operators::{binary_type, unary_type};
 use operator_wires::wires::{Role, Wires};
 use operator_wires::words::Word;
+use sqlite_items::Items;
 use std::alloc::AllocError;
 use std::test::Fail;
 use verilog_tree::tree::BinaryOperator as Gate;
@@ -19,14 +20,26 @@ fn compare(wires: &mut Wires) -> Result<Word, AllocError> {
     wires.binary_word(BinaryOperator::Less, CType::INT, minus, seven)
 }
 
+fn has_outputs(signals: &[Signal]) -> bool {
+    for signal in signals {
+        if signal.is_output {
+            return true;
+        }
+    }
+    false
+}
+
 /// Whether the comparison is of the type int, and has no output among its wires.
 fn compares(wires: &mut Wires) -> Result<bool, AllocError> {
     let clock = wires.input(Role::Clock, 1)?;
     let less = compare(wires)?;
-    let signals = wires.signals.as_slice();
-    let has_outputs = signals.iter().any(|signal| signal.is_output);
-    let is_named = name_at(signals, 1) == "variable_1";
-    Ok(clock == 0 && less.width == 32 && less.signed && is_named && !has_outputs)
+    Ok(
+        clock == 0
+            && less.width == 32
+            && less.signed
+            && name_at(&wires.signals, 1) == "variable_1"
+            && !has_outputs(wires.signals.as_slice()),
+    )
 }
 
 #[test]
@@ -54,34 +67,38 @@ fn choose(wires: &mut Wires) -> Result<usize, AllocError> {
     wires.choice(1, is_two, enable, turned)
 }
 
-/// A bit tested, and its double and a constant copied out: the copy, the constant, what is tested, and the output of it.
-fn copy_out(wires: &mut Wires, bit: usize) -> Result<[usize; 4], AllocError> {
-    let wide = wires.resized(bit, 1, 8, false)?;
+/// The truth of eight bits, as a long, compared with zero.
+fn zero_test(wires: &mut Wires, wide: usize) -> Result<usize, AllocError> {
     let word = wires.truth(wide)?;
     let long = wires.converted(word, CType::LONG)?;
-    let is_zero = wires.is_zero(long)?;
+    wires.is_zero(long)
+}
+
+/// Whether a copy of the double of eight bits is signal 18, and the constant behind it signal 19.
+fn copies_out(wires: &mut Wires, wide: usize) -> Result<bool, AllocError> {
     let sum = wires.binary(8, Gate::Add, wide, wide)?;
     let copy = wires.wire(8, Value::Copy(sum))?;
     let ten = wires.constant(8, 10)?;
-    let done = wires.output(Role::Done, 1, is_zero)?;
-    Ok([copy, ten, is_zero, done])
+    Ok(copy == 18 && ten == 19)
 }
 
-/// Whether it is the output `done`, a copy of that signal.
-fn is_done(signal: &Signal, of: usize) -> bool {
-    match &signal.source {
-        Source::Assigned(Value::Copy(copied)) => {
-            signal.is_output && signal.name.as_str() == "done" && *copied == of
-        }
-        _ => false,
-    }
+/// Whether signal 20 is the output `done`, a copy of that signal.
+fn is_done(signals: &Items<Signal>, of: usize) -> bool {
+    matches!(
+        signals.get(20),
+        Some(Signal { name, is_output: true, source: Source::Assigned(Value::Copy(copied)), .. })
+            if name.as_str() == "done" && *copied == of
+    )
 }
 
+/// Whether a chosen bit is tested and doubled, and the test told by the output `done`, signal 20.
 fn has_gates(wires: &mut Wires) -> Result<bool, AllocError> {
     let bit = choose(wires)?;
-    let [copy, ten, is_zero, done] = copy_out(wires, bit)?;
-    let is_told = matches!(wires.signals.get(done), Some(signal) if is_done(signal, is_zero));
-    Ok(copy == 18 && ten == 19 && done == 20 && is_told)
+    let wide = wires.resized(bit, 1, 8, false)?;
+    let is_zero = zero_test(wires, wide)?;
+    let copies = copies_out(wires, wide)?;
+    let done = wires.output(Role::Done, 1, is_zero)?;
+    Ok(copies && done == 20 && is_done(&wires.signals, is_zero))
 }
 
 #[test]

@@ -7,7 +7,7 @@ use std::test::Fail;
 use top_wiring::{Group, Layout, wire};
 
 fn is_top(module: &Module) -> bool {
-    let signals = module.signals.as_slice();
+    let signals = &module.signals;
     module.name.as_str() == "top"
         && module.instances.len() == 1
         && name_at(signals, signals.len().saturating_sub(1)) == "done"
