@@ -1,14 +1,12 @@
 -- When a state is left, and what follows it then.
-use Rattle.std.specs.Prelude.{◌≡◌, ℕ, ◌+◌, ◌<◌, ◌%◌, ◌^◌, Bool, true, false, not, ◌&&◌, ◌||◌, if◌then◌else◌, List, length, Option, Some, None, slice_get, slice_index}
+use Rattle.std.specs.Prelude.{◌≡◌, ℕ, ◌+◌, ◌<◌, ◌%◌, ◌^◌, Bool, false, not, ◌&&◌, ◌||◌, if◌then◌else◌, List, length, Option, Some, None, slice_get, slice_index}
 use Rattle.hls_ints.specs.Residues.{bit_of}
-use Rattle.hls_ints.specs.Words.{word_and, word_complement}
 use Rattle.bank_partition.specs.declared.banks.Spread.{Spread}
 use Rattle.netlist.specs.declared.netlist.Signal.{Signal}
 use Rattle.netlist.specs.declared.netlist.Module.{Module}
 use Rattle.verilog_meaning.specs.Readings.{Reading, width}
 use Rattle.circuit.specs.Modules.{Obeys}
-use Rattle.operator_wires.specs.Gives.{Grows, Gives}
-use Rattle.operator_wires.specs.Added.{NotAdds, BothAdds}
+use Rattle.operator_wires.specs.Gives.{Grows}
 use Rattle.operator_wires.specs.Built.{Base, IsEarlier, Adds}
 use Rattle.planned_block.specs.Advance.{any_below}
 use Rattle.block_datapath.specs.declared.registers.Held.{Held}
@@ -16,8 +14,7 @@ use Rattle.block_datapath.specs.declared.registers.Registers.{Registers}
 use Rattle.thread_slots.specs.declared.chains.Chains.{Chains}
 use Rattle.thread_slots.specs.declared.inputs.Inputs.{Inputs}
 use Rattle.thread_states.specs.declared.control.Edge.{Edge}
-use Rattle.thread_states.specs.declared.control.Leaving.{Leaving}
-use Rattle.thread_slots.specs.Bits.{HasBit, HaveBits, NotOf, BothOf, MakesBits, MakesAny, is_in, AreBitsOf, AddsBits, AddsNots, AddsBoths, AddsAny}
+use Rattle.thread_slots.specs.Bits.{HasBit, HaveBits, MakesBits, is_in, AreBitsOf, AddsBits}
 
 -- ---- what a cycle does, of cores that are open to be asked (raised), and that grant (grants)
 
@@ -72,50 +69,6 @@ AddsMark old new mark gots stay out = (base : Base) → IsEarlier old base mark 
 
 abbrev pub AddsRemembered : List Signal → List Signal → List ℕ → List ℕ → ℕ → List ℕ → Type 0
 AddsRemembered old new granted gots stay outs = (base : Base) → AreBitsOf base old granted → AreBitsOf base old gots → IsEarlier old base stay 1 → AddsBits base old new outs
-
--- ---- what is left
-
--- a state is left, where cores grant: wires are added one behind the other
-pub record Leaves (old new : List Signal) (registers : Registers) (c : Chains) (enable : ℕ) (opens marks gots : List ℕ) (left : Leaving) : Type 0 where
-  -- the cores that do not grant, and those of them that are open
-  pub missing : List ℕ
-  pub with_missing : List Signal
-  pub misses : MakesBits old with_missing (length gots) missing (NotOf gots)
-  pub misses_wired : AddsNots old with_missing gots missing
-  pub lacks : List ℕ
-  pub with_lacks : List Signal
-  pub lacking : MakesBits with_missing with_lacks (length opens) lacks (BothOf opens missing)
-  pub lacking_wired : AddsBoths with_missing with_lacks opens missing lacks
-  -- whether the state waits, or one of them is left out
-  pub blocked : ℕ
-  pub with_blocked : List Signal
-  pub stuck : MakesAny with_lacks with_blocked c.waits lacks (λ k. true) (length lacks) blocked
-  pub stuck_wired : AddsAny with_lacks with_blocked c.waits lacks blocked
-  pub free : ℕ
-  pub with_free : List Signal
-  pub frees : Gives with_blocked with_free free 1 (λ m r. word_complement (width m blocked) (r.signal blocked))
-  pub frees_wired : NotAdds with_blocked with_free 1 blocked free
-  pub with_leave : List Signal
-  pub leaves : Gives with_free with_leave left.leave 1 (λ m r. word_and (width m enable) (r.signal enable) (r.signal free))
-  pub leaves_wired : BothAdds with_free with_leave enable free left.leave
-  -- the state that follows, the turned beat, and whether the state is left or a core grants
-  pub with_state : List Signal
-  pub follows : Follows with_leave with_state registers.state c.is_last left.state
-  pub follows_wired : (base : Base) → IsEarlier with_leave base registers.state.register registers.state.width → IsEarlier with_leave base c.is_last 1 →
-      Adds base with_leave with_state registers.state.width left.state
-  pub with_beat : List Signal
-  pub turns : Gives with_state with_beat left.beat 1 (λ m r. word_complement (width m registers.beat) (r.signal registers.beat))
-  pub turns_wired : NotAdds with_state with_beat 1 registers.beat left.beat
-  pub with_moved : List Signal
-  pub moves : MakesAny with_beat with_moved left.leave gots (λ k. true) (length gots) left.moved
-  pub moves_wired : AddsAny with_beat with_moved left.leave gots left.moved
-  -- what is remembered where the state stays
-  pub stay : ℕ
-  pub with_stay : List Signal
-  pub stays : Gives with_moved with_stay stay 1 (λ m r. word_complement (width m left.leave) (r.signal left.leave))
-  pub stays_wired : NotAdds with_moved with_stay 1 left.leave stay
-  pub remembers : Remembers with_stay new marks gots registers.spreads stay (length marks) left.granted
-  pub remembers_wired : AddsRemembered with_stay new marks gots stay left.granted
 
 -- ---- control
 

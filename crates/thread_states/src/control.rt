@@ -3,7 +3,7 @@
 ghost use Rattle.std.specs.Prelude.{length, IfOk};
 ghost use Rattle.operator_wires.specs.Built.{Base, IsEarlier, Adds};
 ghost use Rattle.thread_states.specs.Wired.{IsSteered, WiresControl};
-ghost use Rattle.thread_states.specs.Control.{Follows, Leaves, Controls, Remembers, RemembersOne, AddsRemembered, AddsMark};
+ghost use Rattle.thread_states.specs.Control.{Follows, Controls, Remembers, RemembersOne, AddsRemembered, AddsMark};
 
 use bank_partition::banks::Spread;
 use block_datapath::registers::Registers;
@@ -48,62 +48,26 @@ pub fn control(
 {
     let asks = both_with(wires, opens, inputs.enable)?;
     let got = both_each(wires, asks.as_slice(), inputs.grants.as_slice())?;
-    let enable = inputs.enable;
-    let wins = got.as_slice();
-    let leaving = leave(wires, registers, chains, enable, opens, granted, wins)?;
-    let Leaving {
-        leave,
-        state,
-        beat,
-        moved,
-        granted,
-    } = leaving;
-    Ok(Edge {
-        asks,
-        leave,
-        state,
-        beat,
-        moved,
-        granted,
-    })
-}
-
-/// What happens at an edge, besides what cores are asked.
-#[derive(Drop)]
-struct Leaving {
-    leave: usize,
-    state: usize,
-    beat: usize,
-    moved: usize,
-    granted: Items<usize>,
-}
-
-/// When the state is left, and what follows it then, by a bit of each core that is asked and grants.
-fn leave(
-    wires: &mut Wires,
-    registers: &Registers,
-    chains: &Chains,
-    enable: usize,
-    opens: &[usize],
-    granted: &[usize],
-    got: &[usize],
-) -> Result<Leaving, AllocError>
-    ensures { IfOk result (Leaves wires.old.signals wires.new.signals registers.now chains.now enable opens.now granted.now got.now) }
-{
     let blocked = {
-        let missing = not_each(wires, got)?;
+        let missing = not_each(wires, got.as_slice())?;
         let unmet = both_each(wires, opens, missing.as_slice())?;
         any_of(wires, chains.waits, unmet.as_slice())?
     };
     let free = wires.not(1, blocked)?;
-    let leave = wires.both(enable, free)?;
+    let leave = wires.both(inputs.enable, free)?;
     let state = next_state(wires, registers, chains.is_last)?;
     let beat = wires.not(1, registers.beat)?;
-    let moved = any_of(wires, leave, got)?;
+    let moved = any_of(wires, leave, got.as_slice())?;
     let stay = wires.not(1, leave)?;
-    let spreads = registers.spreads.as_slice();
-    let granted = remember(wires, granted, got, spreads, stay)?;
-    Ok(Leaving {
+    let granted = remember(
+        wires,
+        granted,
+        got.as_slice(),
+        registers.spreads.as_slice(),
+        stay,
+    )?;
+    Ok(Edge {
+        asks,
         leave,
         state,
         beat,
