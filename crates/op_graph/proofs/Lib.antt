@@ -2,4 +2,4 @@ mod Appending
 mod NodeList
 mod TableRows
 pub mod OneByOne
-mod Neighbours
+pub mod Neighbours

@@ -13,7 +13,7 @@ use Rattle.op_graph.specs.declared.node.Kind.{Kind}
 use Rattle.op_graph.specs.declared.node.Kind.TheVariants.{Simple, Multiply, Divide, Global, Array}
 use Rattle.op_graph.specs.declared.node.Node.{Node}
 use Rattle.op_graph.specs.Graph.{node, kind_at, is_simple, UseEarlier, latency_at}
-use Rattle.op_graph.specs.Table.{Row, Ends, Chained, ChainedTwice, Kept, Awaited, OneGlobal, OneArray, gap_after, MeetsTable, HasItsSolutions}
+use Rattle.op_graph.specs.Table.{Row, Ends, Chained, ChainedTwice, Kept, Awaited, OneGlobal, OneArray, gap_after, MeetsTable, AreRows, HasItsSolutions}
 use Rattle.op_graph.specs.Listed.{row, rows_below, rows_of_uses, operand_rows, use_rows, far_rows, all_uses, end_row, end_rows}
 use Rattle.op_graph.specs.Reduced.{last_below, first_from, accesses_global, writes_array, writes, global_at, write_at, after_access, global_rows, all_globals}
 use Rattle.op_graph.specs.Reduced.{after_write, array_rows, all_arrays, before_write, read_rows, rows_of_last, all_reads}
@@ -306,6 +306,9 @@ module _ (nodes : List Node) where
     reduced_meets c (OneGlobal x v w lt l p q g) = fits c (gap_after v) g (accesses_follow (suc c.to) x c.from c.to v w (omega arith) lt l p q)
     reduced_meets c (OneArray x v w lt l p q e g) = fits c 1 g (one_array v w x c.from c.to lt l p q e)
 
+  pub reduced_rows : (list : List Constraint) → list ≡ reduced → AreRows nodes list
+  reduced_rows list e = λ c h. reduced_sound c (subst (λ (l : List Constraint). Contains l c) e h)
+
   pub same_solutions : (list : List Constraint) → list ≡ reduced → HasItsSolutions nodes list
   same_solutions list e = λ t. (
     λ solves. reduced_meets t (subst (λ (l : List Constraint). IsSolution l t) e solves),
@@ -314,7 +317,7 @@ module _ (nodes : List Node) where
 
   -- ---- its places, and how long it is
 
-  row_within : UseEarlier nodes → (c : Constraint) → Row nodes c → IsWithin (length nodes + 1) c
+  pub row_within : UseEarlier nodes → (c : Constraint) → Row nodes c → IsWithin (length nodes + 1) c
   row_within earlier c (Ends l e g) = (omega arith, omega arith)
   row_within earlier c (Chained l u si sj g) = let h = earlier c.to c.from l u in (omega arith, omega arith)
   row_within earlier c (ChainedTwice j l u v sh sj st g) = let h = earlier c.to j l u in let k = earlier j c.from (omega arith) v in (omega arith, omega arith)

@@ -44,6 +44,10 @@ IsTable nodes list = ((c : Constraint) → Contains list c → Row nodes c) × (
 abbrev pub MeetsTable : List Node → (ℕ → ℕ) → Type 0
 MeetsTable nodes start = (c : Constraint) → Row nodes c → Meets start c
 
+-- the list has rows of the table alone
+abbrev pub AreRows : List Node → List Constraint → Type 0
+AreRows nodes list = (c : Constraint) → Contains list c → Row nodes c
+
 -- the list has the same solutions as the table
 abbrev pub HasItsSolutions : List Node → List Constraint → Type 0
 HasItsSolutions nodes list = (start : ℕ → ℕ) → (IsSolution list start → MeetsTable nodes start) × (MeetsTable nodes start → IsSolution list start)

@@ -3,7 +3,7 @@ ghost use Rattle.std.specs.Prelude.{◌≡◌, ◌+◌, ◌-◌, ◌*◌, ◌<�
 ghost use Rattle.std.specs.List.{All};
 ghost use Rattle.schedule_sdc.specs.Solution.{IsWithin};
 ghost use Rattle.op_graph.specs.Graph.{UseEarlier, kind_at};
-ghost use Rattle.op_graph.specs.Table.{HasItsSolutions};
+ghost use Rattle.op_graph.specs.Table.{AreRows, HasItsSolutions};
 ghost use Rattle.op_graph.specs.Reduced.{AreLast, AreFirst, global_at, write_at, after_write};
 ghost use Rattle.op_graph.specs.Reduced.{global_rows, all_globals, array_rows, all_arrays, read_rows, all_reads};
 
@@ -18,6 +18,7 @@ use std::collections::BTreeMap;
 /// For n operations it takes time in proportion to n log n. The only error is want of memory.
 pub fn reduced_constraints(alloc: Global, nodes: &[Node]) -> Result<Vec<Constraint>, AllocError>
     requires { UseEarlier nodes.now }
+    ensures rows { IfOk result (λ list. AreRows nodes.now list.items) }
     ensures same { IfOk result (λ list. HasItsSolutions nodes.now list.items) }
     ensures places { IfOk result (λ list. All (IsWithin (length nodes.now + 1)) list.items) }
     ensures few { IfOk result (λ list. length list.items ≤ 10 * length nodes.now) }

@@ -1,6 +1,9 @@
 use Rattle.std.proofs.Common.{rules}
-use Rattle.op_graph.proofs.Neighbours.{same_solutions, places_within, few_rows}
+use Rattle.op_graph.proofs.Neighbours.{reduced_rows, same_solutions, places_within, few_rows}
 use Rattle.op_graph.proofs.reduced.reduced_constraints.Goals as goal
+
+pub returns-clause-rows : goal.returns-clause-rows
+returns-clause-rows c = reduced_rows c.args.nodes.now c.put_ends.new.list.items (search (rules, c.in_ok-put_ends.ensures))
 
 pub returns-clause-same : goal.returns-clause-same
 returns-clause-same c = same_solutions c.args.nodes.now c.put_ends.new.list.items (search (rules, c.in_ok-put_ends.ensures))
