@@ -6,6 +6,7 @@ use Rattle.thread_semantics.specs.State.{started}
 use Rattle.race_model.specs.Source.{c_source}
 use Rattle.race_model.proofs.Moves.{started_is}
 use Rattle.race_model.proofs.Sound.{reachable_sound}
+use Rattle.planned_hardware.specs.Following.{no_spare}
 use Rattle.planned_hardware.proofs.Budget.{followers_are_lowered}
 use Rattle.block_refine.specs.Threads.{IsTyped}
 use Rattle.block_refine.specs.Routines.{blocks_of, plans_of, AtAct, CodeFollows, BlocksAreSteps}
@@ -18,5 +19,5 @@ code_follows P codes f function R found lowered planned variables arrays argumen
 
 pub blocks_are_steps : BlocksAreSteps
 blocks_are_steps P codes chain R ordered chains =
-    followers_are_lowered (c_source P) (IsTyped P) (AtAct P codes) (blocks_of codes) (plans_of codes) chain (weight P)
+    followers_are_lowered (c_source P) (IsTyped P) (AtAct P codes) (blocks_of codes) (plans_of codes) chain no_spare (weight P)
     (λ s at. record { globals = s.globals; lengths = (reachable_sound P R s at).shape.lengths; is = refl }) ordered chains

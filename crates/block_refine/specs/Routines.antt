@@ -14,7 +14,7 @@ use Rattle.interleaving.specs.Memory.{Memory}
 use Rattle.planned_block.specs.Block.{Block, IsOrdered}
 use Rattle.planned_block.specs.Plan.{Plan}
 use Rattle.planned_hardware.specs.Hardware.{IsLowered as IsLoweredCode}
-use Rattle.planned_hardware.specs.Following.{AtStage, FollowsOn, AreChains, code_of}
+use Rattle.planned_hardware.specs.Following.{AtStage, FollowsOn, AreChains, no_spare, code_of}
 use Rattle.race_model.specs.Source.{Local, running, c_source}
 use Rattle.code_following.specs.Following.{HasArguments, IsLowered}
 use Rattle.block_refine.specs.Threads.{block_at, plan_at, AtActOf, IsTyped}
@@ -78,5 +78,5 @@ CodeFollows =
 abbrev pub BlocksAreSteps : Type 0
 BlocksAreSteps =
     (P : Program) (codes : Codes) (chain : ℕ → ℕ → ℕ) → IsResolved P → ((f l : ℕ) → IsOrdered (blocks_of codes f l)) →
-    AreChains (blocks_of codes) (plans_of codes) chain (weight P) →
-    IsLoweredCode (c_source P) (code_of (blocks_of codes) (plans_of codes) chain) (Starts P codes) (bound P)
+    AreChains (blocks_of codes) (plans_of codes) chain no_spare (weight P) →
+    IsLoweredCode (c_source P) (code_of (blocks_of codes) (plans_of codes) chain no_spare) (Starts P codes) (bound P)

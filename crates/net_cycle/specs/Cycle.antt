@@ -53,6 +53,7 @@ module _ (P : Program) (K : Parts) where
     banks = known.banks;
     code = hardware_code K.codes chain;
     keeps = known.keeps;
+    spared = λ f l s lt. λ i. 0;
     around = around P K.codes (numbers_of K) K.threads;
     B = bound P;
     lowered = known.lowered;

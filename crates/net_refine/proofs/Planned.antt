@@ -37,6 +37,7 @@ module _ (P : Program) (codes : Codes) (N : Numbers) (T : ℕ) (spreads : List S
     banks = banks;
     code = hardware_code codes chain;
     keeps = keeps;
+    spared = λ f l s lt. λ i. 0;
     around = around P codes N T;
     B = bound P;
     lowered = blocks_are_steps P codes chain R ordered coded.chained.chains;

@@ -20,12 +20,13 @@ use Rattle.planned_block.proofs.Passing.{stays, goes_on, IsDone, leaves, stored_
 use Rattle.planned_block.proofs.BlockLaw.{at_start}
 use Rattle.planned_block.proofs.Running.{run_arrays}
 
-module _ (code : Code) where
+module _ (code : Code) (spared : (f l s : ℕ) → 0 < (code.plans f l).states → code.spare f l s ≡ 0) where
   -- a slot at the start of a block has no more left than the block has
   fresh_left : (q : Slot) → q.state ≡ 0 → changes_left code q ≤ changes_of code q.routine q.stage
   fresh_left q z =
       let c = count_le (is_open code q) (λ k. is_request (operation_at (block_of code q) k).kind) (size (block_of code q))
       (λ k lt t. (both_true (is_request (operation_at (block_of code q) k).kind) (not (was_granted (block_of code q) (plan_of code q) q k)) t).0) in
+      let same : code.spare q.routine q.stage q.state ≡ code.spare q.routine q.stage 0 = ap (code.spare q.routine q.stage) z in
       omega arith
 
   closes : (before now had has request : Bool) → has ≡ true → now ≡ true → (request && not (before || (now && (had || has)))) ≡ false
@@ -61,6 +62,8 @@ module _ (code : Code) where
   go_less : (q : Slot) (wire words registers : ℕ → ℤ) → suc q.state < (plan_of code q).states →
       changes_left code (gone_on (block_of code q) (plan_of code q) q wire words registers) < changes_left code q
   go_less q wire words registers within =
+      let a = spared q.routine q.stage q.state (omega arith) in
+      let b = spared q.routine q.stage (suc q.state) (omega arith) in
       let le = count_le (is_open code (gone_on (block_of code q) (plan_of code q) q wire words registers)) (is_open code q) (size (block_of code q))
       (λ k lt o. open_before (is_request (operation_at (block_of code q) k).kind) (was_granted (block_of code q) (plan_of code q) q k)
       (was_granted (block_of code q) (plan_of code q) (gone_on (block_of code q) (plan_of code q) q wire words registers) k)
@@ -121,7 +124,7 @@ module _ (M : PlannedThreads) where
           ends = f.ends;
           fits = f.fits;
         } in
-        let less = stay_less M.code M.bank q now es t s.some.0 s.some.1 s.some.2 in
+        let less = stay_less M.code M.spared M.bank q now es t s.some.0 s.some.1 s.some.2 in
         subst Result (sym s.slot) (inl (flown, omega arith))
 
     go : (t : Works M.bank b p q now es) (r : Slot) → AllGranted b p q t.grants → GoesOn b p q t.wire t.words r → Result r
@@ -134,7 +137,7 @@ module _ (M : PlannedThreads) where
           ends = f.ends;
           fits = f.fits;
         } in
-        let less = go_less M.code q t.wire t.words r.registers g.within in
+        let less = go_less M.code M.spared q t.wire t.words r.registers g.within in
         subst Result (sym g.slot) (inl (flown, omega arith))
 
     land : (t : Works M.bank b p q now es) (r : Slot) → AllGranted b p q t.grants → Leaves b p q t.wire r → Result r
@@ -161,7 +164,7 @@ module _ (M : PlannedThreads) where
 
         cost : (gs : List (Move ℤ M.Local)) → hs ≡ gs → changes_left M.code r < changes_left M.code q + M.B * length hs
         cost [] z =
-            let fresh = fresh_left M.code r e.state in
+            let fresh = fresh_left M.code M.spared r e.state in
             let fits = f.fits z in
             let to : changes_of M.code r.routine r.stage ≡ changes_of M.code q.routine (leads_to (operand_value q.variables f.values) b.next) =
             ap (λ z. changes_of M.code z r.stage) e.routine ∙ ap (changes_of M.code q.routine) d.stage in
@@ -169,7 +172,7 @@ module _ (M : PlannedThreads) where
             let none : M.B * length hs ≡ 0 = ap (λ l. M.B * length l) z ∙ (grind arith) in
             omega arith
         cost (h ∷ gs) z =
-            let fresh = fresh_left M.code r e.state in
+            let fresh = fresh_left M.code M.spared r e.state in
             let bound = M.lowered.bounded r.routine r.stage in
             let more = once (length hs) (subst (λ l. 0 < length l) (sym z) (omega arith)) in
             let within = t.inside in
@@ -181,13 +184,18 @@ module _ (M : PlannedThreads) where
   turns_inside : (q r : Slot) (m : Memory ℤ) (es : List (Access ℤ)) → Turns M.bank (block_of M.code q) (plan_of M.code q) q m es r → q.state < (plan_of M.code q).states
   turns_inside q r m es t = ⊎_elim (λ pass. pass.0.inside) (λ last. last.0.inside) t
 
-  -- who wakes takes no step
-  woke : (c : ℕ → M.Core) (s : M.State) (i : ℕ) (q r : Slot) (es : List (Access ℤ)) (hs : List (Move ℤ M.Local)) → es ≡ [] →
-      AtStart (P.local s i) r × (changes_left M.code r < changes_left M.code q) → length hs ≡ 0 → FliesOrLands P H c i (P.local s i) (P.memory s) hs es q r
-  woke c s i q r es [] e w n =
-      let less = w.1 in
-      inr (record { effect = λ l. ap (λ a. memory_after a (P.memory s) l) e; inside = λ l wr. subst (λ a. Writes l a) e wr; rests = inl w.0 }, omega arith)
-  woke c s i q r es (h ∷ hs) e w n = absurd (omega arith)
+  -- who wakes takes steps that access no global
+  woke : (c : ℕ → M.Core) (s : M.State) (i : ℕ) (q r : Slot) (es : List (Access ℤ)) (hs : List (Move ℤ M.Local)) (n : ℕ) → es ≡ [] →
+      (accesses_of hs ≡ []) × H.Rests c i (end_of (P.local s i) hs) r × (changes_left M.code r < changes_left M.code q + M.B * n) → length hs ≡ n →
+      FliesOrLands P H c i (P.local s i) (P.memory s) hs es q r
+  woke c s i q r es hs n e w long = inr (
+    record {
+      effect = λ l. ap (λ a. memory_after a (P.memory s) l) (e ∙ sym w.0);
+      inside = λ l wr. subst (λ a. Writes l a) (e ∙ sym w.0) wr;
+      rests = w.1;
+    },
+    subst (λ k. changes_left M.code r < changes_left M.code q + M.B * k) (sym long) w.2,
+  )
 
   pub blocks_planned : IsPlanned P H
   blocks_planned = record {
@@ -208,7 +216,7 @@ module _ (M : PlannedThreads) where
         rests)
         (λ k.
         let woken = M.fits.wakes c s i q r at rests k.1 in
-        (0, tt, λ hs run n agree. woke c s i q r es hs k.0 woken n))
+        (woken.0, woken.1, λ hs run n agree. woke c s i q r es hs woken.0 k.0 (woken.2 hs run n) n))
         t;
     frame = λ x m n hs made q f agree. record {
       first = f.first;

@@ -40,23 +40,27 @@ module _ {Local State : Type 0} (P : Source ℤ Local State) (Typed : Memory ℤ
 abbrev pub own_latencies : Block → ℕ
 own_latencies b = latencies_before b (size b) + 1
 
+-- nothing set aside: each stage is a block or an act
+abbrev pub no_spare : ℕ → ℕ → ℕ → ℕ
+no_spare f l s = 0
+
 -- chain f l is a bound for a stage and the stepless blocks that follow it. A state and a request may each cost a change
-abbrev pub code_of : (ℕ → ℕ → Block) → (ℕ → ℕ → Plan) → (ℕ → ℕ → ℕ) → Code
-code_of blocks plans chain = record { blocks = blocks; plans = plans; reserve = λ f l. 2 * (chain f l - own_latencies (blocks f l)) }
+abbrev pub code_of : (ℕ → ℕ → Block) → (ℕ → ℕ → Plan) → (ℕ → ℕ → ℕ) → (ℕ → ℕ → ℕ → ℕ) → Code
+code_of blocks plans chain spare = record { blocks = blocks; plans = plans; reserve = λ f l. 2 * (chain f l - own_latencies (blocks f l)); spare = spare }
 
 -- what the chains of blocks have to meet
-pub record AreChains (blocks : ℕ → ℕ → Block) (plans : ℕ → ℕ → Plan) (chain : ℕ → ℕ → ℕ) (weight : ℕ) : Type 0 where
+pub record AreChains (blocks : ℕ → ℕ → Block) (plans : ℕ → ℕ → Plan) (chain : ℕ → ℕ → ℕ) (spare : ℕ → ℕ → ℕ → ℕ) (weight : ℕ) : Type 0 where
   -- a plan has no more states than the sum of the latencies, and 1
   pub short : (f l : ℕ) → (plans f l).states ≤ own_latencies (blocks f l)
   pub holds : (f l : ℕ) → own_latencies (blocks f l) ≤ chain f l
   -- the stage after a stepless block, wherever it leads, is in the chain of that block
-  pub stepless : (f l : ℕ) → 0 < (plans f l).states → (blocks f l).steps ≡ 0 → (value : Operand → ℤ) → own_latencies (blocks f l) + chain f (leads_to value (blocks f l).next) ≤ chain f l
+  pub stepless : (f l : ℕ) → 0 < (plans f l).states → (blocks f l).steps ≡ 0 → (value : Operand → ℤ) → own_latencies (blocks f l) + (chain f (leads_to value (blocks f l).next) + spare f (leads_to value (blocks f l).next) 0) ≤ chain f l
   -- the chain of an act has room for that of the stage after it, to which a waiting slot may go on
-  pub bounded : (f l : ℕ) → chain f l ≤ 32 * (weight + 1)
+  pub bounded : (f l : ℕ) → 2 * chain f l + spare f l 0 ≤ 64 * (weight + 1)
 
 -- FOLLOWING: code that follows its thread for ever is lowered code, with 64 times (the weight and 1) changes for each step
 abbrev pub FollowersAreLowered : {Local State : Type 0} → Source ℤ Local State → (Memory ℤ → Type 0) → (AtStage Local → Local → ℕ → ℕ → (ℕ → ℤ) → Memory ℤ → Type 0) → Type 0
 FollowersAreLowered {State = State} P Typed AtAct =
-    (blocks : ℕ → ℕ → Block) (plans : ℕ → ℕ → Plan) (chain : ℕ → ℕ → ℕ) (weight : ℕ) → ((s : State) → Reachable P s → Typed (P.memory s)) →
-    ((f l : ℕ) → IsOrdered (blocks f l)) → AreChains blocks plans chain weight →
-    IsLowered P (code_of blocks plans chain) (λ x f l variables arrays. FollowsOn P Typed AtAct blocks plans f x l variables arrays) (64 * (weight + 1))
+    (blocks : ℕ → ℕ → Block) (plans : ℕ → ℕ → Plan) (chain : ℕ → ℕ → ℕ) (spare : ℕ → ℕ → ℕ → ℕ) (weight : ℕ) → ((s : State) → Reachable P s → Typed (P.memory s)) →
+    ((f l : ℕ) → IsOrdered (blocks f l)) → AreChains blocks plans chain spare weight →
+    IsLowered P (code_of blocks plans chain spare) (λ x f l variables arrays. FollowsOn P Typed AtAct blocks plans f x l variables arrays) (64 * (weight + 1))

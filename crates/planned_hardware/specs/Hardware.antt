@@ -18,6 +18,8 @@ pub record Code : Type 0 where
   pub plans : ℕ → ℕ → Plan
   -- how many changes of a slot are set aside for the stepless blocks that follow a stage
   pub reserve : ℕ → ℕ → ℕ
+  -- and for a stage of no block, by the state of the slot there
+  pub spare : ℕ → ℕ → ℕ → ℕ
 
 -- how many of the first n pass
 abbrev pub count_below : (ℕ → Bool) → ℕ → ℕ
@@ -38,11 +40,11 @@ module _ (code : Code) where
   -- how often a slot may change before its thread has taken a step: once for each state and each request to come, and as often as the
   -- stepless blocks that follow take
   abbrev pub changes_left : Slot → ℕ
-  changes_left q = code.reserve q.routine q.stage + (((plan_of q).states - q.state) + count_below (is_open q) (size (block_of q)))
+  changes_left q = code.reserve q.routine q.stage + (code.spare q.routine q.stage q.state + (((plan_of q).states - q.state) + count_below (is_open q) (size (block_of q))))
 
   -- what is left at the start of a stage
   abbrev pub changes_of : ℕ → ℕ → ℕ
-  changes_of f l = code.reserve f l + ((code.plans f l).states + count_below (λ k. is_request (operation_at (code.blocks f l) k).kind) (size (code.blocks f l)))
+  changes_of f l = code.reserve f l + (code.spare f l 0 + ((code.plans f l).states + count_below (λ k. is_request (operation_at (code.blocks f l) k).kind) (size (code.blocks f l))))
 
 -- what the concrete side says of threads besides blocks. An act reads variables alone, so no value has to outlive its block
 pub record Surroundings (Local State Core : Type 0) : Type 1 where
@@ -126,9 +128,10 @@ pub record FitsBlocks {Local State Core : Type 0} (P : Source ℤ Local State) (
   pub acts_outside : (i : ℕ) (w v : World ℤ Slot (ℕ → Core)) → around.Act w i v → (plan_of code (w.slots i)).states ≡ 0
   pub waits_outside : (c : ℕ → Core) (i : ℕ) (x : Local) (q : Slot) → around.Waits c i x q → (plan_of code q).states ≡ 0
   pub wakes_outside : (c : ℕ → Core) (i : ℕ) (q r : Slot) → around.Wakes c i q r → (plan_of code q).states ≡ 0
-  -- who wakes is at the start of a stage
+  -- who wakes takes a number of steps that access no global, and rests where these lead
   pub wakes : (c : ℕ → Core) (s : State) (i : ℕ) (q r : Slot) → Reachable P s → (planned_hardware bank code around B).Rests c i (P.local s i) q → around.Wakes c i q r →
-      Begins bank code around B (P.local s i) r × (changes_left code r < changes_left code q)
+      (n : ℕ) × OnlyMoves P n (P.local s i) (P.memory s) × ((hs : List (Move ℤ Local)) → RunsAlone P (P.local s i) (P.memory s) hs → length hs ≡ n →
+      (accesses_of hs ≡ []) × (planned_hardware bank code around B).Rests c i (end_of (P.local s i) hs) r × (changes_left code r < changes_left code q + B * n))
 
 -- a program, its code planned in blocks, and what runs it
 pub record PlannedThreads : Type 1 where
@@ -140,6 +143,7 @@ pub record PlannedThreads : Type 1 where
   pub banks : AreBanks bank
   pub code : Code
   pub keeps : (f l : ℕ) → KeepsOrders (code.blocks f l) (code.plans f l)
+  pub spared : (f l s : ℕ) → 0 < (code.plans f l).states → code.spare f l s ≡ 0
   pub around : Surroundings Local State Core
   -- so many changes of a slot at most for each step of its thread
   pub B : ℕ

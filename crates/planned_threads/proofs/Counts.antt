@@ -9,7 +9,7 @@ use Rattle.planned_block.specs.Block.{operation_at, size}
 use Rattle.planned_block.specs.Slot.{Slot, is_request}
 use Rattle.planned_block.proofs.Bits.{both_true}
 use Rattle.planned_hardware.specs.Hardware.{Code, block_of, plan_of, is_open, changes_left, changes_of}
-use Rattle.planned_hardware.specs.Following.{own_latencies}
+use Rattle.planned_hardware.specs.Following.{own_latencies, no_spare}
 use Rattle.planned_hardware.proofs.Budget.{within_chain}
 use Rattle.planned_hardware.proofs.Counting.{count_le}
 use Rattle.planned_threads.specs.Routines.{Codes, stage_at, rest_of, blocks_of, plans_of}
@@ -45,14 +45,14 @@ module _ (P : Program) (codes : Codes) (chain : ℕ → ℕ → ℕ) (chained : 
   pub fresh_below : (q : Slot) → q.state ≡ 0 → changes_left code q < bound P
   fresh_below q z =
       let le = fresh_left q z in
-      let lt = within_chain (blocks_of codes) (plans_of codes) chain (weight P) chained.chains q.routine q.stage in
+      let lt = within_chain (blocks_of codes) (plans_of codes) chain no_spare (weight P) chained.chains q.routine q.stage in
       let b = chained.chains.bounded q.routine q.stage in
       omega arith
 
   pub stage_below : (q : Slot) → q.state ≡ 0 → q.stage < rest_of codes q.routine → changes_left code q < 64 * weight P + 2
   stage_below q z lt =
       let le = fresh_left q z in
-      let within = within_chain (blocks_of codes) (plans_of codes) chain (weight P) chained.chains q.routine q.stage in
+      let within = within_chain (blocks_of codes) (plans_of codes) chain no_spare (weight P) chained.chains q.routine q.stage in
       let low = chained.low q.routine q.stage lt in
       omega arith
 

@@ -1,6 +1,6 @@
 -- Threads fit their blocks.
 use Rattle.std.specs.Prelude.{Bool, true, false, nat_eq, if◌then◌else◌, Option, Some, slice_get, ℤ, ◌%◌, ◌^◌}
-use Rattle.std.proofs.Common.{◌≡◌, ℕ, zero, suc, ◌+◌, ◌*◌, ◌<◌, ◌≤◌, List, [], ◌∷◌, refl, sym, ap, ◌∙◌, subst, inl, inr, ⊎_elim, arith}
+use Rattle.std.proofs.Common.{◌≡◌, ℕ, zero, suc, ◌+◌, ◌*◌, ◌<◌, ◌≤◌, List, [], ◌∷◌, length, refl, sym, ap, ◌∙◌, subst, inl, inr, ⊎_elim, arith}
 use Rattle.hls_ints.specs.Residues.{residue_of, signed_value_of}
 use Rattle.hls_ints.specs.Words.{signed_word}
 use Rattle.hls_ints.specs.Types.{long_int, wrapped}
@@ -13,7 +13,7 @@ use Rattle.thread_semantics.specs.Step.{Steps, step}
 use Rattle.race_model.specs.Source.{Local, local_of, running, outcome_of, c_source}
 use Rattle.race_model.specs.Orderly.{is_over}
 use Rattle.race_model.proofs.Shared.{moves_keep_shared}
-use Rattle.interleaving.specs.Source.{view_at}
+use Rattle.interleaving.specs.Source.{Move, accesses_of, end_of, view_at}
 use Rattle.interleaving.specs.Interleaving.{Reachable}
 use Rattle.interleaving.specs.Threaded.{IsSynchronizing}
 use Rattle.interleaving.specs.Hardware.{World, Hardware, ActLands}
@@ -287,6 +287,12 @@ module _ (P : Program) (codes : Codes) (N : Numbers) (T : ℕ) (spreads : List S
   acts_listed i w v (Requests a next k ask own listed asks core eligible slot cores) = (a, next, listed)
   acts_listed i w v (Returns main next listed slot cores) = (act.Return, next, listed)
 
+  -- who wakes here takes no step
+  woken : (c : ℕ → Core) (s : State) (i : ℕ) (q r : Slot) (hs : List (Move ℤ Local)) → Reachable (c_source P) s → H.Rests c i (local_of s i) q → Wakes P codes N T c i q r → length hs ≡ 0 →
+      (accesses_of hs ≡ []) × H.Rests c i (end_of (local_of s i) hs) r × (changes_left code r < changes_left code q + bound P * 0)
+  woken c s i q r [] at rests wake n = let w = wakes c s i q r at rests wake in let less = w.1 in (refl, inl w.0, omega arith)
+  woken c s i q r (h ∷ hs) at rests wake n = absurd (omega arith)
+
   -- THREADS FIT
   pub fits : FitsBlocks (c_source P) (bank_of spreads) code (around P codes N T) (bound P)
   fits = record {
@@ -301,7 +307,7 @@ module _ (P : Program) (codes : Codes) (N : Numbers) (T : ℕ) (spreads : List S
     acts_outside = λ i w v there. let l = acts_listed i w v there.act in no_states P codes chain coded.chained (w.slots i) _ l.2 refl;
     waits_outside = λ c i x q waits. past_states P codes chain coded.chained q (waits_past c i x q waits);
     wakes_outside = λ c i q r wake. past_states P codes chain coded.chained q (wakes_past c i q r wake);
-    wakes = wakes;
+    wakes = λ c s i q r at rests wake. (0, tt, λ hs run n. woken c s i q r hs at rests wake n);
   }
 
 pub fits_threads : (P : Program) (codes : Codes) (N : Numbers) (T : ℕ) (spreads : List Spread) (chain : ℕ → ℕ → ℕ) → FitsThreads P codes N T spreads chain

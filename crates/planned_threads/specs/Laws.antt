@@ -13,7 +13,7 @@ use Rattle.interleaving.specs.Interleaving.{Reachable}
 use Rattle.interleaving.specs.Headline.{MarksEnd}
 use Rattle.planned_block.specs.Slot.{Slot}
 use Rattle.planned_hardware.specs.Hardware.{Begins, planned_hardware, FitsBlocks}
-use Rattle.planned_hardware.specs.Following.{AreChains}
+use Rattle.planned_hardware.specs.Following.{no_spare, AreChains}
 use Rattle.race_model.specs.Source.{Local, local_of, running, c_source}
 use Rattle.race_model.specs.Orderly.{is_over}
 use Rattle.thread_promise.specs.Globals.{bank_of}
@@ -28,7 +28,7 @@ use Rattle.planned_threads.specs.Surroundings.{Waits, Wakes, around, hardware_co
 
 -- the chains of blocks, with room at a rest or a meeting for what a wake leads to
 pub record AreChainsThere (P : Program) (codes : Codes) (chain : ℕ → ℕ → ℕ) : Type 0 where
-  pub chains : AreChains (blocks_of codes) (plans_of codes) chain (weight P)
+  pub chains : AreChains (blocks_of codes) (plans_of codes) chain no_spare (weight P)
   pub low : (f l : ℕ) → l < rest_of codes f → chain f l ≤ 32 * weight P + 1
   pub high : (f l : ℕ) → rest_of codes f ≤ l → chain f l ≡ 32 * weight P + 2
 

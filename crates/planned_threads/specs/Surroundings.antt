@@ -12,7 +12,7 @@ use Rattle.block_ir.specs.declared.code.ActOperand.{ActOperand}
 use Rattle.block_ir.specs.declared.code.Stage.TheVariants as stage
 use Rattle.planned_block.specs.Slot.{Slot}
 use Rattle.planned_hardware.specs.Hardware.{Code, Surroundings}
-use Rattle.planned_hardware.specs.Following.{code_of}
+use Rattle.planned_hardware.specs.Following.{no_spare, code_of}
 use Rattle.race_model.specs.Source.{Local, running}
 use Rattle.race_model.specs.Orderly.{is_over}
 use Rattle.block_ir.specs.Asked.{act_value, Asked, asked, Numbers, core_of}
@@ -82,4 +82,4 @@ module _ (P : Program) (codes : Codes) (N : Numbers) (T : ℕ) where
   }
 
 abbrev pub hardware_code : Codes → (ℕ → ℕ → ℕ) → Code
-hardware_code codes chain = code_of (blocks_of codes) (plans_of codes) chain
+hardware_code codes chain = code_of (blocks_of codes) (plans_of codes) chain no_spare

@@ -21,7 +21,7 @@ use Rattle.bank_partition.specs.Shapes.{spreads_from}
 use Rattle.code_following.specs.Typed.{types_of, BeginsWith, IsTypedNext, IsTypedStage}
 use Rattle.code_following.proofs.Arguments.{main_takes_none}
 use Rattle.planned_block.proofs.Bits.{less_is, not_less_is}
-use Rattle.planned_hardware.specs.Following.{own_latencies, AreChains}
+use Rattle.planned_hardware.specs.Following.{own_latencies, AreChains, no_spare}
 use Rattle.block_refine.specs.Threads.{block_at, plan_at}
 use Rattle.block_refine.specs.Routines.{RoutineCode, Codes, stage_at, rest_of, blocks_of, plans_of, ArePlanned}
 use Rattle.planned_threads.specs.Laws.{AreChainsThere, AreCoded}
@@ -137,12 +137,12 @@ module _ (P : Program) (codes : Codes) (are : AreRoutines P codes) where
   by_test f l Q inside past true = inside
   by_test f l Q inside past false = past
 
-  chains : AreChains (blocks_of codes) (plans_of codes) (chain_of P codes) (weight P)
+  chains : AreChains (blocks_of codes) (plans_of codes) (chain_of P codes) no_spare (weight P)
   chains = record {
     short = λ f l. short_at f l (stage_at codes f l) refl;
     holds = λ f l. by_test f l (λ n. own_latencies (blocks_of codes f l) ≤ n) (omega arith) (let few = low_here f l in omega (arith, few)) (nat_lt l (rest_of codes f));
     stepless = λ f l some idle value. absurd (busy_at f l (stage_at codes f l) refl some idle);
-    bounded = λ f l. by_test f l (λ n. n ≤ 32 * (weight P + 1)) (let few = low_here f l in omega (arith, few)) (omega arith) (nat_lt l (rest_of codes f));
+    bounded = λ f l. by_test f l (λ n. 2 * n + 0 ≤ 64 * (weight P + 1)) (let few = low_here f l in omega (arith, few)) (omega arith) (nat_lt l (rest_of codes f));
   }
 
   chains_there : AreChainsThere P codes (chain_of P codes)
