@@ -8,7 +8,7 @@ use Rattle.netlist.specs.declared.netlist.Source.TheVariants.{Input, Register, A
 use Rattle.netlist.specs.declared.netlist.Signal.{Signal}
 use Rattle.netlist.specs.declared.netlist.Instance.{Instance}
 use Rattle.netlist.specs.declared.netlist.Module.{Module}
-use Rattle.verilog_meaning.specs.Cycles.{Path, Valuation, Choice, module_at, instance_at, connected, IsAt, IsSettled, IsState}
+use Rattle.verilog_meaning.specs.Cycles.{choice_number, Path, Valuation, Choice, module_at, instance_at, connected, IsAt, IsSettled, IsState}
 use Rattle.verilog_meaning.specs.Threads.{Place, Names}
 use Rattle.verilog_meaning.proofs.Settling.{IsDeclared, IsLevelled, settled-same}
 use Rattle.circuit.specs.Rows.{EachOf}
@@ -185,4 +185,4 @@ module _ (modules : List Module) (top : Module) (stages : Stages) (is : IsStaged
   pub staged_same : (h : Valuation) (c : Choice) (v w : Valuation) → IsSettled modules top h c v → IsSettled modules top h c w → (path : Path) (m : Module) (x : ℕ) (s : Signal)
       → IsAt modules top path m x s → (v path).signal x ≡ (w path).signal x
   staged_same h c v w a b path m x s at =
-      settled-same modules top h c net_level net_levelled v w a b (path, x) (record { holder = m; signal = s; at = at })
+      settled-same modules top h (choice_number c) net_level net_levelled v w a b (path, x) (record { holder = m; signal = s; at = at })

@@ -5,18 +5,18 @@ use Rattle.netlist.specs.declared.netlist.Source.TheVariants.{Input, Register, A
 use Rattle.netlist.specs.declared.netlist.Signal.{Signal}
 use Rattle.netlist.specs.declared.netlist.Memory.{Memory}
 use Rattle.netlist.specs.declared.netlist.Module.{Module}
-use Rattle.verilog_meaning.specs.Cycles.{Path, Valuation, Choice, module_at, instance_at, connected, number, IsAt, IsSettled, IsState, IsRegister}
+use Rattle.verilog_meaning.specs.Cycles.{Path, Valuation, Choice, Given, choice_number, module_at, instance_at, connected, number_given, IsAt, IsSettledGiven, IsState, IsRegister}
 use Rattle.verilog_meaning.specs.Threads.{Place, Names}
 use Rattle.verilog_meaning.proofs.Settling.{IsDeclared, IsLevelled, seen, solved, solved-signals}
 use Rattle.circuit.specs.Modules.{Has}
-use Rattle.circuit.specs.Nets.{FitsSource, FitsNet, FitsChoice}
+use Rattle.circuit.specs.Nets.{FitsSource, FitsNet, FitsGiven, HasSettledGiven, HasSettled}
 use Rattle.circuit.proofs.Tables.{fits_among}
 use Rattle.circuit.proofs.Widths.{Fitting, value_below}
 
 module _ (modules : List Module) (top : Module) (level : Path → ℕ
-    → ℕ) (levelled : IsLevelled modules top level) (fits : FitsNet modules top) (h : Valuation) (c : Choice) (state : IsState modules top h) (choice : FitsChoice modules top c)
+    → ℕ) (levelled : IsLevelled modules top level) (fits : FitsNet modules top) (h : Valuation) (given : Given) (state : IsState modules top h) (choice : FitsGiven modules top given)
     (v : Valuation) (signals : (path : Path) (m : Module) (x : ℕ) (s : Signal) → IsAt modules top path m x s
-    → (v path).signal x ≡ number modules top h c v path m x s s.source) (words : (path : Path) (j k : ℕ) → (v path).word j k ≡ (h path).word j k) where
+    → (v path).signal x ≡ number_given modules top h given v path m x s s.source) (words : (path : Path) (j k : ℕ) → (v path).word j k ≡ (h path).word j k) where
   -- all signals of a level below n
   abbrev Below : ℕ → Type 0
   Below n = (path : Path) (m : Module) (x : ℕ) (s : Signal) → IsAt modules top path m x s → level path x < n → (v path).signal x < 2 ^ s.width
@@ -29,7 +29,7 @@ module _ (modules : List Module) (top : Module) (level : Path → ℕ
 
   source_below : (n : ℕ) → Below n → (path : Path) (m : Module) (x : ℕ) (s : Signal) → IsAt modules top path m x s → level path x ≤ n → (source : Source) → s.source ≡ source
       → ((q : Place) → Names modules top path x source q → IsDeclared modules top q × (level q.0 q.1 < level path x)) → FitsSource modules top path m x s.width source
-      → number modules top h c v path m x s source < 2 ^ s.width
+      → number_given modules top h given v path m x s source < 2 ^ s.width
   source_below n b path m x s at l (Register k) e names f = state.registers path m x s at (subst IsRegister (sym e) tt)
   source_below n b path m x s at l (Assigned right) e names f =
       value_below m (v path) (words_below path m at.stands) s.width right
@@ -51,11 +51,13 @@ module _ (modules : List Module) (top : Module) (level : Path → ℕ
   pub within : (path : Path) (m : Module) (x : ℕ) (s : Signal) → IsAt modules top path m x s → (v path).signal x < 2 ^ s.width
   within path m x s at = all_below (suc (level path x)) path m x s at (omega arith)
 
-  pub settled : IsSettled modules top h c v
+  pub settled : IsSettledGiven modules top h given v
   settled = record { signals = signals; within = within; words = words }
 
-pub has_settled : (modules : List Module) (top : Module) (level : Path → ℕ → ℕ) → IsLevelled modules top level → FitsNet modules top
-    → (h : Valuation) (c : Choice) → IsState modules top h → FitsChoice modules top c → (v : Valuation) × IsSettled modules top h c v
-has_settled modules top level levelled fits h c state choice =
-    let v = seen modules top h c level levelled (solved modules top h c level levelled) in
-    (v, settled modules top level levelled fits h c state choice v (solved-signals modules top h c level levelled) (λ path j k. refl))
+pub has_settled_given : HasSettledGiven
+has_settled_given modules top level levelled fits h given state choice =
+    let v = seen modules top h given level levelled (solved modules top h given level levelled) in
+    (v, settled modules top level levelled fits h given state choice v (solved-signals modules top h given level levelled) (λ path j k. refl))
+
+pub has_settled : HasSettled
+has_settled modules top level levelled fits h c state choice = has_settled_given modules top level levelled fits h (choice_number c) state choice

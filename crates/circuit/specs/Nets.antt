@@ -4,7 +4,7 @@ use Rattle.netlist.specs.declared.netlist.Source.{Source}
 use Rattle.netlist.specs.declared.netlist.Source.TheVariants.{Input, Register, Assigned, Port}
 use Rattle.netlist.specs.declared.netlist.Signal.{Signal}
 use Rattle.netlist.specs.declared.netlist.Module.{Module}
-use Rattle.verilog_meaning.specs.Cycles.{Path, Valuation, Choice, module_at, instance_at, connected, choice_number, IsAt, IsSettled, IsState, Cycle, initial_state}
+use Rattle.verilog_meaning.specs.Cycles.{Path, Valuation, Choice, Given, module_at, instance_at, connected, choice_number, IsAt, IsSettled, IsSettledGiven, IsState, Cycle, initial_state}
 use Rattle.verilog_meaning.proofs.Settling.{IsLevelled}
 use Rattle.circuit.specs.Rows.{EachOf}
 use Rattle.circuit.specs.Modules.{Has, FitsValue, FitsAction, FitsMemory}
@@ -21,14 +21,24 @@ module _ (modules : List Module) (top : Module) where
   abbrev pub FitsNet : Type 0
   FitsNet = (path : Path) (m : Module) (x : ℕ) (s : Signal) → IsAt modules top path m x s → FitsSource path m x s.width s.source
 
-  -- the numbers of a choice fit their inputs
+  -- the numbers that are given fit their inputs
+  abbrev pub FitsGiven : Given → Type 0
+  FitsGiven given = (m : Module) (x : ℕ) (s : Signal) → IsAt modules top [] m x s → s.source ≡ Input → given s.name < 2 ^ s.width
+
+  -- and those of a choice
   abbrev pub FitsChoice : Choice → Type 0
-  FitsChoice c = (m : Module) (x : ℕ) (s : Signal) → IsAt modules top [] m x s → s.source ≡ Input → choice_number c s.name < 2 ^ s.width
+  FitsChoice c = FitsGiven (choice_number c)
 
   -- the statements and the initial constants of memories fit
   pub record FitsStatements : Type 0 where
     pub acts : (path : Path) (m : Module) → module_at modules top path ≡ Some m → EachOf (FitsAction m) m.actions
     pub begins : (path : Path) (m : Module) → module_at modules top path ≡ Some m → EachOf FitsMemory m.memories
+
+-- a net that has levels and whose widths fit has a settled valuation of each state for each list of inputs
+abbrev pub HasSettledGiven : Type 0
+HasSettledGiven =
+    (modules : List Module) (top : Module) (level : Path → ℕ → ℕ) → IsLevelled modules top level → FitsNet modules top
+    → (h : Valuation) (given : Given) → IsState modules top h → FitsGiven modules top given → (v : Valuation) × IsSettledGiven modules top h given v
 
 -- a net that has levels and whose widths fit has a settled valuation of each state for each choice
 abbrev pub HasSettled : Type 0

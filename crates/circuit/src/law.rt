@@ -1,10 +1,11 @@
 // Laws of nets.
 
-ghost use Rattle.circuit.specs.Nets.{HasSettled, KeepsStates};
+ghost use Rattle.circuit.specs.Nets.{HasSettled, HasSettledGiven, KeepsStates};
 
 /// A net that has levels and whose widths fit has a settled valuation of each state for each choice.
 pub fn settles()
-    ensures { HasSettled }
+    ensures given { HasSettledGiven }
+    ensures choices { HasSettled }
 {}
 
 /// In a net whose widths fit the initial constants are a state, and each cycle leads from a state to a state.

@@ -5,7 +5,7 @@ use Rattle.netlist.specs.declared.netlist.Signal.{Signal}
 use Rattle.netlist.specs.declared.netlist.Source.{Source}
 use Rattle.netlist.specs.declared.netlist.Source.TheVariants.{Input, Register, Assigned, Port}
 use Rattle.netlist.specs.declared.netlist.Module.{Module}
-use Rattle.verilog_meaning.specs.Cycles.{Path, Valuation, Choice, module_at, instance_at, connected, number, IsAt, IsSettled}
+use Rattle.verilog_meaning.specs.Cycles.{Path, Valuation, Given, module_at, instance_at, connected, number_given, IsAt, IsSettledGiven}
 use Rattle.verilog_meaning.specs.Threads.{Place, Names, operands}
 use Rattle.verilog_meaning.proofs.Ranked.{IsCausal, solution, solution-holds, solution-unique}
 use Rattle.verilog_meaning.proofs.Operands.{Agree, same_value}
@@ -21,7 +21,7 @@ module _ (modules : List Module) (top : Module) where
   abbrev pub IsLevelled : (Path → ℕ → ℕ) → Type 0
   IsLevelled level = (path : Path) (m : Module) (x : ℕ) (s : Signal) → IsAt modules top path m x s → (q : Place) → Names modules top path x s.source q → IsDeclared q × (level q.0 q.1 < level path x)
 
-  module _ (h : Valuation) (c : Choice) (level : Path → ℕ → ℕ) (levelled : IsLevelled level) where
+  module _ (h : Valuation) (given : Given) (level : Path → ℕ → ℕ) (levelled : IsLevelled level) where
     -- the valuation of these numbers, with the words of the state
     abbrev pub seen : (Place → ℕ) → Valuation
     seen f path = record { signal = λ x. f (path, x); word = (h path).word }
@@ -31,7 +31,7 @@ module _ (modules : List Module) (top : Module) where
 
     abbrev pub of_signal : (Place → ℕ) → Place → Module → Option Signal → ℕ
     of_signal f p m None = 0
-    of_signal f p m (Some s) = number modules top h c (seen f) p.0 m p.1 s s.source
+    of_signal f p m (Some s) = number_given modules top h given (seen f) p.0 m p.1 s s.source
 
     abbrev pub of_module : (Place → ℕ) → Place → Option Module → ℕ
     of_module f p None = 0
@@ -40,12 +40,12 @@ module _ (modules : List Module) (top : Module) where
     abbrev pub equation : Place → (Place → ℕ) → ℕ
     equation p f = of_module f p (module_at modules top p.0)
 
-    equation_is : (f : Place → ℕ) (p : Place) (m : Module) (s : Signal) → IsAt modules top p.0 m p.1 s → equation p f ≡ number modules top h c (seen f) p.0 m p.1 s s.source
+    equation_is : (f : Place → ℕ) (p : Place) (m : Module) (s : Signal) → IsAt modules top p.0 m p.1 s → equation p f ≡ number_given modules top h given (seen f) p.0 m p.1 s s.source
     equation_is f p m s at = ap (of_module f p) at.stands ∙ ap (of_signal f p m) at.listed
 
     -- a source gives the same in two valuations that agree at what it names
     same_number : (f g : Place → ℕ) (path : Path) (m : Module) (x : ℕ) (s : Signal) (source : Source) → ((q : Place) → Names modules top path x source q → f q ≡ g q)
-        → number modules top h c (seen f) path m x s source ≡ number modules top h c (seen g) path m x s source
+        → number_given modules top h given (seen f) path m x s source ≡ number_given modules top h given (seen g) path m x s source
     same_number f g path m x s (Register n) same = refl
     same_number f g path m x s (Assigned right) same =
         let agree : Agree (operands right) (seen f path) (seen g path) = record { signals = λ y i. same (path, y) (refl, i); words = λ j k. refl } in
@@ -63,14 +63,14 @@ module _ (modules : List Module) (top : Module) where
     abbrev pub solved : Place → ℕ
     solved = solution Place IsDeclared rank equation
 
-    pub solved-signals : (path : Path) (m : Module) (x : ℕ) (s : Signal) → IsAt modules top path m x s → (seen solved path).signal x ≡ number modules top h c (seen solved) path m x s s.source
+    pub solved-signals : (path : Path) (m : Module) (x : ℕ) (s : Signal) → IsAt modules top path m x s → (seen solved path).signal x ≡ number_given modules top h given (seen solved) path m x s s.source
     solved-signals path m x s at =
         solution-holds Place IsDeclared rank equation causal (path, x) (record { holder = m; signal = s; at = at })
         ∙ equation_is solved (path, x) m s at
 
     -- a number by its source is the same in a valuation with the state's words and in its signals alone
     flat_number : (v : Valuation) → ((path : Path) (j k : ℕ) → (v path).word j k ≡ (h path).word j k) → (path : Path) (m : Module) (x : ℕ) (s : Signal) (source : Source)
-        → number modules top h c v path m x s source ≡ number modules top h c (seen (λ p. (v p.0).signal p.1)) path m x s source
+        → number_given modules top h given v path m x s source ≡ number_given modules top h given (seen (λ p. (v p.0).signal p.1)) path m x s source
     flat_number v words path m x s (Register n) = refl
     flat_number v words path m x s (Assigned right) =
         let agree : Agree (operands right) (v path) (seen (λ p. (v p.0).signal p.1) path) = record { signals = λ y i. refl; words = words path } in
@@ -79,12 +79,12 @@ module _ (modules : List Module) (top : Module) where
     flat_number v words [] m x s Input = refl
     flat_number v words (i ∷ outer) m x s Input = refl
 
-    flat_holds : (v : Valuation) → IsSettled modules top h c v → (p : Place) → IsDeclared p → (v p.0).signal p.1 ≡ equation p (λ q. (v q.0).signal q.1)
+    flat_holds : (v : Valuation) → IsSettledGiven modules top h given v → (p : Place) → IsDeclared p → (v p.0).signal p.1 ≡ equation p (λ q. (v q.0).signal q.1)
     flat_holds v settled p t =
         settled.signals p.0 t.holder p.1 t.signal t.at
         ∙ flat_number v settled.words p.0 t.holder p.1 t.signal t.signal.source
         ∙ sym (equation_is (λ q. (v q.0).signal q.1) p t.holder t.signal t.at)
 
-    pub settled-same : (v w : Valuation) → IsSettled modules top h c v → IsSettled modules top h c w → (p : Place) → IsDeclared p → (v p.0).signal p.1 ≡ (w p.0).signal p.1
+    pub settled-same : (v w : Valuation) → IsSettledGiven modules top h given v → IsSettledGiven modules top h given w → (p : Place) → IsDeclared p → (v p.0).signal p.1 ≡ (w p.0).signal p.1
     settled-same v w sv sw =
         solution-unique Place IsDeclared rank equation causal (λ q. (v q.0).signal q.1) (λ q. (w q.0).signal q.1) (flat_holds v sv) (flat_holds w sw)

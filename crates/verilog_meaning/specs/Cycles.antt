@@ -31,6 +31,10 @@ pref_number name (p ∷ prefs) k = if bytes_eq name (numbered (codes "pref") k) 
 abbrev pub choice_number : Choice → List ℕ → ℕ
 choice_number c name = if bytes_eq name (codes "en") then c.mask else pref_number name c.prefs 0
 
+-- what gives an input of the outermost module its number, by its name
+abbrev pub Given : Type 0
+Given = List ℕ → ℕ
+
 abbrev pub IsRegister : Source → Type 0
 IsRegister (Register n) = Unit {0}
 IsRegister _ = ⊥
@@ -60,23 +64,32 @@ module _ (modules : List Module) (top : Module) where
 
   -- ---- settled
 
-  -- the number that an input has: outermost that of the choice, else that of the signal which it is connected to
+  -- the number that an input has: outermost the one that is given, else that of the signal which it is connected to
+  abbrev pub input_given : Given → Valuation → Path → ℕ → Signal → ℕ
+  input_given f v [] x s = f s.name
+  input_given f v (i ∷ outer) x s = (v outer).signal (connected (instance_at outer i) x)
+
   abbrev pub input_number : Choice → Valuation → Path → ℕ → Signal → ℕ
-  input_number c v [] x s = choice_number c s.name
-  input_number c v (i ∷ outer) x s = (v outer).signal (connected (instance_at outer i) x)
+  input_number c = input_given (choice_number c)
 
   -- the number that a signal's source gives it
+  abbrev pub number_given : Valuation → Given → Valuation → Path → Module → ℕ → Signal → Source → ℕ
+  number_given h f v path m x s Input = input_given f v path x s
+  number_given h f v path m x s (Register n) = (h path).signal x
+  number_given h f v path m x s (Assigned right) = value m (v path) right
+  number_given h f v path m x s (Port i port) = (v (i ∷ path)).signal port
+
   abbrev pub number : Valuation → Choice → Valuation → Path → Module → ℕ → Signal → Source → ℕ
-  number h c v path m x s Input = input_number c v path x s
-  number h c v path m x s (Register n) = (h path).signal x
-  number h c v path m x s (Assigned right) = value m (v path) right
-  number h c v path m x s (Port i port) = (v (i ∷ path)).signal port
+  number h c = number_given h (choice_number c)
 
   -- every signal has the number that its source gives it, below 2 to its width, and every word that of the state
-  pub record IsSettled (h : Valuation) (c : Choice) (v : Valuation) : Type 0 where
-    pub signals : (path : Path) (m : Module) (x : ℕ) (s : Signal) → IsAt path m x s → (v path).signal x ≡ number h c v path m x s s.source
+  pub record IsSettledGiven (h : Valuation) (f : Given) (v : Valuation) : Type 0 where
+    pub signals : (path : Path) (m : Module) (x : ℕ) (s : Signal) → IsAt path m x s → (v path).signal x ≡ number_given h f v path m x s s.source
     pub within : (path : Path) (m : Module) (x : ℕ) (s : Signal) → IsAt path m x s → (v path).signal x < 2 ^ s.width
     pub words : (path : Path) (j k : ℕ) → (v path).word j k ≡ (h path).word j k
+
+  abbrev pub IsSettled : Valuation → Choice → Valuation → Type 0
+  IsSettled h c v = IsSettledGiven h (choice_number c) v
 
   -- the numbers of registers and memory words fit
   pub record IsState (h : Valuation) : Type 0 where
@@ -111,12 +124,16 @@ module _ (modules : List Module) (top : Module) where
     pub each : (path : Path) → (written_at v path (module_at path) ≡ []) ⊎ (written_at v path (module_at path) ≡ out)
     pub one : (out ≡ []) ⊎ ((path : Path) × (written_at v path (module_at path) ≡ out))
 
-  -- a cycle under c leads from h to g and writes out
-  pub record Cycle (h : Valuation) (c : Choice) (g : Valuation) (out : List ℕ) : Type 0 where
+  -- a cycle under these inputs leads from h to g and writes out
+  pub record CycleGiven (h : Valuation) (f : Given) (g : Valuation) (out : List ℕ) : Type 0 where
     pub through : Valuation
-    pub settled : IsSettled h c through
+    pub settled : IsSettledGiven h f through
     pub next : IsSameIn [] (next_state through) g
     pub written : IsWritten through out
+
+  -- and under c
+  abbrev pub Cycle : Valuation → Choice → Valuation → List ℕ → Type 0
+  Cycle h c g out = CycleGiven h (choice_number c) g out
 
   -- ---- runs
 
