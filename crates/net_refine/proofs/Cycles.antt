@@ -79,6 +79,14 @@ module _ (P : Program) (K : Parts) (modules : List Module) (top : Module) (whole
       (no_deeper modules top whole.stages whole.staged) (printer_core (numbers_of K)) prints_alone choices (initial_state modules top) h out
       (start K.threads (core_count K) (machine_of_thread K) (core_machine K)) runs initial_shows
 
+  pub run_shows_from : (choices : List Choice) (from h : Valuation) (out : List ℕ) (s : Machine K) → Runs modules top from choices h out → Shows from s
+      → Shows h (run K.threads (core_count K) (machine_of_thread K) (core_machine K) s choices)
+      × (out ≡ outputs K.threads (core_count K) (machine_of_thread K) (core_machine K) (printer_core (numbers_of K)) s choices)
+  run_shows_from choices from h out s runs shown =
+      runs_steps K.threads (core_count K) (machine_of_thread K) (core_machine K)
+      (places_of P K modules top whole.at) modules top whole.net
+      (no_deeper modules top whole.stages whole.staged) (printer_core (numbers_of K)) prints_alone choices from h out s runs shown
+
   pub initial_is_state : IsState modules top (initial_state modules top)
   initial_is_state = (keeps_states modules top (net_fits modules top whole.stages whole.staged) (net_statements modules top whole.stages whole.staged)).0
 

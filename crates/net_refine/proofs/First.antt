@@ -19,6 +19,9 @@ use Rattle.net_cycle.specs.Stage.{cores_shown}
 use Rattle.net_cycle.specs.Cycle.{First}
 use Rattle.net_cycle.proofs.Starting.{net_starts}
 use Rattle.net_refine.specs.Start.{CountElements, AreFirst}
+use Rattle.net_refine.specs.Follows.{IsFirst}
+use Rattle.planned_block.specs.Slot.{Slot}
+use Rattle.std.proofs.lemmas.List.{length-replicate}
 use Rattle.net_refine.proofs.Start.{mutexes_counted}
 
 -- at the start nobody owns a mutex
@@ -80,6 +83,21 @@ module _ (P : Program) (K : Parts) (built : IsBuilt P K) where
   are_first = record {
     mutexes = first_mutex_is;
     barriers = λ n lt. nothing_yet (barrier_core N n) ∙ begin.barriers n lt;
-    ids = λ on. nothing_yet (ids_core N) ∙ begin.ids on;
+    ids = λ on. (replicate K.threads 0, length-replicate K.threads 0, nothing_yet (ids_core N) ∙ begin.ids on);
     printer = nothing_yet (printer_core N) ∙ begin.printer;
+  }
+
+  pub is_first : IsFirst P K begin.stage
+  is_first = record {
+    out = begin.out;
+    slots = λ i.
+        let e = begin.slots i in
+        record {
+          routine = ap (λ (q : Slot). q.routine) e;
+          stage = ap (λ (q : Slot). q.stage) e;
+          state = ap (λ (q : Slot). q.state) e;
+          granted = λ k. ap (λ (q : Slot). q.granted k) e;
+        };
+    memory = begin.memory;
+    cores = are_first;
   }

@@ -5,6 +5,7 @@ pub mod Counting
 pub mod Determined
 pub mod Existing
 pub mod Following
+pub mod From
 pub mod Planned
 pub mod Start
 pub mod First

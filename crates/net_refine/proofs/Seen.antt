@@ -27,7 +27,7 @@ use Rattle.print_core.specs.declared.printer.Shape.{Shape as PrinterShape}
 use Rattle.thread_cores.specs.Cores.{Core, OfPrinter}
 use Rattle.thread_cores.specs.Stands.{StandsFor}
 use Rattle.planned_threads.specs.Surroundings.{hardware_code}
-use Rattle.planned_threads.specs.Laws.{Rests, marks}
+use Rattle.planned_threads.specs.Laws.{marks}
 use Rattle.planned_threads.proofs.Counts.{fresh_below}
 use Rattle.planned_threads.proofs.Blocking.{marks_threads}
 use Rattle.net_cycle.specs.Built.{Parts, IsBuilt, numbers_of, core_at}
@@ -36,8 +36,8 @@ use Rattle.net_cycle.proofs.Cores.{printer_at}
 use Rattle.net_cycle.proofs.Fitting.{numbers}
 use Rattle.net_cycle.proofs.Steps.{threads_are_done}
 use Rattle.net_refine.specs.Start.{StartsThere}
-use Rattle.net_refine.specs.Follows.{machine_of_thread}
-use Rattle.net_refine.proofs.First.{begin, counts_elements, are_first}
+use Rattle.net_refine.specs.Follows.{machine_of_thread, IsFirst}
+use Rattle.net_refine.proofs.First.{counts_elements}
 use Rattle.net_refine.proofs.Start.{threads_start}
 use Rattle.net_refine.proofs.Clock as clock
 use Rattle.net_refine.proofs.Clock.{M, next, moves, is_full, clocked}
@@ -107,55 +107,48 @@ module _ (P : Program) (K : Parts) (built : IsBuilt P K) where
 
   -- ---- the start
 
-  abbrev first : Stage P K
-  first = (begin P K built).stage
+  module _ (first : Stage P K) (is : IsFirst P K first) where
+    starts_there : StartsThere P K.codes N K.threads K.spreads built.chain (cores_shown P K first.net first.out) first.slots
+    starts_there =
+        threads_start P K.codes N K.threads K.spreads built.chain built.resolved (numbers P K built) (counts_elements P K built) built.coded (cores_shown P K first.net first.out)
+        is.cores first.slots is.slots
 
-  starts_there : StartsThere P K.codes N K.threads K.spreads built.chain (cores_shown P K first.net first.out)
-  starts_there =
-      threads_start P K.codes N K.threads K.spreads built.chain built.resolved (numbers P K built) (counts_elements P K built) built.coded (cores_shown P K first.net first.out)
-      (are_first P K built)
+    left_within : (i : ℕ) → changes_left (hardware_code K.codes built.chain) (first.slots i) ≤ bound P
+    left_within i =
+        let less = fresh_below P K.codes built.chain built.coded.chained (first.slots i) (is.slots i).state in
+        omega (arith, less)
 
-  rests : (i : ℕ) → Rests P K.codes N K.threads K.spreads built.chain (cores_shown P K first.net first.out) i (local_of (start P) i) (first.slots i)
-  rests i =
-      subst (λ (q : Slot). Rests P K.codes N K.threads K.spreads built.chain (cores_shown P K first.net first.out) i (local_of (start P) i) q) (sym ((begin P K built).slots i))
-      (starts_there.rests i)
+    pub starts : Moment (c_source P) (hardware_of (M P K built)) K.threads (bound P) (changes_left (hardware_code K.codes built.chain)) [] (look P K first) 0
+    starts = record {
+      lag = record {
+        state = start P;
+        flights = λ i. record { moves = []; made = [] };
+        reached = refl;
+        stands = starts_there.stands;
+        runs = λ i. tt;
+        places = λ i. inl (refl, refl, starts_there.rests i);
+        memory = λ p i others. is.memory p;
+      };
+      paid = inr (let all = total_within (bound P) (changes_left (hardware_code K.codes built.chain)) (look P K first) left_within K.threads in
+          let none : 0 + K.threads ≡ K.threads = omega arith in
+          subst (λ n. 0 + total_left K.threads (changes_left (hardware_code K.codes built.chain)) (look P K first) ≤ bound P * n) (sym none) (omega (arith, all)));
+    }
 
-  left_within : (i : ℕ) → changes_left (hardware_code K.codes built.chain) (first.slots i) ≤ bound P
-  left_within i =
-      let less = fresh_below P K.codes built.chain built.coded.chained (first.slots i) (ap (λ (q : Slot). q.state) ((begin P K built).slots i)) in
-      omega (arith, less)
-
-  pub starts : Moment (c_source P) (hardware_of (M P K built)) K.threads (bound P) (changes_left (hardware_code K.codes built.chain)) [] (look P K first) 0
-  starts = record {
-    lag = record {
-      state = start P;
-      flights = λ i. record { moves = []; made = [] };
-      reached = refl;
-      stands = starts_there.stands;
-      runs = λ i. tt;
-      places = λ i. inl (refl, refl, rests i);
-      memory = λ p i others. (begin P K built).memory p;
-    };
-    paid = inr (let all = total_within (bound P) (changes_left (hardware_code K.codes built.chain)) (look P K first) left_within K.threads in
-        let none : 0 + K.threads ≡ K.threads = omega arith in
-        subst (λ n. 0 + total_left K.threads (changes_left (hardware_code K.codes built.chain)) (look P K first) ≤ bound P * n) (sym none) (omega (arith, all)));
-  }
-
-  abbrev pub program : PlannedProgram
-  program = record {
-    threads = M P K built;
-    threaded = threaded P built.resolved;
-    T = K.threads;
-    Machine = Stage P K;
-    Choice = Choice;
-    look = look P K;
-    cycle = next P K built;
-    is_full = is_full P K built;
-    counts = clock.counts P K built;
-    full_counts = λ h c e. or_left (is_full P K built c) (any_below (moves P K built h c) K.threads) e;
-    clocked = clocked P K built;
-    views = views;
-    seen = seen;
-    first = first;
-    starts = starts;
-  }
+    abbrev pub program : PlannedProgram
+    program = record {
+      threads = M P K built;
+      threaded = threaded P built.resolved;
+      T = K.threads;
+      Machine = Stage P K;
+      Choice = Choice;
+      look = look P K;
+      cycle = next P K built;
+      is_full = is_full P K built;
+      counts = clock.counts P K built;
+      full_counts = λ h c e. or_left (is_full P K built c) (any_below (moves P K built h c) K.threads) e;
+      clocked = clocked P K built;
+      views = views;
+      seen = seen;
+      first = first;
+      starts = starts;
+    }

@@ -14,6 +14,7 @@ use Rattle.c_program.specs.Resolved.{IsResolved}
 use Rattle.thread_semantics.specs.State.{Slot as ThreadSlot, Unused, Running, NoBarrier, first_mutex, first_mutexes, started, start}
 use Rattle.thread_semantics.specs.Step.{is_running, is_waiter}
 use Rattle.bank_partition.specs.declared.banks.Spread.{Spread}
+use Rattle.planned_block.specs.Slot.{Slot}
 use Rattle.planned_block.proofs.Bits.{other_is}
 use Rattle.race_model.specs.Source.{local_of, running}
 use Rattle.thread_cores.specs.Cores.{Core, status_in, status_at}
@@ -24,7 +25,7 @@ use Rattle.block_refine.specs.Routines.{Codes, rest_of, Starts}
 use Rattle.block_refine.proofs.RoutineLaws.{code_follows}
 use Rattle.planned_threads.specs.Surroundings.{routine_of, Idle}
 use Rattle.planned_threads.specs.Laws.{AreCoded, Rests}
-use Rattle.net_refine.specs.Start.{CountElements, AreFirst, slot_at_start, ThreadsStart}
+use Rattle.net_refine.specs.Start.{CountElements, AreFirst, IsFresh, ThreadsStart}
 
 -- ---- how many there are
 
@@ -46,7 +47,7 @@ none_runs (suc n) zero = refl
 none_runs (suc n) (suc i) = none_runs n i
 
 module _ (P : Program) (codes : Codes) (N : Numbers) (T : ℕ) (spreads : List Spread) (chain : ℕ → ℕ → ℕ) (R : IsResolved P) (counts : CountElements P N)
-    (coded : AreCoded P codes chain) (c : ℕ → Core) (first : AreFirst P N T c) where
+    (coded : AreCoded P codes chain) (c : ℕ → Core) (first : AreFirst P N T c) (slots : ℕ → Slot) (fresh : (i : ℕ) → IsFresh P codes i (slots i)) where
   abbrev ids_number : ℕ
   ids_number = sum_by (λ (o : ThreadObject). o.length) P.threads
 
@@ -70,10 +71,10 @@ module _ (P : Program) (codes : Codes) (N : Numbers) (T : ℕ) (spreads : List S
               (record { sized = length-replicate T 0; bits = λ i lt. zeros_at T i; count = λ k ws q. absurd cc });
         };
     ids = λ has. record {
-      ids = record { statuses = replicate T 0; arguments = replicate T 0 };
-      is = first.ids has;
+      ids = record { statuses = replicate T 0; arguments = (first.ids has).0 };
+      is = (first.ids has).2;
       statuses = length-replicate T 0;
-      arguments = length-replicate T 0;
+      arguments = (first.ids has).1;
       main = zeros_at T 0;
       each = each;
     };
@@ -89,7 +90,7 @@ module _ (P : Program) (codes : Codes) (N : Numbers) (T : ℕ) (spreads : List S
   -- ---- the slots
 
   no_status : (i : ℕ) (b : Bool) → N.ids ≡ b → status_at N c i ≡ 0
-  no_status i true e = ap (λ (k : Core). status_in k i) (first.ids e) ∙ zeros_at T i
+  no_status i true e = ap (λ (k : Core). status_in k i) ((first.ids e).2) ∙ zeros_at T i
   no_status i false e =
       let none : ◌≡◌ {A = ℕ} (if N.ids then 1 else 0) 0 = ap (λ (b : Bool). if b then 1 else 0) e in
       let same : printer_core N ≡ ids_core N = omega arith in
@@ -101,23 +102,27 @@ module _ (P : Program) (codes : Codes) (N : Numbers) (T : ℕ) (spreads : List S
     waits = nobody_waits 0 (sum_by (λ (o : BarrierObject). o.length) P.barriers) d;
   }
 
-  rests : (i : ℕ) → Rests P codes N T spreads chain c i (local_of (start P) i) (slot_at_start P codes i)
+  rests : (i : ℕ) → Rests P codes N T spreads chain c i (local_of (start P) i) (slots i)
   rests zero =
+      let q = slots 0 in
       inl (record {
         starts =
-            subst (λ x. Starts P codes x P.main 0 (slot_at_start P codes 0).variables (slot_at_start P codes 0).arrays) (sym main_runs)
-            (code_follows P codes P.main R.main.code R R.main.found (coded.lowered 0 P.main refl) coded.planned (slot_at_start P codes 0).variables
-            (slot_at_start P codes 0).arrays []
-            (subst (λ o. HasArguments o (slot_at_start P codes 0).variables []) (sym coded.main) tt));
-        state = refl;
-        granted = λ k. refl;
+            subst (λ f. Starts P codes (local_of (start P) 0) f q.stage q.variables q.arrays) (sym (fresh 0).routine)
+            (subst (λ l. Starts P codes (local_of (start P) 0) P.main l q.variables q.arrays) (sym (fresh 0).stage)
+            (subst (λ x. Starts P codes x P.main 0 q.variables q.arrays) (sym main_runs)
+            (code_follows P codes P.main R.main.code R R.main.found (coded.lowered 0 P.main refl) coded.planned q.variables q.arrays []
+            (subst (λ o. HasArguments o q.variables []) (sym coded.main) tt))));
+        state = (fresh 0).state;
+        granted = (fresh 0).granted;
       })
   rests (suc i) =
-      inr (Idle (omega arith) refl at_rest (none_runs ids_number i) (λ e. absurd (let z = no_status (suc i) N.ids refl in omega arith)))
+      inr (Idle (omega arith) (fresh (suc i)).routine at_rest (none_runs ids_number i) (λ e. absurd (let z = no_status (suc i) N.ids refl in omega (arith, z, e))))
     where
-      at_rest : (slot_at_start P codes (suc i)).stage ≡ rest_of codes (routine_of P (suc i))
-      at_rest = ap (λ (b : Bool). if b then 0 else rest_of codes (routine_of P (suc i))) (other_is (suc i) 0 (λ e. absurd (omega arith)))
+      at_rest : (slots (suc i)).stage ≡ rest_of codes (slots (suc i)).routine
+      at_rest =
+          (fresh (suc i)).stage ∙ ap (λ (b : Bool). if b then 0 else rest_of codes (routine_of P (suc i))) (other_is (suc i) 0 (λ e. absurd (omega arith)))
+          ∙ ap (rest_of codes) (sym (fresh (suc i)).routine)
 
 pub threads_start : (P : Program) (codes : Codes) (N : Numbers) (T : ℕ) (spreads : List Spread) (chain : ℕ → ℕ → ℕ) → ThreadsStart P codes N T spreads chain
-threads_start P codes N T spreads chain R numbers counts coded c first =
-    record { stands = stands P codes N T spreads chain R counts coded c first; rests = rests P codes N T spreads chain R counts coded c first }
+threads_start P codes N T spreads chain R numbers counts coded c first slots fresh =
+    record { stands = stands P codes N T spreads chain R counts coded c first slots fresh; rests = rests P codes N T spreads chain R counts coded c first slots fresh }

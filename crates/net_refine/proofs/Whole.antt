@@ -29,12 +29,12 @@ use Rattle.bank_memory.specs.Memory.{place_at}
 use Rattle.bank_memory.proofs.Partitioned.{global_there, long_as_global}
 use Rattle.net_cycle.specs.Built.{Parts, Machine, IsBuilt, numbers_of, core_machine, core_count}
 use Rattle.net_cycle.specs.Stage.{Stage, held, printed_now}
-use Rattle.net_refine.specs.Follows.{machine_of_thread, TurnsBeats, first_machine, next_machine, machine_after, printed_after, IsFull, Changes, Counted, none, counts, passes}
-use Rattle.net_refine.specs.Follows.{HasElement, Matches, Follows, MachineFollows}
+use Rattle.net_refine.specs.Follows.{machine_of_thread, TurnsBeats, next_machine, machine_from, printed_from, IsFull, Changes, Counted, none, counts, passes}
+use Rattle.net_refine.specs.Follows.{HasElement, IsFirst, MatchesFrom, FollowsFrom, MachineFollows, MachineFollowsFrom}
 use Rattle.net_refine.proofs.Clock as clock
 use Rattle.net_refine.proofs.Clock.{cycled, next, moves, is_full, same_slots}
 use Rattle.net_refine.proofs.Beats.{move_changes, kept_agrees}
-use Rattle.net_refine.proofs.First.{begin}
+use Rattle.net_refine.proofs.First.{begin, is_first}
 use Rattle.net_refine.proofs.Seen.{program}
 
 -- an element that is there is below its row's length
@@ -51,7 +51,7 @@ element_within (row ∷ rows) (d ∷ gs) (suc x) j v g e at there =
     let tail : map length rows ≡ map (λ (z : GlobalVariable). z.length) gs = cc in
     element_within rows gs x j v g tail at there
 
-module _ (P : Program) (K : Parts) (built : IsBuilt P K) (beats : TurnsBeats K) where
+module _ (P : Program) (K : Parts) (built : IsBuilt P K) (beats : TurnsBeats K) (first : Stage P K) (is : IsFirst P K first) where
   abbrev after_choices : Stage P K → List Choice → Stage P K
   after_choices = run_after (next P K built)
 
@@ -131,10 +131,10 @@ module _ (P : Program) (K : Parts) (built : IsBuilt P K) (beats : TurnsBeats K) 
       by true e = absurd (same (i, lt, move_changes P K built h c i lt e))
       by false e = e
 
-  still_of : (h : Stage P K) (c : Choice) → (Changes K h.net c → ⊥) → is_still (program P K built) h c
+  still_of : (h : Stage P K) (c : Choice) → (Changes K h.net c → ⊥) → is_still (program P K built first is) h c
   still_of h c same = same_slots P K built h c (unchanged h c same)
 
-  moves_where : (h : Stage P K) (c : Choice) → (is_still (program P K built) h c → ⊥) → Changes K h.net c
+  moves_where : (h : Stage P K) (c : Choice) → (is_still (program P K built first is) h c → ⊥) → Changes K h.net c
   moves_where h c goes_on = by (any_below (moves P K built h c) K.threads) refl
     where
       quiet : any_below (moves P K built h c) K.threads ≡ false → (i : ℕ) → i < K.threads → moves P K built h c i ≡ false
@@ -152,28 +152,20 @@ module _ (P : Program) (K : Parts) (built : IsBuilt P K) (beats : TurnsBeats K) 
     meaning : IsSameMeaning P
     meaning = same_meaning P built.resolved
 
-    abbrev first : Stage P K
-    first = (begin P K built).stage
-
     abbrev ShowsThere : List ℕ → Stage P K → ℕ → Type 0
-    ShowsThere = Shows (c_source P) (program P K built).views K.threads (bound P) (is_full P K built) (is_still (program P K built))
+    ShowsThere = Shows (c_source P) (program P K built first is).views K.threads (bound P) (is_full P K built) (is_still (program P K built first is))
 
-    one : FollowsOne (next P K built) (clock.counts P K built) (is_still (program P K built)) ShowsThere first choices
-    one = planned_runs (program P K built) (meaning.good.1 good) choices
+    one : FollowsOne (next P K built) (clock.counts P K built) (is_still (program P K built first is)) ShowsThere first choices
+    one = planned_runs (program P K built first is) (meaning.good.1 good) choices
 
     abbrev run_at : ℕ → Stage P K
     run_at n = after_choices first (take n choices)
 
-    same_net : (n : ℕ) → (run_at n).net ≡ machine_after K (take n choices)
-    same_net n =
-        net_after first (take n choices)
-        ∙ ap (λ (m : Machine K). run K.threads (core_count K) (machine_of_thread K) (core_machine K) m (take n choices)) (begin P K built).net
+    same_net : (n : ℕ) → (run_at n).net ≡ machine_from K first.net (take n choices)
+    same_net n = net_after first (take n choices)
 
-    same_out : (n : ℕ) → (run_at n).out ≡ printed_after K (take n choices)
-    same_out n =
-        out_after first (take n choices)
-        ∙ ap₂ (λ (o : List ℕ) (m : Machine K). o ++ outputs K.threads (core_count K) (machine_of_thread K) (core_machine K) (printer_core (numbers_of K)) m (take n choices))
-        (begin P K built).out (begin P K built).net
+    same_out : (n : ℕ) → (run_at n).out ≡ printed_from K first.net (take n choices)
+    same_out n = out_after first (take n choices) ∙ ap (λ (o : List ℕ). o ++ printed_from K first.net (take n choices)) is.out
 
     -- how many of the first n choices count
     abbrev count_at : ℕ → ℕ
@@ -182,8 +174,8 @@ module _ (P : Program) (K : Parts) (built : IsBuilt P K) (beats : TurnsBeats K) 
     goes : (n : ℕ) (L : List ℕ) (s : ShowsThere L (run_at n) (count_at n)) →
         (s.state.ended ≡ true)
         ⊎ (IsDeadlocked P s.state
-        ⊎ (((c : Choice) → IsFull K c → Changes K (machine_after K (take n choices)) c)
-        × ((k : ℕ) → Counted K (first_machine K) (take n choices) k → k / bound P ≤ length L + K.threads)))
+        ⊎ (((c : Choice) → IsFull K c → Changes K (machine_from K first.net (take n choices)) c)
+        × ((k : ℕ) → Counted K first.net (take n choices) k → k / bound P ≤ length L + K.threads)))
     goes n L s =
         ⊎_elim
         (λ ended. inl ended)
@@ -191,13 +183,13 @@ module _ (P : Program) (K : Parts) (built : IsBuilt P K) (beats : TurnsBeats K) 
         (λ free. inr (
           (λ c full. subst (λ (z : Machine K). Changes K z c) (same_net n)
               (moves_where (run_at n) c (free.0 c (same_is c.mask (2 ^ K.threads - 1) full)))),
-          (λ k count. subst (λ m. m / bound P ≤ length L + K.threads) (sym (counted (first_machine K) (take n choices) k count first (begin P K built).net)) free.1),
+          (λ k count. subst (λ m. m / bound P ≤ length L + K.threads) (sym (counted first.net (take n choices) k count first refl)) free.1),
         )) runs))
         s.goes_on
 
     -- where it is ended the banks have the globals
     elements : (n : ℕ) (L : List ℕ) (s : ShowsThere L (run_at n) (count_at n)) → s.state.ended ≡ true → (x j : ℕ) →
-        HasElement P K (machine_after K (take n choices)) s.state.globals x j
+        HasElement P K (machine_from K first.net (take n choices)) s.state.globals x j
     elements n L s ended x j t ty v listed typed there =
         let g = global_there P K.threads K.spreads K.banks built.banked x t listed in
         let long = long_as_global P K.threads K.spreads K.banks built.banked x t g.0 listed g.1 in
@@ -207,7 +199,7 @@ module _ (P : Program) (K : Parts) (built : IsBuilt P K) (beats : TurnsBeats K) 
         ∙ ap (residue_of (width_of ty)) (s.globals ended (place_at x j) ∙ ap (λ (o : Option ℤ). unwrap_or o (pos 0)) there))
 
     matches : (n : ℕ) (L : List ℕ) → ShowsThere L (run_at n) (count_at n) →
-        Matches P K (machine_after K (take n choices)) (printed_after K (take n choices)) L (take n choices)
+        MatchesFrom P K first.net (machine_from K first.net (take n choices)) (printed_from K first.net (take n choices)) L (take n choices)
     matches n L s = record {
       state = s.state;
       after_ = (meaning.reached L s.state).0 s.reached;
@@ -217,7 +209,7 @@ module _ (P : Program) (K : Parts) (built : IsBuilt P K) (beats : TurnsBeats K) 
       progress = goes n L s;
     }
 
-    follows : Follows P K choices
+    follows : FollowsFrom P K first.net choices
     follows = record {
       interleaving = one.interleaving;
       steps = one.taken;
@@ -227,4 +219,8 @@ module _ (P : Program) (K : Parts) (built : IsBuilt P K) (beats : TurnsBeats K) 
     }
 
 pub machine_follows : MachineFollows
-machine_follows P K built beats good choices = follows P K built beats good choices
+machine_follows P K built beats good choices =
+    subst (λ (m : Machine K). FollowsFrom P K m choices) (begin P K built).net (follows P K built beats (begin P K built).stage (is_first P K built) good choices)
+
+pub machine_follows_from : MachineFollowsFrom
+machine_follows_from P K built beats good first is choices = follows P K built beats first is good choices

@@ -7,7 +7,9 @@ use Rattle.hls_ints.specs.Types.{IntegerType, width_of}
 use Rattle.c_program.specs.Tree.{Program}
 use Rattle.c_program.specs.Weight.{bound}
 use Rattle.thread_semantics.specs.Memory.{element}
-use Rattle.thread_semantics.specs.State.{State}
+use Rattle.thread_semantics.specs.State.{State, start}
+use Rattle.race_model.specs.Source.{memory_of}
+use Rattle.interleaving.specs.Memory.{Location}
 use Rattle.thread_semantics.specs.Step.{Steps, after, IsDeadlocked}
 use Rattle.thread_semantics.specs.Races.{IsGood}
 use Rattle.bank_partition.specs.declared.banks.Spread.{Spread}
@@ -15,12 +17,13 @@ use Rattle.verilog_meaning.specs.Readings.{Reading, next_reading}
 use Rattle.verilog_meaning.specs.Cycles.{Choice}
 use Rattle.circuit.specs.Modules.{Obeys, Agree}
 use Rattle.circuit.specs.Machines.{ThreadMachine}
-use Rattle.circuit.specs.Wiring.{stepped, run, outputs, start}
+use Rattle.circuit.specs.Wiring.{stepped, run, outputs, start as begun}
 use Rattle.leaf_machine.specs.Leaves.{leaf_thread}
 use Rattle.block_ir.specs.Asked.{printer_core}
 use Rattle.bank_memory.specs.Partition.{globals_of}
 use Rattle.net_cycle.specs.Built.{Parts, Machine, numbers_of, core_machine, core_count, IsBuilt}
-use Rattle.net_cycle.specs.Stage.{held}
+use Rattle.net_cycle.specs.Stage.{Stage, cores_shown, held}
+use Rattle.net_refine.specs.Start.{AreFirst, IsFresh}
 
 module _ (K : Parts) where
   abbrev pub machine_of_thread : ℕ → ThreadMachine
@@ -35,16 +38,23 @@ module _ (K : Parts) where
   -- ---- runs
 
   abbrev pub first_machine : Machine K
-  first_machine = start K.threads (core_count K) machine_of_thread (core_machine K)
+  first_machine = begun K.threads (core_count K) machine_of_thread (core_machine K)
 
   abbrev pub next_machine : Machine K → Choice → Machine K
   next_machine h c = stepped K.threads (core_count K) machine_of_thread (core_machine K) c h
 
+  -- from a state
+  abbrev pub machine_from : Machine K → List Choice → Machine K
+  machine_from h choices = run K.threads (core_count K) machine_of_thread (core_machine K) h choices
+
+  abbrev pub printed_from : Machine K → List Choice → List ℕ
+  printed_from h choices = outputs K.threads (core_count K) machine_of_thread (core_machine K) (printer_core (numbers_of K)) h choices
+
   abbrev pub machine_after : List Choice → Machine K
-  machine_after choices = run K.threads (core_count K) machine_of_thread (core_machine K) first_machine choices
+  machine_after choices = machine_from first_machine choices
 
   abbrev pub printed_after : List Choice → List ℕ
-  printed_after choices = outputs K.threads (core_count K) machine_of_thread (core_machine K) (printer_core (numbers_of K)) first_machine choices
+  printed_after choices = printed_from first_machine choices
 
   -- ---- counted choices
 
@@ -70,8 +80,15 @@ module _ (P : Program) (K : Parts) where
       (s : Spread) (ty : IntegerType) (v : ℤ) → slice_get K.spreads x ≡ Some s → slice_get (globals_of P) x ≡ Some ty → element values x j ≡ Some v →
       slice_index (held P K h (s.first + j % s.count)).words (j / s.count) ≡ residue_of (width_of ty) v
 
-  -- after these choices the machine, with out printed, is where these steps lead
-  pub record Matches (h : Machine K) (out steps : List ℕ) (choices : List Choice) : Type 0 where
+  -- a stage at which the program may begin: its memory has the first values of the globals, the cores are what they begin with, and no thread has moved
+  pub record IsFirst (first : Stage P K) : Type 0 where
+    pub out : first.out ≡ []
+    pub slots : (i : ℕ) → IsFresh P K.codes i (first.slots i)
+    pub memory : (l : Location) → first.memory l ≡ memory_of (start P).globals l
+    pub cores : AreFirst P (numbers_of K) K.threads (cores_shown P K first.net first.out)
+
+  -- from a state, after these choices the machine, with out printed, is where these steps lead
+  pub record MatchesFrom (from h : Machine K) (out steps : List ℕ) (choices : List Choice) : Type 0 where
     pub state : State
     pub after_ : after P steps ≡ Steps state
     pub printed : out ≡ state.output
@@ -79,17 +96,28 @@ module _ (P : Program) (K : Parts) where
     pub globals : state.ended ≡ true → (x j : ℕ) → HasElement h state.globals x j
     pub progress : (state.ended ≡ true)
         ⊎ (IsDeadlocked P state
-        ⊎ (((c : Choice) → IsFull K c → Changes K h c) × ((n : ℕ) → Counted K (first_machine K) choices n → n / bound P ≤ length steps + K.threads)))
+        ⊎ (((c : Choice) → IsFull K c → Changes K h c) × ((n : ℕ) → Counted K from choices n → n / bound P ≤ length steps + K.threads)))
+
+  abbrev pub Matches : Machine K → List ℕ → List ℕ → List Choice → Type 0
+  Matches = MatchesFrom (first_machine K)
 
   -- one interleaving, of which each moment of the run has a beginning that matches it
-  pub record Follows (choices : List Choice) : Type 0 where
+  pub record FollowsFrom (from : Machine K) (choices : List Choice) : Type 0 where
     pub interleaving : List ℕ
     pub steps : ℕ → ℕ
     pub rises : (n : ℕ) → steps n ≤ steps (suc n)
-    pub rests : (n : ℕ) (c : Choice) → slice_get choices n ≡ Some c → (Changes K (machine_after K (take n choices)) c → ⊥) → steps (suc n) ≡ steps n
+    pub rests : (n : ℕ) (c : Choice) → slice_get choices n ≡ Some c → (Changes K (machine_from K from (take n choices)) c → ⊥) → steps (suc n) ≡ steps n
     pub matches : (n : ℕ) → n ≤ length choices →
-        Matches (machine_after K (take n choices)) (printed_after K (take n choices)) (take (steps n) interleaving) (take n choices)
+        MatchesFrom from (machine_from K from (take n choices)) (printed_from K from (take n choices)) (take (steps n) interleaving) (take n choices)
+
+  abbrev pub Follows : List Choice → Type 0
+  Follows = FollowsFrom (first_machine K)
 
 -- THE MACHINE FOLLOWS: what is built of a good program follows it, whatever the choices
 abbrev pub MachineFollows : Type 0
 MachineFollows = (P : Program) (K : Parts) → IsBuilt P K → TurnsBeats K → IsGood P → (choices : List Choice) → Follows P K choices
+
+-- THE MACHINE FOLLOWS FROM EACH FRESH STATE: whatever the variables and arrays of threads hold, and whatever words banks keep for them
+abbrev pub MachineFollowsFrom : Type 0
+MachineFollowsFrom =
+    (P : Program) (K : Parts) → IsBuilt P K → TurnsBeats K → IsGood P → (first : Stage P K) → IsFirst P K first → (choices : List Choice) → FollowsFrom P K first.net choices

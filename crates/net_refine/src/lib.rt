@@ -1,9 +1,10 @@
 //! The law of the whole: the machine of a program of T threads, and so the net that is wired of its parts, follows the program.
 #![tactic(auto)]
 
-ghost use Rattle.net_refine.specs.Follows.{MachineFollows};
+ghost use Rattle.net_refine.specs.Follows.{MachineFollows, MachineFollowsFrom};
 ghost use Rattle.net_refine.specs.Start.{ThreadsStart, ThreadsArePlanned};
 ghost use Rattle.net_refine.specs.Whole.{NetFollows};
+ghost use Rattle.net_refine.specs.From.{NetFollowsFrom};
 
 /// Before the first cycle the cores stand for the state at the start, and each thread rests.
 pub fn threads_start()
@@ -19,11 +20,13 @@ pub fn threads_are_planned()
 /// has printed, is ended where it is done, has taken steps by a count of cycles, and in the end has the globals of the
 /// banks.
 pub fn machine_follows()
-    ensures { MachineFollows }
+    ensures follows { MachineFollows }
+    ensures from_fresh { MachineFollowsFrom }
 {}
 
 /// The net that is wired of a program's parts has exactly one settled valuation in each state for each choice, and a run for
 /// every list of choices; and if the program is good, the net follows one interleaving of it under each of them.
 pub fn refine()
-    ensures { NetFollows }
+    ensures follows { NetFollows }
+    ensures from_fresh { NetFollowsFrom }
 {}
