@@ -31,3 +31,14 @@ pub mod Sites
 pub mod SiteScope
 pub mod Defined
 pub mod Recursion
+pub mod Headers
+pub mod Uses
+pub mod UseFindings
+pub mod UseScope
+pub mod ThreadUses
+pub mod Numbering
+pub mod Creations
+pub mod CreateScope
+pub mod Givings
+pub mod Seconds
+pub mod ThreadRule

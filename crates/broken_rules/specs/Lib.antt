@@ -3,3 +3,4 @@ pub mod Parts
 pub mod Formats
 pub mod Breaks
 pub mod Laws
+pub mod ThreadLaws

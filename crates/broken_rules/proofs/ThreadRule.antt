@@ -9,9 +9,9 @@ use Rattle.c_resolution.specs.Resolving.{IsFirstFault, behind, routines_given}
 use Rattle.broken_rules.specs.Breaks.{Breaks}
 use Rattle.broken_rules.specs.Laws.{IsNotBehind}
 use Rattle.broken_rules.proofs.Orders.{IsReached, reached_second, first_of_two}
-use Rattle.broken_threads.specs.Laws.{fault_at, fault_of_creates, IsOfFewNames, FaultsAreBrokenOfFewNames, BrokenAreFaultsOfFewNames}
-use Rattle.broken_threads.proofs.Judged as j
-use Rattle.broken_threads.proofs.Seconds.{second_sound, second_complete}
+use Rattle.broken_rules.specs.ThreadLaws.{fault_at, fault_of_creates, IsOfFewNames, FaultsAreBrokenOfFewNames, BrokenAreFaultsOfFewNames}
+use Rattle.broken_rules.proofs.ThreadUses as j
+use Rattle.broken_rules.proofs.Seconds.{second_sound, second_complete}
 
 sound_by : (tree : TranslationUnit) (at : ℕ) (few : IsOfFewNames tree) (h : IsFirstFault tree (Some (fault_at at))) →
     (h.calls ≡ Some (fault_at at)) ⊎ (fault_of_creates tree ≡ Some (fault_at at)) → Breaks tree rule.Threads at

@@ -19,10 +19,10 @@ use Rattle.broken_rules.proofs.Orders.{IsReached, first_of_two}
 use Rattle.broken_rules.proofs.Ledgers.{Entered}
 use Rattle.broken_rules.proofs.Firsts.{first_is_reached}
 use Rattle.broken_rules.proofs.Constants.{any_contains, contains_any}
-use Rattle.broken_threads.specs.Laws.{fault_at, fault_of_creates, IsAlone, FaultsAreBrokenAlone, BrokenAloneAreFaults}
-use Rattle.broken_threads.proofs.Uses as q
-use Rattle.broken_threads.proofs.Uses.{BreaksAt, IsRun, IsExit, use_ledger}
-use Rattle.broken_threads.proofs.UseScope.{text_uses}
+use Rattle.broken_rules.specs.ThreadLaws.{fault_at, fault_of_creates, IsAlone, FaultsAreBrokenAlone, BrokenAloneAreFaults}
+use Rattle.broken_rules.proofs.Uses as q
+use Rattle.broken_rules.proofs.Uses.{BreaksAt, IsRun, IsExit, use_ledger}
+use Rattle.broken_rules.proofs.UseScope.{text_uses}
 
 -- ---- a first fault that is none of calls was found in the parts, or in the creates
 

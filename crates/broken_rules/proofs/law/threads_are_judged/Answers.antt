@@ -1,5 +1,5 @@
-use Rattle.broken_threads.proofs.Whole.{threads_sound, threads_complete}
-use Rattle.broken_threads.proofs.law.threads_are_judged.Goals as goal
+use Rattle.broken_rules.proofs.ThreadRule.{threads_sound, threads_complete}
+use Rattle.broken_rules.proofs.law.threads_are_judged.Goals as goal
 
 pub returns-clause-sound : goal.returns-clause-sound
 returns-clause-sound c = threads_sound

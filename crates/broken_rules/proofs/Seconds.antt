@@ -32,14 +32,14 @@ use Rattle.broken_rules.proofs.Orders.{IsReached}
 use Rattle.broken_rules.proofs.Ledgers.{Entered}
 use Rattle.broken_rules.proofs.Walks.{is_thread, is_thread_base}
 use Rattle.broken_rules.proofs.Defined.{noted_defined, defined_noted}
-use Rattle.broken_threads.specs.Laws.{fault_at, fault_of_creates, IsOfFewNames}
-use Rattle.broken_threads.proofs.Numbering.{is_thread_declared, thread_by, threads_of, first_index, one_name}
-use Rattle.broken_threads.proofs.Creations as c
-use Rattle.broken_threads.proofs.Creations.{cap, real, Has, of_option, creation, made, create_ledger}
-use Rattle.broken_threads.proofs.Creations.{sites, site_of, object_number, thread_number, definition_number, routine_number, IsBounded, index_of}
-use Rattle.broken_threads.proofs.CreateScope as s
-use Rattle.broken_threads.proofs.CreateScope.{all_names, text_threads, text_creates, text_tables}
-use Rattle.broken_threads.proofs.Givings.{real_given, first_in, free_at, AllBelow, Second, faults_from, faults_reached}
+use Rattle.broken_rules.specs.ThreadLaws.{fault_at, fault_of_creates, IsOfFewNames}
+use Rattle.broken_rules.proofs.Numbering.{is_thread_declared, thread_by, threads_of, first_index, one_name}
+use Rattle.broken_rules.proofs.Creations as c
+use Rattle.broken_rules.proofs.Creations.{cap, real, Has, of_option, creation, made, create_ledger}
+use Rattle.broken_rules.proofs.Creations.{sites, site_of, object_number, thread_number, definition_number, routine_number, IsBounded, index_of}
+use Rattle.broken_rules.proofs.CreateScope as s
+use Rattle.broken_rules.proofs.CreateScope.{all_names, text_threads, text_creates, text_tables}
+use Rattle.broken_rules.proofs.Givings.{real_given, first_in, free_at, AllBelow, Second, faults_from, faults_reached}
 
 -- ---- how many names there are
 

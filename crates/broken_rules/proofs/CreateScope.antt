@@ -56,9 +56,9 @@ use Rattle.broken_rules.proofs.NameScope as n
 use Rattle.broken_rules.proofs.NameScope.{IsMeant}
 use Rattle.broken_rules.proofs.TwiceScope.{same_none, inner_same}
 use Rattle.broken_rules.proofs.Quiets as q
-use Rattle.broken_threads.proofs.Numbering.{is_thread_declared, thread_by, threads_of, first_index, threads_both, first_new, new_below}
-use Rattle.broken_threads.proofs.Creations as c
-use Rattle.broken_threads.proofs.Creations.{cap, create_ledger, Stands, Level, Levels, Numbered, Num, num_none, num_or}
+use Rattle.broken_rules.proofs.Numbering.{is_thread_declared, thread_by, threads_of, first_index, threads_both, first_new, new_below}
+use Rattle.broken_rules.proofs.Creations as c
+use Rattle.broken_rules.proofs.Creations.{cap, create_ledger, Stands, Level, Levels, Numbered, Num, num_none, num_or}
 
 -- ---- thread objects that no create names
 

@@ -13,9 +13,9 @@ use Rattle.c_rules.specs.Names.{or_else}
 use Rattle.c_resolution.specs.Routines as r
 use Rattle.c_resolution.specs.Routines.{Given, next_given}
 use Rattle.broken_rules.proofs.Orders.{IsReached, reached_first, reached_new, first_of_two}
-use Rattle.broken_threads.specs.Laws.{fault_at}
-use Rattle.broken_threads.proofs.Creations.{cap, real, real_one}
-use Rattle.broken_threads.proofs.CreateScope.{AllFree}
+use Rattle.broken_rules.specs.ThreadLaws.{fault_at}
+use Rattle.broken_rules.proofs.Creations.{cap, real, real_one}
+use Rattle.broken_rules.proofs.CreateScope.{AllFree}
 
 -- ---- tables of thread objects
 

@@ -44,7 +44,7 @@ use Rattle.broken_rules.proofs.Walks.{IsParameter, IsUsual, is_thread}
 use Rattle.broken_rules.proofs.Sights.{Agrees, Sees, sees, MeansIn}
 use Rattle.broken_rules.proofs.Quiets as q
 use Rattle.broken_rules.proofs.Quiets.{IsFound}
-use Rattle.broken_threads.proofs.Numbering.{first_index}
+use Rattle.broken_rules.proofs.Numbering.{first_index}
 
 -- the number that stands for a misused object
 abbrev pub cap : ℕ

@@ -1,5 +1,5 @@
-use Rattle.broken_threads.proofs.Judged.{uses_sound, uses_complete}
-use Rattle.broken_threads.proofs.law.thread_uses_are_judged.Goals as goal
+use Rattle.broken_rules.proofs.ThreadUses.{uses_sound, uses_complete}
+use Rattle.broken_rules.proofs.law.thread_uses_are_judged.Goals as goal
 
 pub returns-clause-sound : goal.returns-clause-sound
 returns-clause-sound c = uses_sound

@@ -30,9 +30,9 @@ use Rattle.broken_rules.proofs.Ledgers.{Ledger, Good, good_pure, good_before}
 use Rattle.broken_rules.proofs.Walks.{IsParameter}
 use Rattle.broken_rules.proofs.Sights.{Agrees, Sees, sees, MeansIn, header_in}
 use Rattle.broken_rules.proofs.Naming.{no_parameter, not_function}
-use Rattle.broken_threads.proofs.Headers.{main_is, main_back, routine_is, routine_back, pointer_is, pointer_back}
-use Rattle.broken_threads.proofs.Uses as q
-use Rattle.broken_threads.proofs.Uses.{IsRun, IsExit, IsPointer, BreaksAt, MayExit, use_ledger}
+use Rattle.broken_rules.proofs.Headers.{main_is, main_back, routine_is, routine_back, pointer_is, pointer_back}
+use Rattle.broken_rules.proofs.Uses as q
+use Rattle.broken_rules.proofs.Uses.{IsRun, IsExit, IsPointer, BreaksAt, MayExit, use_ledger}
 
 not_library : (f : LibraryFunction) (m : Meaning) → known.Library f ≡ known.Declared m → ⊥
 not_library f m h = cc

@@ -51,10 +51,10 @@ use Rattle.broken_rules.proofs.Calls.{no_creates}
 use Rattle.broken_rules.proofs.Functions.{text_is}
 use Rattle.broken_rules.proofs.NameScope as n
 use Rattle.broken_rules.proofs.NameScope.{IsMeant}
-use Rattle.broken_threads.proofs.Uses as q
-use Rattle.broken_threads.proofs.Uses.{use_ledger}
-use Rattle.broken_threads.proofs.Naming as m
-use Rattle.broken_threads.proofs.Naming.{BodyIs, Stands}
+use Rattle.broken_rules.proofs.Uses as q
+use Rattle.broken_rules.proofs.Uses.{use_ledger}
+use Rattle.broken_rules.proofs.UseFindings as m
+use Rattle.broken_rules.proofs.UseFindings.{BodyIs, Stands}
 
 others : (r : Rule) (at : ℕ) → IsOther r → Good use_ledger (finds r at) []
 others rule.Kind at h = q.other rule.Kind at (λ j. j)

@@ -34,7 +34,7 @@ use Rattle.broken_rules.specs.Breaks.{StandsFor, IsMain, IsStartRoutine, IsThrea
 use Rattle.broken_rules.specs.Parts.{Part, Parts}
 use Rattle.broken_rules.proofs.Orders.{IsReached, reached_first, reached_new, first_from}
 use Rattle.broken_rules.proofs.Ledgers.{Ledger, Entered, Good, good_pure, good_then, good_before, good_with, nothing_new}
-use Rattle.broken_threads.specs.Laws.{fault_at}
+use Rattle.broken_rules.specs.ThreadLaws.{fault_at}
 
 -- ---- what is judged here
 
