@@ -23,7 +23,7 @@ use Rattle.bank_cores.specs.declared.bank.Shape.{Shape}
 use Rattle.bank_cores.specs.Bank.{asks, operations, addresses, values, grants, kept, none, reads, address_chain, address, value_chain, value, store_chain, stores, word, takes, next, offers, tells}
 use Rattle.bank_cores.specs.Bank.{rows, store_under, memory_of, IsShape, IsBank}
 use Rattle.bank_cores.specs.Machine.{Words, Ask, ask_of, begun, bank_machine, bank_places, Shows, part_place, inputs, is_late}
-use Rattle.core_turns.proofs.Edges.{register_after-append, word_after-append, sets_after, sets_words, sets_print, tested, both_bits, a_bit, read_bit, each_joined, each_spread}
+use Rattle.circuit.proofs.Edges.{register_after-append, word_after-append, sets_after, sets_words, sets_print, tested, both_bits, a_bit, read_bit, each_joined, each_spread}
 use Rattle.bank_cores.proofs.Effects.{first_word, read_is, each_kept, each_word, sized_after, each_after, if_same, no_bytes}
 
 none_printed : (shape : Shape) (s : Words) (f : ℕ → Ask) (o : Option ℕ) → [] ≡ printed (bank_machine shape) s f o

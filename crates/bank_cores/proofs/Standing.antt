@@ -26,7 +26,7 @@ use Rattle.bank_cores.specs.declared.bank.Shape.{Shape}
 use Rattle.bank_cores.specs.Bank.{asks, operations, addresses, values, grants, kept, none, reads, address_chain, address, value_chain, value, store_chain, stores, word, takes, next, offers, tells}
 use Rattle.bank_cores.specs.Bank.{rows, store_under, statements, memory_of, IsShape, IsBank}
 use Rattle.bank_cores.specs.Machine.{inputs, input_widths, output_widths, is_late}
-use Rattle.core_turns.proofs.Edges.{each_joined, each_spread, among}
+use Rattle.circuit.proofs.Edges.{each_joined, each_spread, among}
 use Rattle.bank_cores.proofs.Naming.{memory_apart}
 use Rattle.bank_cores.proofs.Banking.{bank_leaf}
 

@@ -27,7 +27,7 @@ use Rattle.barrier_cores.specs.Barrier.{operation_chain, operation, count_chain,
 use Rattle.barrier_cores.specs.Barrier.{others, given, fresh, next, next_count, offers, tells}
 use Rattle.barrier_cores.specs.Barrier.{rows, IsShape, IsBarrier}
 use Rattle.barrier_cores.specs.Machine.{Ask, ask_of, begun, barrier_machine, barrier_places, Shows, part_place, inputs, is_late}
-use Rattle.core_turns.proofs.Edges.{sets_after, sets_print, tested, both_bits, a_bit, each_spread}
+use Rattle.circuit.proofs.Edges.{sets_after, sets_print, tested, both_bits, a_bit, each_spread}
 use Rattle.barrier_cores.proofs.Effects.{offered, own_number, summed, bit_joined, after_bit, after_count, after_sized}
 
 none_printed : (n : ℕ) (s : Gate) (f : ℕ → Ask) (o : Option ℕ) → [] ≡ printed (barrier_machine n) s f o

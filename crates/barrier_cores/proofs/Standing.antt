@@ -17,7 +17,7 @@ use Rattle.circuit.specs.Rows.{EachOf, set_at}
 use Rattle.circuit.specs.Modules.{IsLeaf}
 use Rattle.circuit.specs.Interfaces.{IsTableModule}
 use Rattle.circuit.proofs.Growth.{length-laid, slice_get-spread}
-use Rattle.core_turns.proofs.Edges.{each_spread}
+use Rattle.circuit.proofs.Edges.{each_spread}
 use Rattle.circuit.proofs.Tables.{EachRow, IsListed, all_listed, by_signals, has}
 use Rattle.circuit.proofs.Forming.{ActsOnData, IsFormed, IsFormedMemory}
 use Rattle.circuit.proofs.TableModules.{table_module}

@@ -10,7 +10,7 @@ use Rattle.core_states.specs.Machines.{total_of, with_waiter, gate_eligible}
 use Rattle.core_states.proofs.Keeping.{passers_stay}
 use Rattle.barrier_cores.specs.Barrier.{waiting, count}
 use Rattle.barrier_cores.specs.Laws.{OthersStay, FullClears, WaitSetsOwn, BarriersWait}
-use Rattle.core_turns.proofs.Spreads.{spread_is}
+use Rattle.circuit.proofs.Spreads.{spread_is}
 
 pub others_stay : OthersStay
 others_stay = record {

@@ -1,6 +1,6 @@
 -- What a granted request does to the bits of a barrier, and who waits for a grant.
 use Rattle.std.specs.Prelude.{◌≡◌, ◌≢◌, ℕ, ◌<◌, ◌≤◌, length, slice_index}
-use Rattle.core_turns.specs.Turns.{WaitsForAsks}
+use Rattle.circuit.specs.Turns.{WaitsForAsks}
 use Rattle.core_states.specs.Machines.{Gate, total_of, with_waiter, gate_after}
 use Rattle.barrier_cores.specs.Machine.{barrier_machine, barrier_places}
 

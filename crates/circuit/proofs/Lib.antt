@@ -7,6 +7,8 @@ pub mod Fitting
 pub mod TableModules
 pub mod RowModules
 pub mod Chains
+pub mod Edges
+pub mod Spreads
 pub mod Arbitration
 pub mod Widths
 pub mod Within

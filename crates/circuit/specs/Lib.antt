@@ -3,6 +3,7 @@ pub mod Modules
 pub mod Interfaces
 pub mod Arbitration
 pub mod Machines
+pub mod Turns
 pub mod Nets
 pub mod Wiring
 pub mod Staging

@@ -3,8 +3,8 @@ use Rattle.std.proofs.Common.{◌+◌, length, Some, None, refl, ap, arith}
 use Rattle.std.specs.Prelude.{nat_lt}
 use Rattle.circuit.specs.Rows.{spread}
 use Rattle.circuit.proofs.Growth.{length-spread}
-use Rattle.core_turns.specs.Turns.{WaitsForAsks}
-use Rattle.core_turns.proofs.Spreads.{spread_is}
+use Rattle.circuit.specs.Turns.{WaitsForAsks}
+use Rattle.circuit.proofs.Spreads.{spread_is}
 use Rattle.bank_cores.specs.declared.bank.Shape.{Shape as BankShape}
 use Rattle.bank_cores.specs.Bank.{kept}
 use Rattle.bank_cores.specs.Machine.{bank_machine, bank_places}

@@ -10,7 +10,7 @@ use Rattle.std.proofs.lemmas.List.{get_or_past}
 use Rattle.hls_ints.specs.Residues.{bit_of}
 use Rattle.verilog_meaning.specs.Readings.{or_zero}
 use Rattle.circuit.specs.Rows.{EachOf}
-use Rattle.core_turns.proofs.Edges.{tested}
+use Rattle.circuit.proofs.Edges.{tested}
 use Rattle.core_states.specs.Machines.{IdTable}
 
 pub first_word : (xs : List ℕ) (k : ℕ) → or_zero (slice_get xs k) ≡ slice_index xs k

@@ -25,7 +25,7 @@ use Rattle.fork_join_cores.specs.Forks.{may_create, may_join, others, may, numbe
 use Rattle.fork_join_cores.specs.Forks.{target, value_chain, value, argument_chain, argument, create_chain, create, offers, tells, handed}
 use Rattle.fork_join_cores.specs.Forks.{rows, store_under, status_memory, argument_memory, IsShape, IsForks}
 use Rattle.fork_join_cores.specs.Machine.{Ask, ask_of, begun, forks_machine, forks_places, Shows, part_place, told_place, inputs, is_late}
-use Rattle.core_turns.proofs.Edges.{a_bit}
+use Rattle.circuit.proofs.Edges.{a_bit}
 use Rattle.fork_join_cores.proofs.Effects.{first_word, read_is, if_same, no_bytes, each_zero, by_test, offered, kept_by, stored, target_of, status_of, after_statuses}
 use Rattle.fork_join_cores.proofs.Effects.{after_arguments, after_sized, after_each}
 

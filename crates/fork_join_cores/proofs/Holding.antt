@@ -3,7 +3,7 @@ use Rattle.std.proofs.Common.{ap, arith}
 use Rattle.std.specs.Prelude.{◌&&◌, nat_lt}
 use Rattle.circuit.specs.Rows.{spread}
 use Rattle.circuit.proofs.Growth.{length-spread}
-use Rattle.core_turns.proofs.Spreads.{spread_is}
+use Rattle.circuit.proofs.Spreads.{spread_is}
 use Rattle.core_states.specs.Machines.{ids_eligible}
 use Rattle.fork_join_cores.specs.Laws.{ForksWait}
 

@@ -4,7 +4,7 @@ use Rattle.netlist.specs.declared.netlist.Module.{Module}
 use Rattle.verilog_meaning.specs.Readings.{Reading, next_reading}
 use Rattle.circuit.specs.Modules.{Obeys, Agree}
 use Rattle.circuit.specs.Machines.{Grants, IsCore, after_grant}
-use Rattle.core_turns.specs.Turns.{WaitsForAsks}
+use Rattle.circuit.specs.Turns.{WaitsForAsks}
 use Rattle.core_states.specs.Machines.{IdTable, ids_tell}
 use Rattle.fork_join_cores.specs.declared.forks.Shape.{Shape}
 use Rattle.fork_join_cores.specs.Machine.{Ask, forks_machine, forks_places, told_place, Shows}

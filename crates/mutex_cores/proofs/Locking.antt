@@ -24,7 +24,7 @@ use Rattle.mutex_cores.specs.Mutex.{chain, next, offers}
 use Rattle.mutex_cores.specs.Mutex.{first_word, rows, IsShape, IsMutex}
 use Rattle.mutex_cores.specs.Machine.{Ask, ask_of, mutex_machine, mutex_places, first_lock, word_of_lock, Shows, part_place, inputs, is_late}
 use Rattle.mutex_cores.proofs.Locks.{is_taken, word_if, first_is, offered}
-use Rattle.core_turns.proofs.Edges.{one_after, tested, both_bits, a_bit}
+use Rattle.circuit.proofs.Edges.{one_after, tested, both_bits, a_bit}
 
 none_printed : (shape : Shape) (s : Lock) (f : ℕ → Ask) (o : Option ℕ) → [] ≡ printed (mutex_machine shape) s f o
 none_printed shape s f None = refl

@@ -1,6 +1,6 @@
 -- Laws of the machine of a mutex.
 use Rattle.std.specs.Prelude.{◌≡◌, ℕ, true, false}
-use Rattle.core_turns.specs.Turns.{WaitsForAsks}
+use Rattle.circuit.specs.Turns.{WaitsForAsks}
 use Rattle.core_states.specs.Machines.{Lock, Unset, Free, Owned, is_owned}
 use Rattle.mutex_cores.specs.declared.mutex.Shape.{Shape}
 use Rattle.mutex_cores.specs.Machine.{Ask, mutex_machine, mutex_places}

@@ -11,7 +11,7 @@ use Rattle.verilog_meaning.specs.Cycles.{Path, Valuation, Choice, module_at, IsR
 use Rattle.verilog_meaning.specs.Threads.{Place, Depends, HasThread, IsChoice, IsThreaded, slot}
 use Rattle.circuit.specs.Modules.{Obeys}
 use Rattle.circuit.specs.Machines.{CoreMachine, ThreadMachine}
-use Rattle.core_turns.specs.Turns.{WaitsForAsks}
+use Rattle.circuit.specs.Turns.{WaitsForAsks}
 use Rattle.circuit.specs.Wiring.{NetPlaces, IsNet, PrintsAlone}
 use Rattle.leaf_machine.specs.Steady.{KeepsToItself, Stays}
 

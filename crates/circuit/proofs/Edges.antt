@@ -3,10 +3,10 @@ use Rattle.std.proofs.Common.{◌≡◌, ℕ, zero, suc, ◌+◌, ◌<◌, List,
 use Rattle.std.proofs.Common.{refl, sym, ap, ◌∙◌, subst, arith, add-zero, zero-add}
 use Rattle.std.specs.Prelude.{not, ◌&&◌}
 use Rattle.std.proofs.lemmas.Bool.Decides.{nat_tests}
-use Rattle.circuit.specs.Residues.{bit_of}
-use Rattle.circuit.specs.Action.{Action}
-use Rattle.circuit.specs.Module.{Module}
-use Rattle.circuit.specs.Readings.{Reading, is_on, set_by, stored_by, register_after, word_after, action_bytes}
+use Rattle.verilog_meaning.specs.Residues.{bit_of}
+use Rattle.netlist.specs.declared.netlist.Action.{Action}
+use Rattle.netlist.specs.declared.netlist.Module.{Module}
+use Rattle.verilog_meaning.specs.Readings.{Reading, is_on, set_by, stored_by, register_after, word_after, action_bytes}
 use Rattle.circuit.specs.Rows.{EachOf, spread, set_at, sets}
 
 pub register_after-append : (r : Reading) (xs ys : List Action) (k old : ℕ) → register_after r (xs ++ ys) k old ≡ register_after r ys k (register_after r xs k old)

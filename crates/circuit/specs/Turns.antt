@@ -1,6 +1,6 @@
 -- A core offers nothing to a thread that asks nothing.
 use Rattle.std.specs.Prelude.{◌≡◌, ℕ, ◌<◌, false}
-use Rattle.circuit.specs.Readings.{Reading}
+use Rattle.verilog_meaning.specs.Readings.{Reading}
 use Rattle.circuit.specs.Machines.{CoreMachine, CorePlaces}
 
 -- each reading shows a state, and nothing is offered to whom the first part of an ask is 0
