@@ -5,7 +5,7 @@ use Rattle.std.proofs.lemmas.List.{length-replicate}
 use Rattle.netlist.specs.declared.netlist.Module.{Module}
 use Rattle.circuit.specs.Rows.{EachOf, set_at, sets}
 use Rattle.circuit.proofs.Edges.{each_joined, each_spread}
-use Rattle.core_ports.specs.Standing.{IsSilent}
+use Rattle.leaf_machine.specs.Standing.{IsSilent}
 use Rattle.fork_join_cores.specs.declared.forks.Shape.{Shape as ForksShape}
 use Rattle.bank_cores.specs.Bank as bank
 use Rattle.barrier_cores.specs.Barrier as barrier

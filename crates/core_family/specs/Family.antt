@@ -19,7 +19,7 @@ use Rattle.fork_join_cores.specs.Machine as forks
 use Rattle.print_core.specs.declared.printer.Shape.{Shape as PrinterShape}
 use Rattle.print_core.specs.Printer.{IsPrinter}
 use Rattle.print_core.specs.Machine as printer
-use Rattle.core_ports.specs.Ports.{CorePort}
+use Rattle.leaf_machine.specs.Ports.{CorePort}
 
 -- a bank of a global, a mutex, a barrier, the core of the thread ids, the printer
 pub data CoreShape : Type 0 where

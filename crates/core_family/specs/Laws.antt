@@ -3,7 +3,7 @@ use Rattle.std.specs.Prelude.{◌≡◌, ◌≢◌, ℕ, ◌^◌, ◌<◌, List,
 use Rattle.netlist.specs.declared.netlist.Module.{Module}
 use Rattle.circuit.specs.Rows.{EachOf}
 use Rattle.circuit.specs.Turns.{WaitsForAsks}
-use Rattle.core_ports.specs.Standing.{IsSilent}
+use Rattle.leaf_machine.specs.Standing.{IsSilent}
 use Rattle.print_core.specs.declared.printer.Shape.{Shape as PrinterShape}
 use Rattle.core_family.specs.Family.{CoreShape, Bank, Barrier, Forks, Prints, machine_of, places_of, machine_at, port_of, ask_width, told_width, IsCoreModule}
 

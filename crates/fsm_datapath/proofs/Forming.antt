@@ -41,7 +41,7 @@ use Rattle.thread_slots.specs.Services.{service_of, services, number_width}
 use Rattle.thread_slots.specs.declared.shape.Shape.{Shape}
 use Rattle.thread_slots.specs.Bits.{AreBitsOf}
 use Rattle.thread_slots.specs.Slots.{StandsAt}
-use Rattle.core_ports.specs.Ports.{asks_of, thread_outputs}
+use Rattle.leaf_machine.specs.Ports.{asks_of, thread_outputs}
 use Rattle.thread_layout.specs.Row.{Row}
 use Rattle.thread_layout.specs.Outputs.{CopiesAt, rows_at, fields_from}
 use Rattle.thread_slots.specs.Wired.{field_width, IsNoMemory, IsInnerInput, IsSlotRegister}

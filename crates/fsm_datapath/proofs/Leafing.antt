@@ -17,7 +17,7 @@ use Rattle.circuit.specs.Modules.{HasInput, FitsAction, FitsMemory, Reads, IsSou
 use Rattle.circuit.proofs.Tables.{fits_among}
 use Rattle.hls_ints.specs.Types.{width_of}
 use Rattle.leaf_machine.specs.Settled.{IsUnclocked}
-use Rattle.core_ports.specs.Ports.{CorePort, asks_of, ask_place, told_of, told_place, thread_outputs}
+use Rattle.leaf_machine.specs.Ports.{CorePort, asks_of, ask_place, told_of, told_place, thread_outputs}
 use Rattle.thread_layout.specs.Early.{spread_out}
 use Rattle.leaf_machine.specs.Leaves.{Heard, Clock, Enable, Grant, Told, IsHeard, HasHeard, IsClockless, IsEarly, AnswersAreLate, IsSlotBit}
 use Rattle.module_sound.specs.Grades.{IsOperand, IsGradedSource, AreGrades, ActsRight, IsPort, IsSlotPort}

@@ -17,7 +17,7 @@ use Rattle.netlist.specs.declared.netlist.Module.{Module}
 use Rattle.circuit.specs.Rows.{EachOf}
 use Rattle.circuit.specs.Modules.{Has}
 use Rattle.leaf_machine.specs.Standing.{IsSilent}
-use Rattle.core_ports.specs.Ports.{asks_of, told_of, thread_inputs, thread_outputs, IsRoutineModule}
+use Rattle.leaf_machine.specs.Ports.{asks_of, told_of, thread_inputs, thread_outputs, IsRoutineModule}
 use Rattle.module_sound.specs.Grades.{ActsRight}
 use Rattle.thread_promise.specs.Globals.{bank_total}
 use Rattle.thread_slots.specs.Services.{news_widths}

@@ -5,7 +5,7 @@ use Rattle.std.specs.Prelude.{replicate}
 use Rattle.std.proofs.lemmas.Bool.{cases_lt, le-ltb, lt-ltb}
 use Rattle.std.proofs.lemmas.List.{map-append}
 use Rattle.leaf_machine.specs.Leaves.{Told}
-use Rattle.core_ports.specs.Ports.{CorePort, told_of, told_place}
+use Rattle.leaf_machine.specs.Ports.{CorePort, told_of, told_place}
 use Rattle.thread_slots.specs.declared.shape.Served.{Served}
 use Rattle.thread_slots.specs.declared.shape.Service.TheVariants as kind
 use Rattle.thread_slots.specs.Services.{services, if_ids, news_widths}

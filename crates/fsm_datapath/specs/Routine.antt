@@ -4,7 +4,7 @@ use Rattle.verilog_tree.specs.Scope.{is_clk}
 use Rattle.block_ir.specs.declared.code.ThreadCode.{ThreadCode}
 use Rattle.block_ir.specs.declared.plan.Planned.{Planned}
 use Rattle.netlist.specs.declared.netlist.Module.{Module}
-use Rattle.core_ports.specs.Ports.{IsRoutineModule}
+use Rattle.leaf_machine.specs.Ports.{IsRoutineModule}
 use Rattle.thread_slots.specs.declared.shape.Shape.{Shape}
 use Rattle.thread_layout.specs.Leaf.{leaf_of}
 use Rattle.thread_layout.specs.Modules.{IsModule}

@@ -6,7 +6,7 @@ use Rattle.netlist.specs.declared.netlist.Module.{Module}
 use Rattle.circuit.specs.Rows.{EachOf}
 use Rattle.circuit.specs.Modules.{FitsMemory}
 use Rattle.leaf_machine.specs.Leaves.{IsThreadLeaf, IsSlotBit}
-use Rattle.core_ports.specs.Ports.{CorePort, asks_of, thread_outputs}
+use Rattle.leaf_machine.specs.Ports.{CorePort, asks_of, thread_outputs}
 use Rattle.module_sound.specs.Grades.{AreGrades, ActsRight, IsPort, IsSlotPort}
 use Rattle.module_sound.specs.Kinds.{IsPlaced}
 use Rattle.module_sound.specs.Sounds.{AreRightMemories, BeginsWithClock, IsSoundAlone}

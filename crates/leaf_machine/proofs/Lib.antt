@@ -2,3 +2,4 @@ pub mod Settling
 pub mod Edges
 pub mod Leaves
 pub mod Example
+mod Parts

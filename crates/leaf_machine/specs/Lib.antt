@@ -3,6 +3,7 @@ pub mod Leaves
 pub mod Example
 pub mod Standing
 pub mod Steady
+pub mod Ports
 pub use Rattle.circuit.specs.Interfaces
 pub use Rattle.circuit.specs.Rows
 pub use Rattle.circuit.specs.Modules

@@ -1,8 +1,9 @@
-// The laws of leaf modules. Each function takes and answers nothing: its contract is the law.
+// The laws of leaf modules, and of where cores are asked. Each function takes and answers nothing: its contract is the law.
 
 ghost use Rattle.leaf_machine.specs.Settled.{EarlyIsDecided, StateSettles};
 ghost use Rattle.leaf_machine.specs.Leaves.{LeafIsThread, LeafKeepsSlots, LeafIsDone};
 ghost use Rattle.leaf_machine.specs.Example.{ExampleIsLeaf};
+ghost use Rattle.leaf_machine.specs.Ports.{PartsStand};
 
 /// In a leaf module the state and the inputs that are not late decide each signal that is not late, and every state
 /// settles.
@@ -12,9 +13,10 @@ pub fn leaf_settles()
 {}
 
 /// A module with a thread's ports, whose asks no answer of a core reaches and whose need the slot alone tells, is that of a
-/// thread.
+/// thread. There are such modules: one that asks while it is enabled, until it is granted.
 pub fn leaf_is_thread()
-    ensures { LeafIsThread }
+    ensures thread { LeafIsThread }
+    ensures example { ExampleIsLeaf }
 {}
 
 /// Its steps lead from states to states, each through a reading that the module obeys; and where the slot tells whether
@@ -24,7 +26,7 @@ pub fn leaf_keeps_slots()
     ensures done { LeafIsDone }
 {}
 
-/// There are such modules: one that asks while it is enabled, until it is granted.
-pub fn example_is_leaf()
-    ensures { ExampleIsLeaf }
+/// Number j of what core k is asked stands where `ask_place` says, among those of all cores.
+pub fn parts_stand()
+    ensures { PartsStand }
 {}

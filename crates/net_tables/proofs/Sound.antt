@@ -12,7 +12,7 @@ use Rattle.top_wiring.specs.Sound.{AreSound}
 use Rattle.lists.proofs.Places.{get_there}
 use Rattle.bank_cores.specs.Bank.{bank_name}
 use Rattle.core_layout.specs.Mutex.{mutex_name}
-use Rattle.core_ports.specs.Ports as port
+use Rattle.leaf_machine.specs.Ports as port
 use Rattle.core_layout.specs.Family.{CoreShape, Bank, Mutex, Barrier, Forks, Prints, IsTable, IsCoreModule, input_widths, output_widths}
 use Rattle.net_tables.specs.Tables.{PlacedCore, Table, HasCores, layout_of, modules_of, ports_of}
 use Rattle.net_tables.specs.Laws.{IsLow}

@@ -19,7 +19,7 @@ use Rattle.top_wiring.specs.Parts.{ask_widths, told_widths, thread_outputs}
 use Rattle.top_wiring.specs.Ports.{thread_inputs}
 use Rattle.lists.proofs.Places.{get_there}
 use Rattle.top_wiring.proofs.Lists.{flat_map_back}
-use Rattle.core_ports.specs.Ports as port
+use Rattle.leaf_machine.specs.Ports as port
 use Rattle.core_layout.specs.Family.{CoreShape, machine_of, machine_at, port_of}
 use Rattle.core_layout.proofs.Printing.{each_fits}
 use Rattle.net_tables.specs.Tables.{PlacedCore, Table, kinds_at, laid_core, layout_of, shapes_of, ports_of}

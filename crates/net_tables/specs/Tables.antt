@@ -9,7 +9,7 @@ use Rattle.circuit.specs.Arbitration.{Arbitrates}
 use Rattle.bank_arbiter.specs.Arbiter as arbiter
 use Rattle.top_parts.specs.declared.layout.Core.{Core}
 use Rattle.top_parts.specs.declared.layout.Layout.{Layout}
-use Rattle.core_ports.specs.Ports.{CorePort}
+use Rattle.leaf_machine.specs.Ports.{CorePort}
 use Rattle.core_layout.specs.Family.{CoreShape, Bank, Mutex, Barrier, Forks, Prints, port_of, IsCoreModule}
 use Rattle.core_layout.specs.Fits.{core_of}
 

@@ -3,7 +3,7 @@ use Rattle.std.proofs.Common.{◌≡◌, ℕ, List, [], ◌∷◌, map, true, fa
 use Rattle.std.specs.Prelude.{codes}
 use Rattle.bank_cores.specs.declared.bank.Shape.{Shape as BankShape}
 use Rattle.mutex_cores.specs.declared.mutex.Shape.{Shape as MutexShape}
-use Rattle.core_ports.specs.Ports.{CorePort, asks_of, told_of, ask_place, told_place}
+use Rattle.leaf_machine.specs.Ports.{CorePort, asks_of, told_of, ask_place, told_place}
 use Rattle.net_tables.specs.Family.{port_of}
 use Rattle.net_tables.specs.Tables.{PlacedCore}
 use Rattle.placed_cores.specs.declared.wanted.Wanted.{Wanted}

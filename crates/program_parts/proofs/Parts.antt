@@ -19,7 +19,7 @@ use Rattle.verilog_meaning.specs.Cycles.{module_at}
 use Rattle.verilog_meaning.specs.Threads.{slot, IsThreaded}
 use Rattle.leaf_machine.specs.Leaves.{IsSlotBit, IsThreadLeaf}
 use Rattle.leaf_machine.specs.Steady.{IsSteadyThread, IsSteadyMain}
-use Rattle.core_ports.specs.Ports.{CorePort, IsRoutineModule}
+use Rattle.leaf_machine.specs.Ports.{CorePort, IsRoutineModule}
 use Rattle.routine_plans.specs.Family.{CoreShape, machine_at, port_of}
 use Rattle.net_grants.specs.Tables.{PlacedCore, Table, IsArbiterModule, shapes_of}
 use Rattle.net_grants.specs.Tables as table

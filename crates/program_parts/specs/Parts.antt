@@ -14,7 +14,7 @@ use Rattle.verilog_meaning.specs.Cycles.{module_at}
 use Rattle.verilog_meaning.specs.Threads.{slot, IsThreaded}
 use Rattle.leaf_machine.specs.Leaves.{LeafPorts, IsThreadLeaf, IsSlotBit}
 use Rattle.leaf_machine.specs.Steady.{IsSteadyThread, IsSteadyMain}
-use Rattle.core_ports.specs.Ports.{CorePort, IsRoutineModule}
+use Rattle.leaf_machine.specs.Ports.{CorePort, IsRoutineModule}
 use Rattle.routine_plans.specs.Family.{machine_at, port_of}
 use Rattle.program_cores.specs.Wanted.{Wanted}
 use Rattle.program_cores.specs.Placing.{cores_of}

@@ -5,7 +5,7 @@ use Rattle.c_program.specs.Tree.{Program}
 use Rattle.verilog_tree.specs.declared.tree.Net.{Net}
 use Rattle.netlist.specs.declared.netlist.Netlist.{Netlist}
 use Rattle.leaf_machine.specs.Leaves.{IsSlotBit, IsThreadLeaf}
-use Rattle.core_ports.specs.Ports.{CorePort, IsRoutineModule}
+use Rattle.leaf_machine.specs.Ports.{CorePort, IsRoutineModule}
 use Rattle.net_tables.specs.Family.{CoreShape, Bank, Mutex, Barrier, Forks, Prints, machine_at, port_of}
 use Rattle.net_tables.specs.Tables.{PlacedCore, Table, layout_of, modules_of, shapes_of, ports_of}
 use Rattle.net_tables.specs.Laws.{ThreadStands}

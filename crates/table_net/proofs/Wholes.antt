@@ -15,7 +15,7 @@ use Rattle.circuit.specs.Interfaces.{IsTableModule}
 use Rattle.leaf_machine.specs.Standing.{IsSilent}
 use Rattle.block_ir.specs.Asked.{ids_core, printer_core}
 use Rattle.table_refine.proofs.Partitioned.{bank_is, count_low}
-use Rattle.core_ports.specs.Ports as port
+use Rattle.leaf_machine.specs.Ports as port
 use Rattle.net_tables.specs.Family.{CoreShape, Bank, Mutex, Barrier, Forks, Prints}
 use Rattle.net_tables.specs.Tables.{PlacedCore, Table, HasCores, IsNarrow, IsArbiterModule, shapes_of, ports_of}
 use Rattle.net_tables.specs.Laws.{SameOf, IsLow, StandOnce, HasPrinter}

@@ -3,7 +3,7 @@ use Rattle.std.specs.Prelude.{◌≡◌, ℕ, ◌<◌, ◌≤◌, List, length, 
 use Rattle.c_program.specs.Tree.{Program}
 use Rattle.netlist.specs.declared.netlist.Module.{Module}
 use Rattle.block_ir.specs.Asked.{mutex_core, barrier_core}
-use Rattle.core_ports.specs.Ports.{IsRoutineModule}
+use Rattle.leaf_machine.specs.Ports.{IsRoutineModule}
 use Rattle.net_tables.specs.Family.{CoreShape, Bank, Mutex, Barrier, Forks, Prints}
 use Rattle.net_tables.specs.Tables.{PlacedCore, Table, IsArbiterModule, HasModule, shapes_of, ports_of}
 use Rattle.net_tables.specs.Whole.{IsThreadName, KindsStandOnce, IsWholeTable}

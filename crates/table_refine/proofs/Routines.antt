@@ -9,7 +9,7 @@ use Rattle.circuit.specs.Interfaces.{first_of}
 use Rattle.lists.proofs.Places.{get_front, get_mapped, copies_there}
 use Rattle.top_wiring.proofs.Lists.{get_behind, get_flat_map}
 use Rattle.leaf_machine.specs.Leaves.{LeafPorts}
-use Rattle.core_ports.specs.Ports.{CorePort, asks_of, told_of, ask_place, told_place, thread_inputs, thread_outputs, IsRoutineModule}
+use Rattle.leaf_machine.specs.Ports.{CorePort, asks_of, told_of, ask_place, told_place, thread_inputs, thread_outputs, IsRoutineModule}
 use Rattle.net_tables.specs.Family.{CoreShape, machine_of, port_of, ask_width, told_width}
 use Rattle.net_tables.proofs.Printing.{each_fits}
 use Rattle.net_refine.specs.Built.{Parts, FitsCores, cores_of, core_at, core_count, core_machine, IsThreadModule, thread_at, numbers_of}

@@ -18,7 +18,7 @@ use Rattle.top_wiring.specs.Ports.{threads, cores}
 use Rattle.top_wiring.specs.Wired.{IsWired}
 use Rattle.bank_arbiter.specs.Arbiter as arbiter
 use Rattle.leaf_machine.specs.Leaves.{leaf_places, IsSlotBit, IsThreadLeaf}
-use Rattle.core_ports.specs.Ports.{CorePort, IsRoutineModule}
+use Rattle.leaf_machine.specs.Ports.{CorePort, IsRoutineModule}
 use Rattle.net_tables.specs.Family.{CoreShape, Bank, Mutex, Barrier, Forks, Prints, port_of, machine_at, places_at}
 use Rattle.net_tables.specs.Tables.{PlacedCore, Table, kinds_at, laid_core, layout_of, modules_of, shapes_of}
 use Rattle.net_tables.specs.Tables as table

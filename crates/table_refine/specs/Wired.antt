@@ -7,7 +7,7 @@ use Rattle.netlist.specs.declared.netlist.Module.{Module}
 use Rattle.netlist.specs.declared.netlist.Netlist.{Netlist}
 use Rattle.verilog_meaning.specs.Follows.{IsDetermined, FollowsAlways}
 use Rattle.leaf_machine.specs.Leaves.{LeafPorts, IsThreadLeaf, IsSlotBit}
-use Rattle.core_ports.specs.Ports.{CorePort, IsRoutineModule}
+use Rattle.leaf_machine.specs.Ports.{CorePort, IsRoutineModule}
 use Rattle.net_tables.specs.Family.{port_of}
 use Rattle.top_wiring.specs.Wired.{IsWired}
 use Rattle.net_tables.specs.Tables.{Table, layout_of, modules_of, shapes_of}

@@ -9,7 +9,7 @@ use Rattle.netlist.specs.declared.netlist.Module.{Module}
 use Rattle.block_ir.specs.Asked.{Numbers, printer_core}
 use Rattle.leaf_machine.specs.Leaves.{Heard, Clock, Enable, Grant, Told, LeafPorts, IsHeard, IsPorted, AnswersAreLate, IsSlotBit, IsThreadLeaf}
 use Rattle.leaf_machine.specs.Steady.{IsSteadyThread, IsSteadyMain}
-use Rattle.core_ports.specs.Ports.{CorePort, IsRoutineModule}
+use Rattle.leaf_machine.specs.Ports.{CorePort, IsRoutineModule}
 use Rattle.core_family.specs.Family.{Bank, Mutex, Prints, machine_at, port_of}
 use Rattle.placed_cores.specs.declared.wanted.Wanted.{Wanted}
 use Rattle.placed_cores.specs.Placing as placing

@@ -8,7 +8,7 @@ use Rattle.c_program.specs.Tree.{Program}
 use Rattle.bank_partition.specs.declared.banks.Spread.{Spread}
 use Rattle.bank_cores.specs.declared.bank.Shape.{Shape as BankShape}
 use Rattle.mutex_cores.specs.declared.mutex.Shape.{Shape as MutexShape}
-use Rattle.core_ports.specs.Ports.{CorePort}
+use Rattle.leaf_machine.specs.Ports.{CorePort}
 use Rattle.core_family.specs.Family.{CoreShape, Bank, Mutex, Barrier, Forks, Prints, machine_at, machine_of, port_of}
 use Rattle.core_family.proofs.Printing.{each_fits}
 use Rattle.placed_cores.specs.declared.wanted.Wanted.{Wanted}

@@ -14,7 +14,7 @@ use Rattle.verilog_meaning.specs.Readings.{Reading, width}
 use Rattle.circuit.specs.Modules.{Obeys}
 use Rattle.thread_promise.specs.Globals.{bank_total}
 use Rattle.block_datapath.specs.declared.registers.Held.{Held}
-use Rattle.core_ports.specs.Ports.{CorePort, told_place}
+use Rattle.leaf_machine.specs.Ports.{CorePort, told_place}
 use Rattle.thread_slots.specs.declared.shape.Served.{Served}
 use Rattle.thread_slots.specs.declared.shape.Service.{Service as Kind}
 use Rattle.thread_slots.specs.declared.shape.Service.TheVariants as kind

@@ -37,7 +37,7 @@ use Rattle.thread_slots.specs.Requests.{group}
 use Rattle.thread_slots.specs.Services.{service_of, services, number_width, value_count}
 use Rattle.thread_slots.specs.Hearing.{IsHeard}
 use Rattle.thread_requests.specs.Early.{act_count, held_width, spread_out}
-use Rattle.core_ports.specs.Ports.{asks_of, thread_outputs}
+use Rattle.leaf_machine.specs.Ports.{asks_of, thread_outputs}
 use Rattle.thread_layout.specs.Thread.{cores_of, inputs_of, bank_port, act_port, core_ports, first_output, port_at, need_at, done_at, IsServed}
 use Rattle.thread_slots.proofs.Laying.{stands_later}
 use Rattle.thread_layout.proofs.Insides.{heard_widths, widths_same}

@@ -25,7 +25,7 @@ use Rattle.thread_slots.specs.declared.shape.Service.{Service as Kind}
 use Rattle.thread_slots.specs.Services.{service_of, services, numbers_with, core_count, news_widths, number_width, value_count}
 use Rattle.thread_slots.specs.declared.shape.Shape.{Shape}
 use Rattle.circuit.specs.Interfaces.{first_of}
-use Rattle.core_ports.specs.Ports.{CorePort, asks_of, ask_place, thread_outputs}
+use Rattle.leaf_machine.specs.Ports.{CorePort, asks_of, ask_place, thread_outputs}
 use Rattle.thread_requests.specs.Early.{spread_out}
 use Rattle.thread_asks.specs.Fields.{IsTypedActOperand}
 use Rattle.thread_states.specs.Acts.{IsTypedArgument}

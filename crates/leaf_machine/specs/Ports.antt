@@ -2,8 +2,8 @@
 use Rattle.std.specs.Prelude.{◌≡◌, ℕ, ◌+◌, ◌<◌, true, List, [], ◌∷◌, ◌++◌, length, take, replicate, Some, slice_get}
 use Rattle.std.specs.List.{flat_map}
 use Rattle.netlist.specs.declared.netlist.Module.{Module}
-use Rattle.leaf_machine.specs.Rows.{EachOf}
-use Rattle.leaf_machine.specs.Interfaces.{first_of, IsTableModule}
+use Rattle.circuit.specs.Rows.{EachOf}
+use Rattle.circuit.specs.Interfaces.{first_of, IsTableModule}
 use Rattle.leaf_machine.specs.Leaves.{LeafPorts}
 use Rattle.leaf_machine.specs.Standing.{IsSilent}
 

@@ -1,7 +1,7 @@
 -- Where parts of asks stand.
 use Rattle.std.proofs.Common.{◌≡◌, zero, suc, ◌+◌, ◌<◌, [], ◌∷◌, ◌++◌, length, take, slice_get, refl, ap, ◌∙◌, arith, length-append}
 use Rattle.lists.proofs.Places.{get_right, get_left}
-use Rattle.core_ports.specs.Ports.{CorePort, asks_of, ask_place, PartsStand}
+use Rattle.leaf_machine.specs.Ports.{CorePort, asks_of, ask_place, PartsStand}
 
 pub parts_there : PartsStand
 parts_there [] k j p e less = absurd cc

@@ -1,2 +1,0 @@
-pub mod Ports
-pub use Rattle.leaf_machine.specs.Standing
