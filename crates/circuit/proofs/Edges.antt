@@ -1,11 +1,14 @@
 -- What an edge leaves behind registers that each take a wire's number, and other statements.
-use Rattle.std.proofs.Common.{◌≡◌, ℕ, zero, suc, ◌+◌, ◌<◌, List, [], ◌∷◌, ◌++◌, slice_get, Some, Bool, true, false, nat_eq, nat_lt, if◌then◌else◌, bit_and}
+use Rattle.std.proofs.Common.{◌≡◌, ℕ, zero, suc, ◌+◌, ◌-◌, ◌<◌, ◌≤◌, List, [], ◌∷◌, ◌++◌, slice_get, Some, Bool, true, false, nat_eq, nat_lt, if◌then◌else◌, bit_and}
 use Rattle.std.proofs.Common.{refl, sym, ap, ◌∙◌, subst, arith, add-zero, zero-add}
 use Rattle.std.specs.Prelude.{not, ◌&&◌}
 use Rattle.std.proofs.lemmas.Bool.Decides.{nat_tests}
 use Rattle.verilog_meaning.specs.Residues.{bit_of}
 use Rattle.netlist.specs.declared.netlist.Action.{Action}
 use Rattle.netlist.specs.declared.netlist.Module.{Module}
+use Rattle.netlist.specs.declared.netlist.Source.TheVariants as source
+use Rattle.netlist.specs.declared.netlist.Effect.TheVariants as effect
+use Rattle.netlist.specs.Sound.{IsSet}
 use Rattle.verilog_meaning.specs.Readings.{Reading, is_on, set_by, stored_by, register_after, word_after, action_bytes}
 use Rattle.circuit.specs.Rows.{EachOf, spread, set_at, sets}
 
@@ -98,3 +101,15 @@ pub among : {X : Type 0} (f : ℕ → X) (i n : ℕ) (ys : List X) (k : ℕ) →
 among f i zero ys k l = absurd (omega arith)
 among f i (suc n) ys zero l = let e : i ≡ i + 0 = omega arith in ap (λ j. Some (f j)) e
 among f i (suc n) ys (suc k) l = let e : i + 1 + k ≡ i + suc k = omega arith in among f (i + 1) n ys k (omega arith) ∙ ap (λ j. Some (f j)) e
+
+-- each register that some statements set one after another is set
+pub set_by_some : (m : Module) (register next c : ℕ) (rest : List Action) → m.actions ≡ sets register next c ++ rest → (x : ℕ) → register ≤ x → x < register + c → (n : ℕ)
+    → IsSet m x (source.Register n)
+set_by_some m register next c rest is x a b n =
+    let k : ℕ = x - register in let l : k < c = omega arith in let z : register + (0 + k) ≡ x = omega arith in (
+      k,
+      set_at register next (0 + k),
+      next + (0 + k),
+      ap (λ (xs : List Action). slice_get xs k) is ∙ among (set_at register next) 0 c rest k l,
+      ap (λ y. effect.Set y (next + (0 + k))) z,
+    )

@@ -1,11 +1,16 @@
 pub mod Growth
 pub mod Tables
+pub mod TableRows
+pub mod TableElements
+pub mod TableSound
 pub mod Filters
 pub mod Forming
 pub mod Places
 pub mod Fitting
 pub mod TableModules
 pub mod RowModules
+pub mod TableModule
+pub mod MemoryNames
 pub mod Chains
 pub mod Edges
 pub mod Spreads

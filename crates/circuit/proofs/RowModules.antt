@@ -29,7 +29,7 @@ use Rattle.circuit.proofs.Forming.{ReadsData, IsFormed}
 -- ---- names
 
 -- what stands behind the first underscore
-abbrev behind_dash : List ℕ → List ℕ
+abbrev pub behind_dash : List ℕ → List ℕ
 behind_dash [] = []
 behind_dash (c ∷ cs) = if nat_eq c 95 then cs else behind_dash cs
 
@@ -49,7 +49,7 @@ number_of role.Told place e = refl
 number_of role.State place e = refl
 number_of role.Wire place e = refl
 
-clock_name : (r : Role) (place : ℕ) → is_clk (name_of r place) ≡ is_clock r
+pub clock_name : (r : Role) (place : ℕ) → is_clk (name_of r place) ≡ is_clock r
 clock_name role.Clock place = refl
 clock_name role.Preference place = refl
 clock_name role.Ask place = refl
@@ -65,7 +65,7 @@ clock_name role.Told place = refl
 clock_name role.State place = refl
 clock_name role.Wire place = refl
 
-abbrev HasRole : ℕ → Signal → Type 0
+abbrev pub HasRole : ℕ → Signal → Type 0
 HasRole x s = (r : Role) × (s.name ≡ name_of r x)
 
 row_roles : (at : ℕ) (rows : List Row) → EachRow HasRole at rows
@@ -79,11 +79,9 @@ mapped f [] i x h = absurd (none-some x h)
 mapped f (a ∷ xs) zero x h = (a, refl, sym (same_Some (f a) x h))
 mapped f (a ∷ xs) (suc i) x h = mapped f xs i x h
 
-module _ (m : Module) (rows : List Row) (is : m.signals ≡ laid 0 rows) (small : length m.signals < 2 ^ 64) (ends : ℕ)
+-- each signal is named by its role and its place
+module _ (m : Module) (role_at : (x : ℕ) (s : Signal) → slice_get m.signals x ≡ Some s → HasRole x s) (small : length m.signals < 2 ^ 64) (ends : ℕ)
     (formed : (x : ℕ) (s : Signal) → slice_get m.signals x ≡ Some s → IsFormed m ends x s) where
-  role_at : (x : ℕ) (s : Signal) → slice_get m.signals x ≡ Some s → HasRole x s
-  role_at = by_signals m rows is HasRole (row_roles 0 rows)
-
   same_number : (b : Bool) (x y : ℕ) (s t : Signal) → slice_get m.signals x ≡ Some s → slice_get m.signals y ≡ Some t → s.name ≡ t.name → nat_eq x 0 ≡ b → x ≡ y
   same_number true x y s t e f q first =
       let other : nat_eq y 0 ≡ true = sym (formed y t f).clock ∙ ap is_clk (sym q) ∙ (formed x s e).clock ∙ first in
@@ -96,19 +94,33 @@ module _ (m : Module) (rows : List Row) (is : m.signals ≡ laid 0 rows) (small 
       decimal_injective x y (omega arith) (omega arith)
       (sym (number_of r.0 x here) ∙ ap behind_dash (sym r.1 ∙ q ∙ p.1) ∙ number_of p.0 y there)
 
-  signals_apart : AreApart (signal_names m)
+  -- no signal but the clock stands at place 0
+  pub not_zero : (x : ℕ) (s : Signal) → slice_get m.signals x ≡ Some s → (y : List ℕ) → s.name ≡ y → behind_dash y ≡ decimal 0 → is_clk y ≡ false → ⊥
+  not_zero x s e y q z other =
+      let r = role_at x s e in
+      let a = slice_get_within m.signals x s e in
+      let here : is_clock r.0 ≡ false = sym (clock_name r.0 x) ∙ ap is_clk (sym r.1 ∙ q) ∙ other in
+      let first : x ≡ 0 = decimal_injective x 0 (omega arith) (omega arith) (sym (number_of r.0 x here) ∙ ap behind_dash (sym r.1 ∙ q) ∙ z) in
+      let clock : nat_eq x 0 ≡ false = sym (formed x s e).clock ∙ ap is_clk q ∙ other in
+      absurd (let t : nat_eq 0 0 ≡ false = ap (λ k. nat_eq k 0) (sym first) ∙ clock in cc)
+
+  pub signals_apart : AreApart (signal_names m)
   signals_apart i j x a b =
       let s = mapped (λ (s : Signal). s.name) m.signals i x a in
       let t = mapped (λ (s : Signal). s.name) m.signals j x b in
       same_number (nat_eq i 0) i j s.0 t.0 s.1 t.1 (sym s.2 ∙ t.2) refl
 
-  pub names_apart : m.memories ≡ [] → m.instances ≡ [] → AreApart (declared_names m)
-  names_apart memories instances =
+  pub roles_apart : m.memories ≡ [] → m.instances ≡ [] → AreApart (declared_names m)
+  roles_apart memories instances =
       let a : memory_names m ≡ [] = ap (map (λ (x : Memory). x.name)) memories in
       let b : instance_names m ≡ [] = ap (map (λ (n : Instance). n.name)) instances in
       let all : declared_names m ≡ signal_names m =
       ap (λ l. signal_names m ++ l ++ instance_names m) a ∙ ap (λ l. signal_names m ++ [] ++ l) b ∙ append-nil (signal_names m ++ []) ∙ append-nil (signal_names m) in
       subst AreApart (sym all) signals_apart
+
+pub names_apart : (m : Module) (rows : List Row) → m.signals ≡ laid 0 rows → length m.signals < 2 ^ 64 → (ends : ℕ)
+    → ((x : ℕ) (s : Signal) → slice_get m.signals x ≡ Some s → IsFormed m ends x s) → m.memories ≡ [] → m.instances ≡ [] → AreApart (declared_names m)
+names_apart m rows is small ends formed = roles_apart m (by_signals m rows is HasRole (row_roles 0 rows)) small ends formed
 
 -- ---- rows
 

@@ -31,11 +31,11 @@ EachRow P at (row.One r w f ∷ rows) = P at (signal_at at r w f 0) × EachRow P
 EachRow P at (row.Each n r w f ∷ rows) = ((k : ℕ) → k < n → P (at + k) (signal_at (at + k) r w f k)) × EachRow P (at + n) rows
 
 -- P of each signal of a list whose first has a place
-abbrev EachFrom : (ℕ → Signal → Type 0) → ℕ → List Signal → Type 0
+abbrev pub EachFrom : (ℕ → Signal → Type 0) → ℕ → List Signal → Type 0
 EachFrom P k [] = Unit {0}
 EachFrom P k (s ∷ signals) = P k s × EachFrom P (k + 1) signals
 
-each_at : (P : ℕ → Signal → Type 0) (k : ℕ) (signals : List Signal) → EachFrom P k signals → (x : ℕ) (s : Signal) → slice_get signals x ≡ Some s → P (k + x) s
+pub each_at : (P : ℕ → Signal → Type 0) (k : ℕ) (signals : List Signal) → EachFrom P k signals → (x : ℕ) (s : Signal) → slice_get signals x ≡ Some s → P (k + x) s
 each_at P k [] e x s q = absurd cc
 each_at P k (t ∷ signals) e zero s q =
     let same : t ≡ s = cc in let z : k ≡ k + 0 = omega arith in
@@ -44,7 +44,7 @@ each_at P k (t ∷ signals) e (suc x) s q =
     let z : k + 1 + x ≡ k + suc x = omega arith in
     subst (λ y. P y s) z (each_at P (k + 1) signals e.1 x s q)
 
-each_from : (P : ℕ → Signal → Type 0) (k : ℕ) (signals : List Signal) → ((x : ℕ) (s : Signal) → slice_get signals x ≡ Some s → P (k + x) s) → EachFrom P k signals
+pub each_from : (P : ℕ → Signal → Type 0) (k : ℕ) (signals : List Signal) → ((x : ℕ) (s : Signal) → slice_get signals x ≡ Some s → P (k + x) s) → EachFrom P k signals
 each_from P k [] h = tt
 each_from P k (s ∷ signals) h =
     let z : k + 0 ≡ k = omega arith in (
@@ -52,20 +52,20 @@ each_from P k (s ∷ signals) h =
       each_from P (k + 1) signals (λ x t e. let y : k + suc x ≡ k + 1 + x = omega arith in subst (λ p. P p t) y (h (suc x) t e)),
     )
 
-EachFrom-append : (P : ℕ → Signal → Type 0) (k : ℕ) (xs ys : List Signal) → EachFrom P k (xs ++ ys) → EachFrom P k xs × EachFrom P (k + length xs) ys
+pub EachFrom-append : (P : ℕ → Signal → Type 0) (k : ℕ) (xs ys : List Signal) → EachFrom P k (xs ++ ys) → EachFrom P k xs × EachFrom P (k + length xs) ys
 EachFrom-append P k [] ys e = let z : k ≡ k + 0 = omega arith in (tt, subst (λ x. EachFrom P x ys) z e)
 EachFrom-append P k (x ∷ xs) ys e =
     let p = EachFrom-append P (k + 1) xs ys e.1 in
     let z : k + 1 + length xs ≡ k + length (x ∷ xs) = omega arith in
     ((e.0, p.0), subst (λ y. EachFrom P y ys) z p.1)
 
-EachFrom-join : (P : ℕ → Signal → Type 0) (k : ℕ) (xs ys : List Signal) → EachFrom P k xs → EachFrom P (k + length xs) ys → EachFrom P k (xs ++ ys)
+pub EachFrom-join : (P : ℕ → Signal → Type 0) (k : ℕ) (xs ys : List Signal) → EachFrom P k xs → EachFrom P (k + length xs) ys → EachFrom P k (xs ++ ys)
 EachFrom-join P k [] ys a b = let z : k + 0 ≡ k = omega arith in subst (λ x. EachFrom P x ys) z b
 EachFrom-join P k (x ∷ xs) ys a b =
     let z : k + length (x ∷ xs) ≡ k + 1 + length xs = omega arith in
     (a.0, EachFrom-join P (k + 1) xs ys a.1 (subst (λ y. EachFrom P y ys) z b))
 
-each-spread : (P : ℕ → Signal → Type 0) (f : ℕ → Signal) (at i n : ℕ) → EachFrom P at (spread f i n) → (k : ℕ) → k < n → P (at + k) (f (i + k))
+pub each-spread : (P : ℕ → Signal → Type 0) (f : ℕ → Signal) (at i n : ℕ) → EachFrom P at (spread f i n) → (k : ℕ) → k < n → P (at + k) (f (i + k))
 each-spread P f at i zero e k l = absurd (omega arith)
 each-spread P f at i (suc n) e zero l =
     let a : at ≡ at + 0 = omega arith in let b : i ≡ i + 0 = omega arith in
@@ -74,7 +74,7 @@ each-spread P f at i (suc n) e (suc k) l =
     let a : at + 1 + k ≡ at + suc k = omega arith in let b : i + 1 + k ≡ i + suc k = omega arith in
     subst (λ x. P x (f (i + suc k))) a (subst (λ j. P (at + 1 + k) (f j)) b (each-spread P f (at + 1) (i + 1) n e.1 k (omega arith)))
 
-spread-each : (P : ℕ → Signal → Type 0) (f : ℕ → Signal) (at i n : ℕ) → ((k : ℕ) → k < n → P (at + k) (f (i + k))) → EachFrom P at (spread f i n)
+pub spread-each : (P : ℕ → Signal → Type 0) (f : ℕ → Signal) (at i n : ℕ) → ((k : ℕ) → k < n → P (at + k) (f (i + k))) → EachFrom P at (spread f i n)
 spread-each P f at i zero h = tt
 spread-each P f at i (suc n) h =
     let a : at + 0 ≡ at = omega arith in let b : i + 0 ≡ i = omega arith in (
@@ -288,6 +288,11 @@ told m r inputs late x w (Assigned v) obeys sound h =
     h v refl ∙ value_plain m r obeys (λ j. slice_get m.memories j) w v
     (fits_among (Reads m late x) (Has m) (λ j. slice_get m.memories j) w v (λ y u i h. h.has) sound)
 told m r inputs late x w (Port i p) obeys sound h = tt
+
+-- of each signal
+pub all_told_at : (m : Module) (inputs : ℕ) (late : ℕ → Bool) → ((x : ℕ) (s : Signal) → slice_get m.signals x ≡ Some s → IsSound m inputs late x s)
+    → (r : Reading) → Obeys m r → (x : ℕ) (s : Signal) → slice_get m.signals x ≡ Some s → Told m r x s
+all_told_at m inputs late sound r obeys x s e = told m r inputs late x s.width s.source obeys (sound x s e) (λ v q. obeys.equations x s v e q)
 
 module _ (m : Module) (rows : List Row) (is : m.signals ≡ laid 0 rows) (inputs : ℕ) (late : ℕ → Bool) (sound : EachRow (IsSound m inputs late) 0 rows) where
   pub all_told : (r : Reading) → Obeys m r → EachRow (Told m r) 0 rows

@@ -5,7 +5,7 @@ use Rattle.netlist.specs.declared.netlist.Source.TheVariants.{Input, Register, A
 use Rattle.netlist.specs.declared.netlist.Signal.{Signal}
 use Rattle.netlist.specs.declared.netlist.Memory.{Memory}
 use Rattle.netlist.specs.declared.netlist.Module.{Module}
-use Rattle.verilog_meaning.specs.Cycles.{Path, Valuation, Choice, Given, choice_number, module_at, instance_at, connected, number_given, IsAt, IsSettledGiven, IsState, IsRegister}
+use Rattle.verilog_meaning.specs.Cycles.{Path, Valuation, Given, choice_number, module_at, instance_at, connected, number_given, IsAt, IsSettledGiven, IsState, IsRegister}
 use Rattle.verilog_meaning.specs.Threads.{Place, Names}
 use Rattle.verilog_meaning.proofs.Settling.{IsDeclared, IsLevelled, seen, solved, solved-signals}
 use Rattle.circuit.specs.Modules.{Has}

@@ -1,4 +1,6 @@
 pub mod Rows
+pub mod Table
+pub mod Fits
 pub mod Modules
 pub mod Interfaces
 pub mod Arbitration

@@ -4,3 +4,4 @@
 
 pub mod law;
 pub mod rows;
+pub mod table;
