@@ -1,19 +1,24 @@
 // The module of a mutex.
 
 ghost use Rattle.std.specs.Prelude.{◌≡◌, ◌≤◌, IfOk};
-ghost use Rattle.circuit.specs.Rows.{laid};
+ghost use Rattle.circuit.specs.Table.{laid};
 ghost use Rattle.circuit.specs.Modules.{IsLeaf};
 ghost use Rattle.circuit.specs.Interfaces.{IsTableModule};
 ghost use Rattle.circuit.specs.Machines.{IsCore};
 ghost use Rattle.mutex_cores.specs.Mutex.{mutex_name, first_word, rows, statements, IsShape, IsMutex};
 ghost use Rattle.mutex_cores.specs.Machine.{mutex_machine, mutex_places, inputs, input_widths, output_widths, is_late};
 
-use circuit::rows::{Form, Operand, Role, Row, lay, sets};
+use circuit::rows::Role::{Ask, Clock, Grant, Offer, Operation, State, Wire};
+use circuit::rows::sets;
+use circuit::table::Form::{Binary, Conditional, Constant, Copy, Count, Input, Output, Register};
+use circuit::table::Operand::{Before, Only, Same};
+use circuit::table::Row::{Chain, Each, One};
+use circuit::table::{Row, lay, place};
 use netlist::netlist::{Action, Module, Signal};
 use sqlite_items::Items;
 use std::alloc::{AllocError, Global};
 use verilog_tree::name::Identifier;
-use verilog_tree::tree::BinaryOperator;
+use verilog_tree::tree::BinaryOperator::{And, Equal, Less};
 
 /// A mutex that so many threads ask, and whether it is initialised at the start.
 #[derive(Clone, Copy)]
@@ -46,8 +51,8 @@ fn table(alloc: Global, shape: &Shape) -> Result<Module, AllocError>
     ensures { IfOk result (IsMutex shape.now) }
 {
     let name = name(alloc, shape.initialised)?;
-    let signals = signals(alloc, shape.threads, first_word(shape.initialised))?;
-    let actions = actions(alloc, shape.threads)?;
+    let signals = signals(alloc, shape.threads, shape.initialised)?;
+    let actions = actions(alloc, shape.threads, shape.initialised)?;
     Ok(Module {
         name,
         signals,
@@ -75,205 +80,81 @@ fn first_word(initialised: bool) -> u64
 }
 
 /// The register takes the number at the end of the chain.
-fn actions(alloc: Global, threads: usize) -> Result<Items<Action>, AllocError>
+fn actions(alloc: Global, threads: usize, initialised: bool) -> Result<Items<Action>, AllocError>
     requires few { threads ≤ 64 }
     ensures { IfOk result (λ actions. actions ≡ statements threads) }
 {
-    let asks = 1;
-    let operations = asks + threads;
-    let grants = operations + threads;
-    let owner = grants + threads;
-    let unset = owner + 1;
-    let free = unset + 1;
-    let lock = free + 1;
-    let destroy = lock + 1;
-    let none = destroy + 1;
-    let owned = none + 1;
-    let locks = owned + 1;
-    let barred = locks + threads;
-    let allowed = barred + threads;
-    let numbers = allowed + threads;
-    let destroys = numbers + threads;
-    let others = destroys + threads;
-    let values = others + threads;
-    let chain = values + threads;
-    let next = chain + threads;
-    sets(alloc, owner, next, 1)
+    let rows = rows(initialised);
+    let owner = place(threads, &rows, OWNER);
+    let chain = place(threads, &rows, CHAIN);
+    sets(alloc, owner, chain + threads, 1)
 }
 
-/// A chain of wires hands on the number that the granted thread's request leaves, else the register's own.
-fn signals(alloc: Global, threads: usize, first: u64) -> Result<Items<Signal>, AllocError>
+fn signals(alloc: Global, threads: usize, initialised: bool) -> Result<Items<Signal>, AllocError>
     requires few { threads ≤ 64 }
-    ensures { IfOk result (λ signals. signals ≡ laid 0 (rows threads first)) }
+    ensures { IfOk result (λ signals. signals ≡ laid threads (rows initialised)) }
+{
+    lay(alloc, threads, &rows(initialised))
+}
+
+// The rows that the statement names, by their numbers.
+const OWNER: usize = 4;
+
+const CHAIN: usize = 18;
+
+/// The table. A chain hands on the number that the granted thread's request leaves, else the register's own.
+fn rows(initialised: bool) -> [Row; 20]
+    ensures { result ≡ rows initialised }
 {
     let asks = 1;
-    let operations = asks + threads;
-    let grants = operations + threads;
-    let owner = grants + threads;
-    let unset = owner + 1;
-    let free = unset + 1;
-    let lock = free + 1;
-    let destroy = lock + 1;
-    let none = destroy + 1;
-    let owned = none + 1;
-    let locks = owned + 1;
-    let barred = locks + threads;
-    let allowed = barred + threads;
-    let numbers = allowed + threads;
-    let destroys = numbers + threads;
-    let others = destroys + threads;
-    let values = others + threads;
-    let chain = values + threads;
-    let rows = [
-        Row::One {
-            role: Role::Clock,
-            width: 1,
-            form: Form::Input,
-        },
-        Row::Each {
-            count: threads,
-            role: Role::Ask,
-            width: 1,
-            form: Form::Input,
-        },
-        Row::Each {
-            count: threads,
-            role: Role::Operation,
-            width: 2,
-            form: Form::Input,
-        },
-        Row::Each {
-            count: threads,
-            role: Role::Grant,
-            width: 1,
-            form: Form::Input,
-        },
-        Row::One {
-            role: Role::State,
-            width: 8,
-            form: Form::Register { initial: first },
-        },
-        Row::One {
-            role: Role::Wire,
-            width: 8,
-            form: Form::Constant { number: 0 },
-        },
-        Row::One {
-            role: Role::Wire,
-            width: 8,
-            form: Form::Constant { number: 1 },
-        },
-        Row::One {
-            role: Role::Wire,
-            width: 2,
-            form: Form::Constant { number: 1 },
-        },
-        Row::One {
-            role: Role::Wire,
-            width: 2,
-            form: Form::Constant { number: 3 },
-        },
-        Row::One {
-            role: Role::Wire,
-            width: 1,
-            form: Form::Constant { number: 0 },
-        },
-        Row::One {
-            role: Role::Wire,
-            width: 1,
-            form: Form::Binary {
-                operator: BinaryOperator::Less,
-                left: Operand::Fixed { place: free },
-                right: Operand::Fixed { place: owner },
-            },
-        },
-        Row::Each {
-            count: threads,
-            role: Role::Wire,
-            width: 1,
-            form: Form::Binary {
-                operator: BinaryOperator::Equal,
-                left: Operand::Each { first: operations },
-                right: Operand::Fixed { place: lock },
-            },
-        },
-        Row::Each {
-            count: threads,
-            role: Role::Wire,
-            width: 1,
-            form: Form::Binary {
-                operator: BinaryOperator::And,
-                left: Operand::Each { first: locks },
-                right: Operand::Fixed { place: owned },
-            },
-        },
-        Row::Each {
-            count: threads,
-            role: Role::Wire,
-            width: 1,
-            form: Form::Conditional {
-                condition: Operand::Each { first: barred },
-                if_true: Operand::Fixed { place: none },
-                if_false: Operand::Each { first: asks },
-            },
-        },
-        Row::Each {
-            count: threads,
-            role: Role::Wire,
-            width: 8,
-            form: Form::Count { first: 2 },
-        },
-        Row::Each {
-            count: threads,
-            role: Role::Wire,
-            width: 1,
-            form: Form::Binary {
-                operator: BinaryOperator::Equal,
-                left: Operand::Each { first: operations },
-                right: Operand::Fixed { place: destroy },
-            },
-        },
-        Row::Each {
-            count: threads,
-            role: Role::Wire,
-            width: 8,
-            form: Form::Conditional {
-                condition: Operand::Each { first: destroys },
-                if_true: Operand::Fixed { place: unset },
-                if_false: Operand::Fixed { place: free },
-            },
-        },
-        Row::Each {
-            count: threads,
-            role: Role::Wire,
-            width: 8,
-            form: Form::Conditional {
-                condition: Operand::Each { first: locks },
-                if_true: Operand::Each { first: numbers },
-                if_false: Operand::Each { first: others },
-            },
-        },
-        Row::One {
-            role: Role::Wire,
-            width: 8,
-            form: Form::Copy(Operand::Fixed { place: owner }),
-        },
-        Row::Each {
-            count: threads,
-            role: Role::Wire,
-            width: 8,
-            form: Form::Conditional {
-                condition: Operand::Each { first: grants },
-                if_true: Operand::Each { first: values },
-                if_false: Operand::Each { first: chain },
-            },
-        },
-        Row::Each {
-            count: threads,
-            role: Role::Offer,
-            width: 1,
-            form: Form::Output(Operand::Each { first: allowed }),
-        },
-    ];
-    lay(alloc, &rows)
+    let operations = 2;
+    let grants = 3;
+    let unset = 5;
+    let free = 6;
+    let lock = 7;
+    let destroy = 8;
+    let none = 9;
+    let owned = 10;
+    let locks = 11;
+    let barred = 12;
+    let allowed = 13;
+    let numbers = 14;
+    let destroys = 15;
+    let others = 16;
+    let values = 17;
+    [
+        One(Clock, 1, Input),
+        Each(Ask, 1, Input),
+        Each(Operation, 2, Input),
+        Each(Grant, 1, Input),
+        One(State, 8, Register(first_word(initialised))),
+        One(Wire, 8, Constant(0)),
+        One(Wire, 8, Constant(1)),
+        One(Wire, 2, Constant(1)),
+        One(Wire, 2, Constant(3)),
+        One(Wire, 1, Constant(0)),
+        One(Wire, 1, Binary(Less, Only(free), Only(OWNER))),
+        Each(Wire, 1, Binary(Equal, Same(operations), Only(lock))),
+        Each(Wire, 1, Binary(And, Same(locks), Only(owned))),
+        Each(Wire, 1, Conditional(Same(barred), Only(none), Same(asks))),
+        Each(Wire, 8, Count(2)),
+        Each(Wire, 1, Binary(Equal, Same(operations), Only(destroy))),
+        Each(
+            Wire,
+            8,
+            Conditional(Same(destroys), Only(unset), Only(free)),
+        ),
+        Each(
+            Wire,
+            8,
+            Conditional(Same(locks), Same(numbers), Same(others)),
+        ),
+        Chain(
+            Wire,
+            8,
+            Copy(Only(OWNER)),
+            Conditional(Same(grants), Same(values), Before(CHAIN)),
+        ),
+        Each(Offer, 1, Output(Same(allowed))),
+    ]
 }
