@@ -5,10 +5,10 @@ use Rattle.std.proofs.lemmas.List.{append-nil, length-replicate}
 use Rattle.netlist.specs.declared.netlist.Module.{Module}
 use Rattle.circuit.specs.Modules.{IsLeaf, is_between}
 use Rattle.circuit.specs.Interfaces.{first_of, HasInterface}
-use Rattle.circuit.proofs.Growth.{length-laid}
+use Rattle.circuit.proofs.TableRows.{length-laid}
 use Rattle.circuit.proofs.Tables.{between_on, between_behind}
 use Rattle.mutex_cores.specs.declared.mutex.Shape.{Shape}
-use Rattle.mutex_cores.specs.Mutex.{first_word, grants, owner, chain, offers, rows}
+use Rattle.mutex_cores.specs.Mutex.{grants, owner, chain, offers, rows}
 use Rattle.mutex_cores.specs.Machine.{mutex_machine, mutex_places, part_place, is_late}
 use Rattle.core_family.specs.Family.{Mutex, port_of, IsCoreModule}
 use Rattle.core_layout.proofs.Ports.{inputs, outputs, length-ports}
@@ -23,7 +23,7 @@ module _ (s : Shape) (m : Module) (is : IsCoreModule s.threads (Mutex s) m) wher
 
   offers_first : first_of m (outputs n []) ≡ offers n
   offers_first =
-      let a = ap length is.table.signals in let b = length-laid 0 (rows n (first_word s.initialised)) in
+      let a = ap length is.table.signals in let b = length-laid n (rows s.initialised) in
       let c = length-replicate {A = ℕ} n 1 in let d = ap length same_outputs in
       omega (arith, a, b, c, d)
 
