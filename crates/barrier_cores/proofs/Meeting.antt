@@ -1,330 +1,82 @@
 -- The table of a barrier keeps the promise of the barrier's machine.
-use Rattle.std.proofs.Common.{subst, ◌≡◌, ℕ, zero, suc, ◌+◌, ◌<◌, ◌≤◌, ◌⊎◌, List, [], length, slice_get, Option, Some, None, Bool, true, false, nat_eq, nat_lt}
-use Rattle.std.proofs.Common.{if◌then◌else◌, refl, sym, ap, ◌∙◌, ⊎_elim, arith, lit<, add-zero}
-use Rattle.std.specs.Prelude.{◌&&◌, ◌||◌, not, slice_index}
+use Rattle.std.proofs.Common.{subst, ◌≡◌, ℕ, zero, suc, ◌+◌, ◌-◌, ◌<◌, ◌≤◌, ◌⊎◌, List, [], length, slice_get, Option, Some, None, Bool, true, false, nat_eq, nat_lt}
+use Rattle.std.proofs.Common.{if◌then◌else◌, refl, sym, ap, ◌∙◌, ⊎_elim, arith, add-zero}
+use Rattle.std.specs.Prelude.{◌&&◌, not, slice_index}
 use Rattle.std.proofs.lemmas.Bool.Decides.{nat_tests}
 use Rattle.std.proofs.lemmas.List.{length-replicate, append-nil}
-use Rattle.std.proofs.Math.Bool.{or-true}
+use Rattle.std.proofs.lemmas.Option.{none-some}
 use Rattle.lists.proofs.Places.{zeros_at}
 use Rattle.hls_ints.specs.Residues.{bit_of}
 use Rattle.hls_ints.specs.Words.{word, word_sum}
-use Rattle.netlist.specs.declared.netlist.Signal.{Signal}
 use Rattle.netlist.specs.declared.netlist.Memory.{Memory}
 use Rattle.netlist.specs.declared.netlist.Action.{Action}
 use Rattle.netlist.specs.declared.netlist.Module.{Module}
 use Rattle.verilog_meaning.specs.Readings.{Reading, written, action_bytes, initial_reading, initial_signal, next_reading, register_after}
-use Rattle.verilog_meaning.specs.Cycles.{IsRegister}
 use Rattle.circuit.specs.Rows.{EachOf, sets, set_at}
-use Rattle.circuit.specs.Modules.{FitsAction, FitsMemory, Obeys, Agree, Has, HasInput, Reads, IsSound, IsLeaf, is_between}
+use Rattle.circuit.specs.Modules.{FitsAction, FitsMemory, Obeys, Agree, Has, HasInput, IsLeaf}
 use Rattle.circuit.specs.Machines.{Grants, IsCore, asked, printed, after_grant}
-use Rattle.circuit.proofs.Tables.{EachRow, Told, IsListed, all_listed, all_told, by_signals, table_leaf, has, chain_has, width_is, no_inputs, one_input, more_inputs}
-use Rattle.circuit.proofs.Tables.{between_on, between_before, between_behind}
+use Rattle.circuit.specs.Table.{place}
+use Rattle.circuit.specs.Fits.{is_late_row, registers, fits}
+use Rattle.circuit.proofs.Tables.{Told, width_is, has}
+use Rattle.circuit.proofs.TableRows.{ByRow, IsListed, listed}
+use Rattle.circuit.proofs.TableSound as sound
 use Rattle.circuit.proofs.Chains.{pick, chain_is}
+use Rattle.circuit.proofs.Edges.{sets_after, sets_print, tested, both_bits, a_bit, each_spread}
 use Rattle.core_states.specs.Machines.{Gate, total_of, with_waiter}
 use Rattle.barrier_cores.specs.declared.barrier.Shape.{Shape}
-use Rattle.barrier_cores.specs.Barrier.{asks, operations, counts, grants, waiting, count, init, wait, nothing, none, some, nought, unit, waits, bars, may}
-use Rattle.barrier_cores.specs.Barrier.{operation_chain, operation, count_chain, new_count, bits, ones, sum_chain, sum, short, is_wait, is_nothing, is_init, stays}
-use Rattle.barrier_cores.specs.Barrier.{others, given, fresh, next, next_count, offers, tells}
-use Rattle.barrier_cores.specs.Barrier.{rows, IsShape, IsBarrier}
+use Rattle.barrier_cores.specs.Rows as row
+use Rattle.barrier_cores.specs.Barrier.{rows, at, IsShape, IsBarrier}
 use Rattle.barrier_cores.specs.Machine.{Ask, ask_of, begun, barrier_machine, barrier_places, Shows, part_place, inputs, is_late}
-use Rattle.circuit.proofs.Edges.{sets_after, sets_print, tested, both_bits, a_bit, each_spread}
 use Rattle.barrier_cores.proofs.Effects.{offered, own_number, summed, bit_joined, after_bit, after_count, after_sized}
 
 none_printed : (n : ℕ) (s : Gate) (f : ℕ → Ask) (o : Option ℕ) → [] ≡ printed (barrier_machine n) s f o
 none_printed n s f None = refl
 none_printed n s f (Some w) = refl
 
+-- the rows are in order
+pub rows_fit : fits (is_late_row rows) [] rows ≡ true
+rows_fit = refl
+
 module _ (shape : Shape) (ok : IsShape shape) (m : Module) (is : IsBarrier shape m) where
   abbrev n : ℕ
   n = shape.threads
 
-  listed : EachRow (IsListed m (rows n) is.signals) 0 (rows n)
-  listed = all_listed m (rows n) is.signals
+  abbrev late : ℕ → Bool
+  late = is_late_row rows
 
-  -- ---- what each row reads
+  pub agrees : (k x : ℕ) → place n rows k ≤ x → x < place n rows (suc k) → is_late n x ≡ late k
+  agrees k x a b = sound.late_is n rows k x a b
 
-  early_before : (y : ℕ) → y < grants n → is_late n y ≡ false
-  early_before y l =
-      ap (λ b. b || is_between (operation_chain n) (offers n) y) (between_before (grants n) (waiting n) y l)
-      ∙ between_before (operation_chain n) (offers n) y (omega arith)
+  pub no_words : sound.AreMemories m []
+  no_words j c e = absurd (none-some c e)
 
-  early_between : (y : ℕ) → waiting n ≤ y → y < operation_chain n → is_late n y ≡ false
-  early_between y b l =
-      ap (λ b. b || is_between (operation_chain n) (offers n) y) (between_behind (grants n) (waiting n) y (omega arith) b)
-      ∙ between_before (operation_chain n) (offers n) y l
+  there : ByRow n rows (IsListed n rows m is.signals)
+  there = listed n rows m is.signals
 
-  late_on : (x : ℕ) → operation_chain n ≤ x → x < offers n → is_late n x ≡ true
-  late_on x b l =
-      ap (λ t. is_between (grants n) (waiting n) x || t) (between_on (operation_chain n) (offers n) x b l)
-      ∙ or-true (is_between (grants n) (waiting n) x)
+  has_sum : (k : ℕ) → k ≤ n → Has m (at n row.sum + k) 64
+  has_sum k l = sound.has_at n rows m is.signals row.sum _ refl k (omega arith)
 
-  -- a late signal reads any
-  from : {x y v : ℕ} → Has m y v → y < x → operation_chain n ≤ x → x < offers n → Reads m (is_late n) x y v
-  from {x} {y} {v} h l b c = record { has = h; before = l; in_time = λ t. late_on x b c }
+  -- ---- the statements
 
-  -- any signal reads what is asked, and a wire or register before the chains
-  ask : {x y v : ℕ} → Has m y v → y < x → y < grants n → Reads m (is_late n) x y v
-  ask {x} {y} {v} h l b = record { has = h; before = l; in_time = λ t. let e = early_before y b in absurd cc }
-
-  wire : {x y v : ℕ} → Has m y v → y < x → waiting n ≤ y → y < operation_chain n → Reads m (is_late n) x y v
-  wire {x} {y} {v} h l b c = record { has = h; before = l; in_time = λ t. let e = early_between y b c in absurd cc }
-
-  has_operation_chain : (k : ℕ) → k ≤ n → Has m (operation_chain n + k) 2
-  has_operation_chain = chain_has m (operation_chain n) n 2 _ _ listed.1.1.1.1.1.1.1.1.1.1.1.1.1.1.1.1.1.0 refl listed.1.1.1.1.1.1.1.1.1.1.1.1.1.1.1.1.1.1.0 (λ k. refl)
-
-  has_count_chain : (k : ℕ) → k ≤ n → Has m (count_chain n + k) 64
-  has_count_chain = chain_has m (count_chain n) n 64 _ _ listed.1.1.1.1.1.1.1.1.1.1.1.1.1.1.1.1.1.1.1.0 refl listed.1.1.1.1.1.1.1.1.1.1.1.1.1.1.1.1.1.1.1.1.0 (λ k. refl)
-
-  has_sum_chain : (k : ℕ) → k ≤ n → Has m (sum_chain n + k) 64
-  has_sum_chain = chain_has m (sum_chain n) n 64 _ _ listed.1.1.1.1.1.1.1.1.1.1.1.1.1.1.1.1.1.1.1.1.1.1.1.0 refl listed.1.1.1.1.1.1.1.1.1.1.1.1.1.1.1.1.1.1.1.1.1.1.1.1.0
-      (λ k. refl)
-
-  sound : EachRow (IsSound m (inputs n) (is_late n)) 0 (rows n)
-  sound = (
-    (omega arith),
-    (
-      (λ k l. omega arith),
-      (
-        (λ k l. omega arith),
-        (
-          (λ k l. omega arith),
-          (
-            (λ k l. omega arith),
-            (
-              (λ k l. lit< tt),
-              (
-                (lit< tt),
-                (
-                  (lit< tt),
-                  (
-                    (lit< tt),
-                    (
-                      (lit< tt),
-                      (
-                        (lit< tt),
-                        (
-                          (lit< tt),
-                          (
-                            (lit< tt),
-                            (
-                              (lit< tt),
-                              (
-                                (λ k l. (
-                                  refl,
-                                  (
-                                    2,
-                                    ask (has m (operations n + k) _ (listed.1.1.0 k l)) (omega arith) (omega arith),
-                                    wire (has m (wait n) _ listed.1.1.1.1.1.1.1.1.0) (omega arith) (omega arith) (omega arith),
-                                  ),
-                                )),
-                                (
-                                  (λ k l. (
-                                    wire (has m (waits n + k) _ (listed.1.1.1.1.1.1.1.1.1.1.1.1.1.1.0 k l)) (omega arith) (omega arith) (omega arith),
-                                    wire (has m (waiting n + k) _ (listed.1.1.1.1.1.0 k l)) (omega arith) (omega arith) (omega arith),
-                                  )),
-                                  (
-                                    (λ k l. (
-                                      wire (has m (bars n + k) _ (listed.1.1.1.1.1.1.1.1.1.1.1.1.1.1.1.0 k l)) (omega arith) (omega arith) (omega arith),
-                                      wire (has m (none n) _ listed.1.1.1.1.1.1.1.1.1.1.0) (omega arith) (omega arith) (omega arith),
-                                      ask (has m (asks n + k) _ (listed.1.0 k l)) (omega arith) (omega arith),
-                                    )),
-                                    (
-                                      (lit< tt),
-                                      (
-                                        (λ k l. (
-                                          from (has m (grants n + k) _ (listed.1.1.1.1.0 k l)) (omega arith) (omega arith) (omega arith),
-                                          from (has m (operations n + k) _ (listed.1.1.0 k l)) (omega arith) (omega arith) (omega arith),
-                                          from (has_operation_chain k (omega arith)) (omega arith) (omega arith) (omega arith),
-                                        )),
-                                        (
-                                          (lit< tt),
-                                          (
-                                            (λ k l. (
-                                              from (has m (grants n + k) _ (listed.1.1.1.1.0 k l)) (omega arith) (omega arith) (omega arith),
-                                              from (has m (counts n + k) _ (listed.1.1.1.0 k l)) (omega arith) (omega arith) (omega arith),
-                                              from (has_count_chain k (omega arith)) (omega arith) (omega arith) (omega arith),
-                                            )),
-                                            (
-                                              (λ k l. (
-                                                from (has m (grants n + k) _ (listed.1.1.1.1.0 k l)) (omega arith) (omega arith) (omega arith),
-                                                from (has m (some n) _ listed.1.1.1.1.1.1.1.1.1.1.1.0) (omega arith) (omega arith) (omega arith),
-                                                from (has m (waiting n + k) _ (listed.1.1.1.1.1.0 k l)) (omega arith) (omega arith) (omega arith),
-                                              )),
-                                              (
-                                                (λ k l. (
-                                                  from (has m (bits n + k) _ (listed.1.1.1.1.1.1.1.1.1.1.1.1.1.1.1.1.1.1.1.1.1.0 k l)) (omega arith) (omega arith)
-                                                      (omega arith),
-                                                  from (has m (unit n) _ listed.1.1.1.1.1.1.1.1.1.1.1.1.1.0) (omega arith) (omega arith) (omega arith),
-                                                  from (has m (nought n) _ listed.1.1.1.1.1.1.1.1.1.1.1.1.0) (omega arith) (omega arith) (omega arith),
-                                                )),
-                                                (
-                                                  (lit< tt),
-                                                  (
-                                                    (λ k l. (
-                                                      from (has_sum_chain k (omega arith)) (omega arith) (omega arith) (omega arith),
-                                                      from (has m (ones n + k) _ (listed.1.1.1.1.1.1.1.1.1.1.1.1.1.1.1.1.1.1.1.1.1.1.0 k l)) (omega arith) (omega arith)
-                                                          (omega arith),
-                                                    )),
-                                                    (
-                                                      ((
-                                                        refl,
-                                                        (
-                                                          64,
-                                                          from (has_sum_chain n (omega arith)) (omega arith) (omega arith) (omega arith),
-                                                          from (has m (count n) _ listed.1.1.1.1.1.1.0) (omega arith) (omega arith) (omega arith),
-                                                        ),
-                                                      )),
-                                                      (
-                                                        ((
-                                                          refl,
-                                                          (
-                                                            2,
-                                                            from (has_operation_chain n (omega arith)) (omega arith) (omega arith) (omega arith),
-                                                            from (has m (wait n) _ listed.1.1.1.1.1.1.1.1.0) (omega arith) (omega arith) (omega arith),
-                                                          ),
-                                                        )),
-                                                        (
-                                                          ((
-                                                            refl,
-                                                            (
-                                                              2,
-                                                              from (has_operation_chain n (omega arith)) (omega arith) (omega arith) (omega arith),
-                                                              from (has m (nothing n) _ listed.1.1.1.1.1.1.1.1.1.0) (omega arith) (omega arith) (omega arith),
-                                                            ),
-                                                          )),
-                                                          (
-                                                            ((
-                                                              refl,
-                                                              (
-                                                                2,
-                                                                from (has_operation_chain n (omega arith)) (omega arith) (omega arith) (omega arith),
-                                                                from (has m (init n) _ listed.1.1.1.1.1.1.1.0) (omega arith) (omega arith) (omega arith),
-                                                              ),
-                                                            )),
-                                                            (
-                                                              (λ k l. (
-                                                                from (has m (short n) _ listed.1.1.1.1.1.1.1.1.1.1.1.1.1.1.1.1.1.1.1.1.1.1.1.1.1.0) (omega arith)
-                                                                    (omega arith) (omega arith),
-                                                                from (has m (bits n + k) _ (listed.1.1.1.1.1.1.1.1.1.1.1.1.1.1.1.1.1.1.1.1.1.0 k l)) (omega arith)
-                                                                    (omega arith) (omega arith),
-                                                                from (has m (none n) _ listed.1.1.1.1.1.1.1.1.1.1.0) (omega arith) (omega arith) (omega arith),
-                                                              )),
-                                                              (
-                                                                (λ k l. (
-                                                                  from (has m (is_nothing n) _ listed.1.1.1.1.1.1.1.1.1.1.1.1.1.1.1.1.1.1.1.1.1.1.1.1.1.1.1.0)
-                                                                      (omega arith) (omega arith) (omega arith),
-                                                                  from (has m (waiting n + k) _ (listed.1.1.1.1.1.0 k l)) (omega arith) (omega arith) (omega arith),
-                                                                  from (has m (none n) _ listed.1.1.1.1.1.1.1.1.1.1.0) (omega arith) (omega arith) (omega arith),
-                                                                )),
-                                                                (
-                                                                  ((
-                                                                    from (has m (is_init n) _ listed.1.1.1.1.1.1.1.1.1.1.1.1.1.1.1.1.1.1.1.1.1.1.1.1.1.1.1.1.0) (omega arith)
-                                                                        (omega arith) (omega arith),
-                                                                    from (has_count_chain n (omega arith)) (omega arith) (omega arith) (omega arith),
-                                                                    from (has m (nought n) _ listed.1.1.1.1.1.1.1.1.1.1.1.1.0) (omega arith) (omega arith) (omega arith),
-                                                                  )),
-                                                                  (
-                                                                    ((
-                                                                      from (has m (is_nothing n) _ listed.1.1.1.1.1.1.1.1.1.1.1.1.1.1.1.1.1.1.1.1.1.1.1.1.1.1.1.0)
-                                                                          (omega arith) (omega arith) (omega arith),
-                                                                      from (has m (count n) _ listed.1.1.1.1.1.1.0) (omega arith) (omega arith) (omega arith),
-                                                                      from (has m (given n) _ listed.1.1.1.1.1.1.1.1.1.1.1.1.1.1.1.1.1.1.1.1.1.1.1.1.1.1.1.1.1.1.1.0)
-                                                                          (omega arith) (omega arith) (omega arith),
-                                                                    )),
-                                                                    (
-                                                                      (λ k l. (
-                                                                        from (has m (is_wait n) _ listed.1.1.1.1.1.1.1.1.1.1.1.1.1.1.1.1.1.1.1.1.1.1.1.1.1.1.0)
-                                                                            (omega arith) (omega arith) (omega arith),
-                                                                        from (has m (stays n + k) _ (listed.1.1.1.1.1.1.1.1.1.1.1.1.1.1.1.1.1.1.1.1.1.1.1.1.1.1.1.1.1.0 k
-                                                                            l)) (omega arith) (omega arith) (omega arith),
-                                                                        from (has m (others n + k) _ (listed.1.1.1.1.1.1.1.1.1.1.1.1.1.1.1.1.1.1.1.1.1.1.1.1.1.1.1.1.1.1.0 k
-                                                                            l)) (omega arith) (omega arith) (omega arith),
-                                                                      )),
-                                                                      (
-                                                                        ((
-                                                                          from (has m (is_wait n) _ listed.1.1.1.1.1.1.1.1.1.1.1.1.1.1.1.1.1.1.1.1.1.1.1.1.1.1.0)
-                                                                              (omega arith) (omega arith) (omega arith),
-                                                                          from (has m (count n) _ listed.1.1.1.1.1.1.0) (omega arith) (omega arith) (omega arith),
-                                                                          from (has m (fresh n) _ listed.1.1.1.1.1.1.1.1.1.1.1.1.1.1.1.1.1.1.1.1.1.1.1.1.1.1.1.1.1.1.1.1.0)
-                                                                              (omega arith) (omega arith) (omega arith),
-                                                                        )),
-                                                                        (
-                                                                          (λ k l. wire (has m (may n + k) _ (listed.1.1.1.1.1.1.1.1.1.1.1.1.1.1.1.1.0 k l)) (omega arith)
-                                                                              (omega arith) (omega arith)),
-                                                                          (
-                                                                            (λ k l. wire (has m (waiting n + k) _ (listed.1.1.1.1.1.0 k l)) (omega arith) (omega arith)
-                                                                                (omega arith)),
-                                                                            tt,
-                                                                          ),
-                                                                        ),
-                                                                      ),
-                                                                    ),
-                                                                  ),
-                                                                ),
-                                                              ),
-                                                            ),
-                                                          ),
-                                                        ),
-                                                      ),
-                                                    ),
-                                                  ),
-                                                ),
-                                              ),
-                                            ),
-                                          ),
-                                        ),
-                                      ),
-                                    ),
-                                  ),
-                                ),
-                              ),
-                            ),
-                          ),
-                        ),
-                      ),
-                    ),
-                  ),
-                ),
-              ),
-            ),
-          ),
-        ),
-      ),
-    ),
-  )
-
-  -- a bit, or the count
-  set_fits : (k : ℕ) → k < n + 1 → FitsAction m (set_at (waiting n) (next n) (0 + k))
+  -- of a bit, or of the count
+  set_fits : (k : ℕ) → k < n + 1 → FitsAction m (set_at (at n row.waiting) (at n row.next) (0 + k))
   set_fits k l =
       let z : k ≡ 0 + k = omega arith in
-      subst (λ i. FitsAction m (set_at (waiting n) (next n) i)) z
+      subst (λ i. FitsAction m (set_at (at n row.waiting) (at n row.next) i)) z
       (⊎_elim
-      (λ (b : k < n). (
-        tt,
-        (
-          1,
-          record { signal = _; listed = listed.1.1.1.1.1.0 k b; wide = refl; is = tt },
-          has m (next n + k) _
-              (listed.1.1.1.1.1.1.1.1.1.1.1.1.1.1.1.1.1.1.1.1.1.1.1.1.1.1.1.1.1.1.1.1.1.0 k b),
-        ),
-      ))
-      (λ (b : n ≡ k). subst (λ i. FitsAction m (set_at (waiting n) (next n) i)) b (
-        tt,
-        (
-          64,
-          record { signal = _; listed = listed.1.1.1.1.1.1.0; wide = refl; is = tt },
-          has m (next_count n) _
-              listed.1.1.1.1.1.1.1.1.1.1.1.1.1.1.1.1.1.1.1.1.1.1.1.1.1.1.1.1.1.1.1.1.1.1.0,
-        ),
-      ))
+      (λ (b : k < n). (tt, (1, record { signal = _; listed = there row.waiting k b; wide = refl; is = tt }, has m (at n row.next + k) _ (there row.next k b))))
+      (λ (b : n ≡ k). subst (λ i. FitsAction m (set_at (at n row.waiting) (at n row.next) i)) b
+      (tt, (64, record { signal = _; listed = there row.count; wide = refl; is = tt }, has m (at n row.next_count) _ (there row.next_count))))
       (let c : (k < n) ⊎ (n ≡ k) = grind (arith, nat_tests) in c))
 
+  pub acts_fit : EachOf (FitsAction m) m.actions
+  acts_fit = subst (EachOf (FitsAction m)) (sym is.actions) (each_spread (FitsAction m) (set_at (at n row.waiting) (at n row.next)) 0 (n + 1) set_fits)
+
+  pub begins : EachOf FitsMemory m.memories
+  begins = subst (EachOf FitsMemory) (sym is.memories) tt
+
   pub barrier_leaf : IsLeaf m (inputs n) (is_late n)
-  barrier_leaf = table_leaf m (rows n) is.signals (inputs n) (is_late n) sound is.instances
-      (more_inputs m (grants n) n _ (more_inputs m (counts n) n _ (more_inputs m (operations n) n _ (more_inputs m (asks n) n _ (one_input m 0 _
-      (no_inputs m) listed.0 refl) listed.1.0 (λ k. refl)) listed.1.1.0 (λ k. refl)) listed.1.1.1.0 (λ k. refl)) listed.1.1.1.1.0 (λ k. refl))
-      (subst (EachOf (FitsAction m)) (sym is.actions) (each_spread (FitsAction m) (set_at (waiting n) (next n)) 0 (n + 1) set_fits))
-      (subst (EachOf FitsMemory) (sym is.memories) tt)
+  barrier_leaf = sound.leaf n ok.few late [] rows rows_fit m is.signals (is_late n) agrees no_words is.instances acts_fit begins
 
   -- ---- the promise
 
@@ -334,136 +86,33 @@ module _ (shape : Shape) (ok : IsShape shape) (m : Module) (is : IsBarrier shape
   starts : Shown (initial_reading (Some m)) (begun n)
   starts = record {
     sized = length-replicate {A = ℕ} n 0;
-    bits = λ i l. ap initial_signal (listed.1.1.1.1.1.0 i l) ∙ sym (zeros_at n i);
-    count_is = ap initial_signal listed.1.1.1.1.1.1.0;
+    bits = λ i l. ap initial_signal (there row.waiting i l) ∙ sym (zeros_at n i);
+    count_is = ap initial_signal (there row.count);
   }
 
   keeps : (h g : Reading) (s : Gate) → Agree m h g → Shown h s → Shown g s
   keeps h g s same e = record {
     sized = e.sized;
-    bits = λ i l. sym (same.registers (waiting n + i) _ (listed.1.1.1.1.1.0 i l) tt) ∙ e.bits i l;
-    count_is = sym (same.registers (count n) _ listed.1.1.1.1.1.1.0 tt) ∙ e.count_is;
+    bits = λ i l. sym (same.registers (at n row.waiting + i) _ (there row.waiting i l) tt) ∙ e.bits i l;
+    count_is = sym (same.registers (at n row.count) _ (there row.count) tt) ∙ e.count_is;
   }
 
-  abbrev SameRegister : (h g : Reading) → ℕ → Signal → Type 0
-  SameRegister h g x s = IsRegister s.source → h.signal x ≡ g.signal x
+  -- a bit, or the count
+  same_at : (h g : Reading) (s : Gate) → Shown h s → Shown g s → (x : ℕ) → inputs n ≤ x → x < place n rows (registers rows) → h.signal x ≡ g.signal x
+  same_at h g s e f x a b =
+      ⊎_elim
+      (λ (l : x < at n row.count).
+      let z : at n row.waiting + (x - at n row.waiting) ≡ x = omega arith in
+      let k : x - at n row.waiting < n = omega arith in
+      subst (λ y. h.signal y ≡ g.signal y) z (e.bits (x - at n row.waiting) k ∙ sym (f.bits (x - at n row.waiting) k)))
+      (λ (l : at n row.count ≡ x). subst (λ y. h.signal y ≡ g.signal y) l (e.count_is ∙ sym f.count_is))
+      (let c : (x < at n row.count) ⊎ (at n row.count ≡ x) = grind (arith, nat_tests) in c)
 
-  same_registers : (h g : Reading) (s : Gate) → Shown h s → Shown g s → EachRow (SameRegister h g) 0 (rows n)
-  same_registers h g s e f = (
-    (λ t. absurd t),
-    (
-      (λ k l t. absurd t),
-      (
-        (λ k l t. absurd t),
-        (
-          (λ k l t. absurd t),
-          (
-            (λ k l t. absurd t),
-            (
-              (λ k l t. e.bits k l ∙ sym (f.bits k l)),
-              (
-                (λ t. e.count_is ∙ sym f.count_is),
-                (
-                  (λ t. absurd t),
-                  (
-                    (λ t. absurd t),
-                    (
-                      (λ t. absurd t),
-                      (
-                        (λ t. absurd t),
-                        (
-                          (λ t. absurd t),
-                          (
-                            (λ t. absurd t),
-                            (
-                              (λ t. absurd t),
-                              (
-                                (λ k l t. absurd t),
-                                (
-                                  (λ k l t. absurd t),
-                                  (
-                                    (λ k l t. absurd t),
-                                    (
-                                      (λ t. absurd t),
-                                      (
-                                        (λ k l t. absurd t),
-                                        (
-                                          (λ t. absurd t),
-                                          (
-                                            (λ k l t. absurd t),
-                                            (
-                                              (λ k l t. absurd t),
-                                              (
-                                                (λ k l t. absurd t),
-                                                (
-                                                  (λ t. absurd t),
-                                                  (
-                                                    (λ k l t. absurd t),
-                                                    (
-                                                      (λ t. absurd t),
-                                                      (
-                                                        (λ t. absurd t),
-                                                        (
-                                                          (λ t. absurd t),
-                                                          (
-                                                            (λ t. absurd t),
-                                                            (
-                                                              (λ k l t. absurd t),
-                                                              (
-                                                                (λ k l t. absurd t),
-                                                                (
-                                                                  (λ t. absurd t),
-                                                                  (
-                                                                    (λ t. absurd t),
-                                                                    (
-                                                                      (λ k l t. absurd t),
-                                                                      (
-                                                                        (λ t. absurd t),
-                                                                        (
-                                                                          (λ k l t. absurd t),
-                                                                          (
-                                                                            (λ k l t. absurd t),
-                                                                            tt,
-                                                                          ),
-                                                                        ),
-                                                                      ),
-                                                                    ),
-                                                                  ),
-                                                                ),
-                                                              ),
-                                                            ),
-                                                          ),
-                                                        ),
-                                                      ),
-                                                    ),
-                                                  ),
-                                                ),
-                                              ),
-                                            ),
-                                          ),
-                                        ),
-                                      ),
-                                    ),
-                                  ),
-                                ),
-                              ),
-                            ),
-                          ),
-                        ),
-                      ),
-                    ),
-                  ),
-                ),
-              ),
-            ),
-          ),
-        ),
-      ),
-    ),
-  )
-
-  same_words : (h g : Reading) (j k : ℕ) (z : Memory) → slice_get m.memories j ≡ Some z → k < length z.initial → h.word j k ≡ g.word j k
-  same_words h g j k z q l = let e : None ≡ Some z = sym (ap (λ (ms : List Memory). slice_get ms j) is.memories) ∙ q in absurd cc
+  faithful : (h g : Reading) (s : Gate) → Shown h s → Shown g s → Agree m h g
+  faithful h g s e f = record {
+    registers = sound.same_registers n ok.few late [] rows rows_fit m is.signals (is_late n) agrees no_words h g (same_at h g s e f);
+    words = λ j k z q l. absurd (none-some z (sym (ap (λ (ms : List Memory). slice_get ms j) is.memories) ∙ q));
+  }
 
   hears_same : (f g : ℕ → ℕ) → ((j : ℕ) → j < 3 → f j ≡ g j) → ask_of f ≡ ask_of g
   hears_same f g h =
@@ -471,121 +120,121 @@ module _ (shape : Shape) (ok : IsShape shape) (m : Module) (is : IsBarrier shape
       ap (λ x. with x (f 1) (f 2)) (h 0 (omega arith)) ∙ ap (λ y. with (g 0) y (f 2)) (h 1 (omega arith)) ∙ ap (with (g 0) (g 1)) (h 2 (omega arith))
 
   module _ (r : Reading) (s : Gate) (obeys : Obeys m r) (shown : Shown r s) where
-    told : EachRow (Told m r) 0 (rows n)
-    told = all_told m (rows n) is.signals (inputs n) (is_late n) sound r obeys
+    told : ByRow n rows (Told m r)
+    told = sound.told n ok.few late [] rows rows_fit m is.signals (is_late n) agrees no_words r obeys
 
     abbrev S : ℕ → ℕ
     S x = r.signal x
 
-    bit_is : (i : ℕ) → i < n → S (waiting n + i) ≡ bit_of (nat_lt 0 (slice_index s.waiting i))
-    bit_is i l = a_bit (S (waiting n + i)) (obeys.within (waiting n + i) _ (listed.1.1.1.1.1.0 i l)) ∙ ap (λ x. bit_of (nat_lt 0 x)) (shown.bits i l)
+    bit_is : (i : ℕ) → i < n → S (at n row.waiting + i) ≡ bit_of (nat_lt 0 (slice_index s.waiting i))
+    bit_is i l = a_bit (S (at n row.waiting + i)) (obeys.within (at n row.waiting + i) _ (there row.waiting i l)) ∙ ap (λ x. bit_of (nat_lt 0 x)) (shown.bits i l)
 
-    bar_is : (i : ℕ) → i < n → S (bars n + i) ≡ bit_of (nat_eq (S (operations n + i)) 1 && nat_lt 0 (slice_index s.waiting i))
+    bar_is : (i : ℕ) → i < n → S (at n row.bars + i) ≡ bit_of (nat_eq (S (at n row.operations + i)) 1 && nat_lt 0 (slice_index s.waiting i))
     bar_is i l =
-        told.1.1.1.1.1.1.1.1.1.1.1.1.1.1.1.0 i l
-        ∙ both_bits (nat_eq (S (operations n + i)) 1) (nat_lt 0 (slice_index s.waiting i)) (S (waits n + i)) (S (waiting n + i))
-        (told.1.1.1.1.1.1.1.1.1.1.1.1.1.1.0 i l ∙ ap (λ x. bit_of (nat_eq (S (operations n + i)) x)) told.1.1.1.1.1.1.1.1.0) (bit_is i l)
+        told row.bars i l
+        ∙ both_bits (nat_eq (S (at n row.operations + i)) 1) (nat_lt 0 (slice_index s.waiting i)) (S (at n row.waits + i)) (S (at n row.waiting + i))
+        (told row.waits i l ∙ ap (λ x. bit_of (nat_eq (S (at n row.operations + i)) x)) (told row.wait)) (bit_is i l)
 
-    offer_is : (i : ℕ) → i < n → S (offers n + i) ≡ bit_of (nat_lt 0 (S (asks n + i)) && not (nat_eq (S (operations n + i)) 1 && nat_lt 0 (slice_index s.waiting i)))
+    offer_is : (i : ℕ) → i < n → S (at n row.offers + i) ≡ bit_of (nat_lt 0 (S (at n row.asks + i)) && not (nat_eq (S (at n row.operations + i)) 1 && nat_lt 0 (slice_index s.waiting i)))
     offer_is i l =
-        let b = nat_eq (S (operations n + i)) 1 && nat_lt 0 (slice_index s.waiting i) in
-        told.1.1.1.1.1.1.1.1.1.1.1.1.1.1.1.1.1.1.1.1.1.1.1.1.1.1.1.1.1.1.1.1.1.1.1.0 i l ∙ told.1.1.1.1.1.1.1.1.1.1.1.1.1.1.1.1.0 i l ∙ tested b (S (bars n + i)) (S (none n))
-        (S (asks n + i)) (bar_is i l)
-        ∙ offered b (S (asks n + i)) (S (none n)) (a_bit (S (asks n + i)) (obeys.within (asks n + i) _ (listed.1.0 i l))) told.1.1.1.1.1.1.1.1.1.1.0
+        let b = nat_eq (S (at n row.operations + i)) 1 && nat_lt 0 (slice_index s.waiting i) in
+        told row.offers i l ∙ told row.may i l ∙ tested b (S (at n row.bars + i)) (S (at n row.none))
+        (S (at n row.asks + i)) (bar_is i l)
+        ∙ offered b (S (at n row.asks + i)) (S (at n row.none)) (a_bit (S (at n row.asks + i)) (obeys.within (at n row.asks + i) _ (there row.asks i l))) (told row.none)
 
-    tell_is : (i : ℕ) → i < n → S (tells n + i) ≡ slice_index s.waiting i
-    tell_is i l = told.1.1.1.1.1.1.1.1.1.1.1.1.1.1.1.1.1.1.1.1.1.1.1.1.1.1.1.1.1.1.1.1.1.1.1.1.0 i l ∙ shown.bits i l
+    tell_is : (i : ℕ) → i < n → S (at n row.tells + i) ≡ slice_index s.waiting i
+    tell_is i l = told row.tells i l ∙ shown.bits i l
 
     -- ---- what the wires say, by the operation of the granted thread
 
-    is_wait_is : (x : ℕ) → S (operation n) ≡ x → S (is_wait n) ≡ bit_of (nat_eq x 1)
-    is_wait_is x e = told.1.1.1.1.1.1.1.1.1.1.1.1.1.1.1.1.1.1.1.1.1.1.1.1.1.1.0 ∙ ap (λ y. bit_of (nat_eq (S (operation n)) y)) told.1.1.1.1.1.1.1.1.0 ∙ ap
+    is_wait_is : (x : ℕ) → S (at n row.operation + n) ≡ x → S (at n row.is_wait) ≡ bit_of (nat_eq x 1)
+    is_wait_is x e = told row.is_wait ∙ ap (λ y. bit_of (nat_eq (S (at n row.operation + n)) y)) (told row.wait) ∙ ap
         (λ y. bit_of (nat_eq y 1)) e
 
-    is_nothing_is : (x : ℕ) → S (operation n) ≡ x → S (is_nothing n) ≡ bit_of (nat_eq x 3)
-    is_nothing_is x e = told.1.1.1.1.1.1.1.1.1.1.1.1.1.1.1.1.1.1.1.1.1.1.1.1.1.1.1.0 ∙ ap (λ y. bit_of (nat_eq (S (operation n)) y)) told.1.1.1.1.1.1.1.1.1.0 ∙ ap
+    is_nothing_is : (x : ℕ) → S (at n row.operation + n) ≡ x → S (at n row.is_nothing) ≡ bit_of (nat_eq x 3)
+    is_nothing_is x e = told row.is_nothing ∙ ap (λ y. bit_of (nat_eq (S (at n row.operation + n)) y)) (told row.nothing) ∙ ap
         (λ y. bit_of (nat_eq y 3)) e
 
-    is_init_is : (x : ℕ) → S (operation n) ≡ x → S (is_init n) ≡ bit_of (nat_eq x 0)
-    is_init_is x e = told.1.1.1.1.1.1.1.1.1.1.1.1.1.1.1.1.1.1.1.1.1.1.1.1.1.1.1.1.0 ∙ ap (λ y. bit_of (nat_eq (S (operation n)) y)) told.1.1.1.1.1.1.1.0 ∙ ap
+    is_init_is : (x : ℕ) → S (at n row.operation + n) ≡ x → S (at n row.is_init) ≡ bit_of (nat_eq x 0)
+    is_init_is x e = told row.is_init ∙ ap (λ y. bit_of (nat_eq (S (at n row.operation + n)) y)) (told row.init) ∙ ap
         (λ y. bit_of (nat_eq y 0)) e
 
-    next_is : (i : ℕ) → i < n → (x : ℕ) → S (operation n) ≡ x → S (next n + i) ≡ (if nat_eq x 1 then S (stays n + i) else (if nat_eq x 3 then S (waiting n + i) else 0))
+    next_is : (i : ℕ) → i < n → (x : ℕ) → S (at n row.operation + n) ≡ x → S (at n row.next + i) ≡ (if nat_eq x 1 then S (at n row.stays + i) else (if nat_eq x 3 then S (at n row.waiting + i) else 0))
     next_is i l x e =
-        told.1.1.1.1.1.1.1.1.1.1.1.1.1.1.1.1.1.1.1.1.1.1.1.1.1.1.1.1.1.1.1.1.1.0 i l ∙ tested (nat_eq x 1) (S (is_wait n)) (S (stays n + i)) (S (others n + i)) (is_wait_is x e)
-        ∙ ap (λ y. if nat_eq x 1 then S (stays n + i) else y)
-        (told.1.1.1.1.1.1.1.1.1.1.1.1.1.1.1.1.1.1.1.1.1.1.1.1.1.1.1.1.1.1.0 i l ∙ tested (nat_eq x 3) (S (is_nothing n)) (S (waiting n + i)) (S (none n)) (is_nothing_is x e)
-        ∙ ap (λ y. if nat_eq x 3 then S (waiting n + i) else y) told.1.1.1.1.1.1.1.1.1.1.0)
+        told row.next i l ∙ tested (nat_eq x 1) (S (at n row.is_wait)) (S (at n row.stays + i)) (S (at n row.others + i)) (is_wait_is x e)
+        ∙ ap (λ y. if nat_eq x 1 then S (at n row.stays + i) else y)
+        (told row.others i l ∙ tested (nat_eq x 3) (S (at n row.is_nothing)) (S (at n row.waiting + i)) (S (at n row.none)) (is_nothing_is x e)
+        ∙ ap (λ y. if nat_eq x 3 then S (at n row.waiting + i) else y) (told row.none))
 
-    next_count_is : (x : ℕ) → S (operation n) ≡ x → S (next_count n) ≡
-        (if nat_eq x 1 then s.count else (if nat_eq x 3 then s.count else (if nat_eq x 0 then S (new_count n) else 0)))
+    next_count_is : (x : ℕ) → S (at n row.operation + n) ≡ x → S (at n row.next_count) ≡
+        (if nat_eq x 1 then s.count else (if nat_eq x 3 then s.count else (if nat_eq x 0 then S (at n row.new_count + n) else 0)))
     next_count_is x e =
-        told.1.1.1.1.1.1.1.1.1.1.1.1.1.1.1.1.1.1.1.1.1.1.1.1.1.1.1.1.1.1.1.1.1.1.0 ∙ tested (nat_eq x 1) (S (is_wait n)) (S (count n)) (S (fresh n)) (is_wait_is x e)
-        ∙ ap (λ y. if nat_eq x 1 then y else S (fresh n)) shown.count_is
+        told row.next_count ∙ tested (nat_eq x 1) (S (at n row.is_wait)) (S (at n row.count)) (S (at n row.fresh)) (is_wait_is x e)
+        ∙ ap (λ y. if nat_eq x 1 then y else S (at n row.fresh)) shown.count_is
         ∙ ap (λ y. if nat_eq x 1 then s.count else y)
-        (told.1.1.1.1.1.1.1.1.1.1.1.1.1.1.1.1.1.1.1.1.1.1.1.1.1.1.1.1.1.1.1.1.0 ∙ tested (nat_eq x 3) (S (is_nothing n)) (S (count n)) (S (given n)) (is_nothing_is x e)
-        ∙ ap (λ y. if nat_eq x 3 then y else S (given n)) shown.count_is
+        ((told row.fresh) ∙ tested (nat_eq x 3) (S (at n row.is_nothing)) (S (at n row.count)) (S (at n row.given)) (is_nothing_is x e)
+        ∙ ap (λ y. if nat_eq x 3 then y else S (at n row.given)) shown.count_is
         ∙ ap (λ y. if nat_eq x 3 then s.count else y)
-        (told.1.1.1.1.1.1.1.1.1.1.1.1.1.1.1.1.1.1.1.1.1.1.1.1.1.1.1.1.1.1.1.0 ∙ tested (nat_eq x 0) (S (is_init n)) (S (new_count n)) (S (nought n)) (is_init_is x e)
-        ∙ ap (λ y. if nat_eq x 0 then S (new_count n) else y) told.1.1.1.1.1.1.1.1.1.1.1.1.0))
+        ((told row.given) ∙ tested (nat_eq x 0) (S (at n row.is_init)) (S (at n row.new_count + n)) (S (at n row.nought)) (is_init_is x e)
+        ∙ ap (λ y. if nat_eq x 0 then S (at n row.new_count + n) else y) (told row.nought)))
 
-    register_is : (i : ℕ) → i < n + 1 → (next_reading m r).signal (waiting n + i) ≡ S (next n + i)
+    register_is : (i : ℕ) → i < n + 1 → (next_reading m r).signal (at n row.waiting + i) ≡ S (at n row.next + i)
     register_is i l =
-        ap (λ (xs : List Action). register_after r xs (waiting n + i) (S (waiting n + i))) is.actions
-        ∙ sets_after r (waiting n) (next n) (n + 1) i (S (waiting n + i)) l
+        ap (λ (xs : List Action). register_after r xs (at n row.waiting + i) (S (at n row.waiting + i))) is.actions
+        ∙ sets_after r (at n row.waiting) (at n row.next) (n + 1) i (S (at n row.waiting + i)) l
 
     silent : (o : Option ℕ) → written m r ≡ printed (barrier_machine n) s (asked (barrier_machine n) (barrier_places n) r) o
     silent o =
         ap (action_bytes m r) is.actions
-        ∙ ap (action_bytes m r) (sym (append-nil (sets (waiting n) (next n) (n + 1))))
-        ∙ sets_print r (waiting n) (next n) m 0 (n + 1) []
+        ∙ ap (action_bytes m r) (sym (append-nil (sets (at n row.waiting) (at n row.next) (n + 1))))
+        ∙ sets_print r (at n row.waiting) (at n row.next) m 0 (n + 1) []
         ∙ none_printed n s (asked (barrier_machine n) (barrier_places n) r) o
 
     -- with one of the threads
-    module _ (w : ℕ) (l : w < n) (alone : (k : ℕ) → k < n → S (grants n + k) ≡ bit_of (nat_eq w k)) where
-      joined_is : (k : ℕ) → k < n → S (bits n + k) ≡ slice_index (with_waiter s w) k
+    module _ (w : ℕ) (l : w < n) (alone : (k : ℕ) → k < n → S (at n row.grants + k) ≡ bit_of (nat_eq w k)) where
+      joined_is : (k : ℕ) → k < n → S (at n row.bits + k) ≡ slice_index (with_waiter s w) k
       joined_is k b =
-          told.1.1.1.1.1.1.1.1.1.1.1.1.1.1.1.1.1.1.1.1.1.0 k b
-          ∙ bit_joined s.waiting w k (S (grants n + k)) (S (waiting n + k)) (S (some n)) (let e = shown.sized in omega arith) told.1.1.1.1.1.1.1.1.1.1.1.0 (alone k b)
+          told row.bits k b
+          ∙ bit_joined s.waiting w k (S (at n row.grants + k)) (S (at n row.waiting + k)) (S (at n row.some)) (let e = shown.sized in omega arith) (told row.some) (alone k b)
           (shown.bits k b)
 
-      one_is : (k : ℕ) → k < n → S (ones n + k) ≡ slice_index (with_waiter s w) k
+      one_is : (k : ℕ) → k < n → S (at n row.ones + k) ≡ slice_index (with_waiter s w) k
       one_is k b =
-          told.1.1.1.1.1.1.1.1.1.1.1.1.1.1.1.1.1.1.1.1.1.1.0 k b
-          ∙ ap (λ x. if nat_eq (S (bits n + k)) 0 then x else S (unit n)) told.1.1.1.1.1.1.1.1.1.1.1.1.0
-          ∙ ap (λ x. if nat_eq (S (bits n + k)) 0 then 0 else x) told.1.1.1.1.1.1.1.1.1.1.1.1.1.0
-          ∙ own_number (S (bits n + k)) (obeys.within (bits n + k) _ (listed.1.1.1.1.1.1.1.1.1.1.1.1.1.1.1.1.1.1.1.1.1.0 k b)) ∙ joined_is k b
+          told row.ones k b
+          ∙ ap (λ x. if nat_eq (S (at n row.bits + k)) 0 then x else S (at n row.unit)) (told row.nought)
+          ∙ ap (λ x. if nat_eq (S (at n row.bits + k)) 0 then 0 else x) (told row.unit)
+          ∙ own_number (S (at n row.bits + k)) (obeys.within (at n row.bits + k) _ (there row.bits k b)) ∙ joined_is k b
 
-      sum_is : S (sum n) ≡ total_of n (with_waiter s w)
+      sum_is : S (at n row.sum + n) ≡ total_of n (with_waiter s w)
       sum_is =
-          summed n (λ k. S (sum_chain n + k)) (with_waiter s w) ok.few (ap r.signal (add-zero (sum_chain n)) ∙ told.1.1.1.1.1.1.1.1.1.1.1.1.1.1.1.1.1.1.1.1.1.1.1.0)
+          summed n (λ k. S (at n row.sum + k)) (with_waiter s w) ok.few (ap r.signal (add-zero (at n row.sum)) ∙ (told row.sum).0)
           (λ k b.
-          let z : sum_chain n + suc k ≡ sum_chain n + 1 + k = omega arith in
-          ap r.signal z ∙ told.1.1.1.1.1.1.1.1.1.1.1.1.1.1.1.1.1.1.1.1.1.1.1.1.0 k b
-          ∙ ap (λ v. word_sum v (S (sum_chain n + k)) (S (ones n + k))) (width_is m (sum_chain n + k) 64 (has_sum_chain k (omega arith)))
-          ∙ ap (λ y. word 64 (S (sum_chain n + k) + y)) (one_is k b))
-          (λ k b. subst (λ y. y < 2) (joined_is k b) (obeys.within (bits n + k) _ (listed.1.1.1.1.1.1.1.1.1.1.1.1.1.1.1.1.1.1.1.1.1.0 k b)))
+          let z : at n row.sum + suc k ≡ at n row.sum + 1 + k = omega arith in
+          ap r.signal z ∙ (told row.sum).1 k b
+          ∙ ap (λ v. word_sum v (S (at n row.sum + k)) (S (at n row.ones + k))) (width_is m (at n row.sum + k) 64 (has_sum k (omega arith)))
+          ∙ ap (λ y. word 64 (S (at n row.sum + k) + y)) (one_is k b))
+          (λ k b. subst (λ y. y < 2) (joined_is k b) (obeys.within (at n row.bits + k) _ (there row.bits k b)))
           n (omega arith)
 
       abbrev is_short : Bool
       is_short = nat_lt (total_of n (with_waiter s w)) s.count
 
-      short_is : S (short n) ≡ bit_of is_short
-      short_is = told.1.1.1.1.1.1.1.1.1.1.1.1.1.1.1.1.1.1.1.1.1.1.1.1.1.0 ∙ ap (λ y. bit_of (nat_lt (S (sum n)) y)) shown.count_is ∙ ap (λ y. bit_of (nat_lt y s.count)) sum_is
+      short_is : S (at n row.short) ≡ bit_of is_short
+      short_is = told row.short ∙ ap (λ y. bit_of (nat_lt (S (at n row.sum + n)) y)) shown.count_is ∙ ap (λ y. bit_of (nat_lt y s.count)) sum_is
 
-      stay_is : (i : ℕ) → i < n → S (stays n + i) ≡ (if is_short then slice_index (with_waiter s w) i else 0)
+      stay_is : (i : ℕ) → i < n → S (at n row.stays + i) ≡ (if is_short then slice_index (with_waiter s w) i else 0)
       stay_is i b =
-          told.1.1.1.1.1.1.1.1.1.1.1.1.1.1.1.1.1.1.1.1.1.1.1.1.1.1.1.1.1.0 i b ∙ tested is_short (S (short n)) (S (bits n + i)) (S (none n)) short_is
-          ∙ ap (λ y. if is_short then y else S (none n)) (joined_is i b)
-          ∙ ap (λ y. if is_short then slice_index (with_waiter s w) i else y) told.1.1.1.1.1.1.1.1.1.1.0
+          told row.stays i b ∙ tested is_short (S (at n row.short)) (S (at n row.bits + i)) (S (at n row.none)) short_is
+          ∙ ap (λ y. if is_short then y else S (at n row.none)) (joined_is i b)
+          ∙ ap (λ y. if is_short then slice_index (with_waiter s w) i else y) (told row.none)
 
     module _ (o : Option ℕ) (granted : Grants (barrier_machine n) (barrier_places n) n r o) where
-      operation_is : S (operation n) ≡ pick o 3 (λ k. S (operations n + k))
-      operation_is = chain_is r n (operation_chain n) (grants n) (operations n) 3 o told.1.1.1.1.1.1.1.1.1.1.1.1.1.1.1.1.1.0 told.1.1.1.1.1.1.1.1.1.1.1.1.1.1.1.1.1.1.0
+      operation_is : S (at n row.operation + n) ≡ pick o 3 (λ k. S (at n row.operations + k))
+      operation_is = chain_is r n (at n row.operation) (at n row.grants) (at n row.operations) 3 o (told row.operation).0 (told row.operation).1
           granted.below granted.bits
 
-      new_count_is : S (new_count n) ≡ pick o 0 (λ k. S (counts n + k))
-      new_count_is = chain_is r n (count_chain n) (grants n) (counts n) 0 o told.1.1.1.1.1.1.1.1.1.1.1.1.1.1.1.1.1.1.1.0 told.1.1.1.1.1.1.1.1.1.1.1.1.1.1.1.1.1.1.1.1.0
+      new_count_is : S (at n row.new_count + n) ≡ pick o 0 (λ k. S (at n row.counts + k))
+      new_count_is = chain_is r n (at n row.new_count) (at n row.grants) (at n row.counts) 0 o (told row.new_count).0 (told row.new_count).1
           granted.below granted.bits
 
     moves : (o : Option ℕ) → Grants (barrier_machine n) (barrier_places n) n r o
@@ -597,15 +246,15 @@ module _ (shape : Shape) (ok : IsShape shape) (m : Module) (is : IsBarrier shape
     }
     moves (Some w) granted =
         let o = Some w in
-        let x = S (operations n + w) in
+        let x = S (at n row.operations + w) in
         let e = operation_is o granted in
-        let c = S (counts n + w) in
+        let c = S (at n row.counts + w) in
         let l : w < n = granted.below w refl in
         let sh = is_short w l granted.bits in
         record {
           sized = after_sized n (nat_eq x 1) (nat_eq x 3) (nat_eq x 0) sh s w c shown.sized;
           bits = λ i b. register_is i (omega arith) ∙ next_is i b x e
-              ∙ ap (λ y. if nat_eq x 1 then y else (if nat_eq x 3 then S (waiting n + i) else 0)) (stay_is w l granted.bits i b)
+              ∙ ap (λ y. if nat_eq x 1 then y else (if nat_eq x 3 then S (at n row.waiting + i) else 0)) (stay_is w l granted.bits i b)
               ∙ ap (λ y. if nat_eq x 1 then (if sh then slice_index (with_waiter s w) i else 0) else (if nat_eq x 3 then y else 0)) (shown.bits i b)
               ∙ after_bit n (nat_eq x 1) (nat_eq x 3) (nat_eq x 0) sh s w c i;
           count_is = register_is n (omega arith) ∙ next_count_is x e
@@ -614,20 +263,20 @@ module _ (shape : Shape) (ok : IsShape shape) (m : Module) (is : IsBarrier shape
         }
 
   ask_input : (j i : ℕ) → j < 3 → i < n → HasInput m (part_place n j i)
-  ask_input zero i l b = barrier_leaf.first (asks n + i) (omega arith)
-  ask_input (suc zero) i l b = barrier_leaf.first (operations n + i) (omega arith)
-  ask_input (suc (suc j)) i l b = barrier_leaf.first (counts n + i) (omega arith)
+  ask_input zero i l b = barrier_leaf.first (at n row.asks + i) (omega arith)
+  ask_input (suc zero) i l b = barrier_leaf.first (at n row.operations + i) (omega arith)
+  ask_input (suc (suc j)) i l b = barrier_leaf.first (at n row.counts + i) (omega arith)
 
   pub barrier_core : IsCore (barrier_machine n) (barrier_places n) n m
   barrier_core = record {
     starts = starts;
     keeps = keeps;
-    faithful = λ h g s e f. record { registers = by_signals m (rows n) is.signals (SameRegister h g) (same_registers h g s e f); words = same_words h g };
+    faithful = faithful;
     hears = λ f g h. hears_same f g h;
     offers = λ r s ob sh i l. offer_is r s ob sh i l;
     tells = λ r s ob sh j i l b. tell_is r s ob sh i b;
     moves = λ r s o ob sh g. moves r s ob sh o g;
     writes = λ r s o ob sh g. silent r s ob sh o;
     ask_inputs = ask_input;
-    grant_inputs = λ i l. barrier_leaf.first (grants n + i) (omega arith);
+    grant_inputs = λ i l. barrier_leaf.first (at n row.grants + i) (omega arith);
   }

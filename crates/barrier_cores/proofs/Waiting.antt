@@ -8,7 +8,8 @@ use Rattle.circuit.specs.Rows.{spread}
 use Rattle.circuit.proofs.Growth.{length-spread}
 use Rattle.core_states.specs.Machines.{total_of, with_waiter, gate_eligible}
 use Rattle.core_states.proofs.Keeping.{passers_stay}
-use Rattle.barrier_cores.specs.Barrier.{waiting, count}
+use Rattle.barrier_cores.specs.Barrier.{at, waiting}
+use Rattle.barrier_cores.specs.Rows as row
 use Rattle.barrier_cores.specs.Laws.{OthersStay, FullClears, WaitSetsOwn, BarriersWait}
 use Rattle.circuit.proofs.Spreads.{spread_is}
 
@@ -35,7 +36,7 @@ wait_sets_own n g i count b l =
 pub barriers_wait : BarriersWait
 barriers_wait n = record {
   shown = λ r. (
-    record { count = r.signal (count n); waiting = spread (λ i. r.signal (waiting n + i)) 0 n },
+    record { count = r.signal (at n row.count); waiting = spread (λ i. r.signal (waiting n + i)) 0 n },
     record {
       sized = length-spread (λ i. r.signal (waiting n + i)) 0 n;
       bits = λ i l. spread_is (λ j. r.signal (waiting n + j)) n i l;

@@ -1,3 +1,4 @@
+pub mod Rows
 pub mod Barrier
 pub mod Machine
 pub mod Laws

@@ -1,19 +1,24 @@
 // The module of a barrier.
 
 ghost use Rattle.std.specs.Prelude.{◌≡◌, ◌≤◌, IfOk};
-ghost use Rattle.circuit.specs.Rows.{laid};
+ghost use Rattle.circuit.specs.Table.{laid};
 ghost use Rattle.circuit.specs.Modules.{IsLeaf};
 ghost use Rattle.circuit.specs.Interfaces.{IsTableModule};
 ghost use Rattle.circuit.specs.Machines.{IsCore};
 ghost use Rattle.barrier_cores.specs.Barrier.{rows, statements, IsShape, IsBarrier};
 ghost use Rattle.barrier_cores.specs.Machine.{barrier_machine, barrier_places, inputs, input_widths, output_widths, is_late};
 
-use circuit::rows::{Form, Operand, Role, Row, lay, sets};
+use circuit::rows::Role::{Argument, Ask, Clock, Grant, Offer, Operation, State, Told, Wire};
+use circuit::rows::sets;
+use circuit::table::Form::{Binary, Conditional, Constant, Input, Output, Register};
+use circuit::table::Operand::{Before, Last, Only, Same};
+use circuit::table::Row::{Chain, Each, One};
+use circuit::table::{Row, lay, place};
 use netlist::netlist::{Action, Module, Signal};
 use sqlite_items::Items;
 use std::alloc::{AllocError, Global};
 use verilog_tree::name::Identifier;
-use verilog_tree::tree::BinaryOperator;
+use verilog_tree::tree::BinaryOperator::{Add, And, Equal, Less};
 
 /// A barrier that so many threads ask.
 #[derive(Drop)]
@@ -61,354 +66,125 @@ fn actions(alloc: Global, threads: usize) -> Result<Items<Action>, AllocError>
     requires few { threads ≤ 64 }
     ensures { IfOk result (λ actions. actions ≡ statements threads) }
 {
-    let asks = 1;
-    let operations = asks + threads;
-    let counts = operations + threads;
-    let grants = counts + threads;
-    let waiting = grants + threads;
-    let count = waiting + threads;
-    let init = count + 1;
-    let wait = init + 1;
-    let nothing = wait + 1;
-    let none = nothing + 1;
-    let some = none + 1;
-    let nought = some + 1;
-    let unit = nought + 1;
-    let waits = unit + 1;
-    let bars = waits + threads;
-    let may = bars + threads;
-    let operation_chain = may + threads;
-    let count_chain = operation_chain + 1 + threads;
-    let bits = count_chain + 1 + threads;
-    let ones = bits + threads;
-    let sum_chain = ones + threads;
-    let short = sum_chain + 1 + threads;
-    let is_wait = short + 1;
-    let is_nothing = is_wait + 1;
-    let is_init = is_nothing + 1;
-    let stays = is_init + 1;
-    let others = stays + threads;
-    let given = others + threads;
-    let fresh = given + 1;
-    let next = fresh + 1;
+    let rows = rows();
+    let waiting = place(threads, &rows, WAITING);
+    let next = place(threads, &rows, NEXT);
     sets(alloc, waiting, next, threads + 1)
 }
 
-/// Chains of wires hand on the operation and the count of the granted thread; a chain of sums says how many wait with it.
 fn signals(alloc: Global, threads: usize) -> Result<Items<Signal>, AllocError>
     requires few { threads ≤ 64 }
-    ensures { IfOk result (λ signals. signals ≡ laid 0 (rows threads)) }
+    ensures { IfOk result (λ signals. signals ≡ laid threads rows) }
+{
+    lay(alloc, threads, &rows())
+}
+
+// The rows that statements name, by their numbers.
+const WAITING: usize = 5;
+
+const NEXT: usize = 30;
+
+/// The table. Chains of wires hand on the operation and the count of the granted thread; a chain of sums says how many wait
+/// with it.
+fn rows() -> [Row; 34]
+    ensures { result ≡ rows }
 {
     let asks = 1;
-    let operations = asks + threads;
-    let counts = operations + threads;
-    let grants = counts + threads;
-    let waiting = grants + threads;
-    let count = waiting + threads;
-    let init = count + 1;
-    let wait = init + 1;
-    let nothing = wait + 1;
-    let none = nothing + 1;
-    let some = none + 1;
-    let nought = some + 1;
-    let unit = nought + 1;
-    let waits = unit + 1;
-    let bars = waits + threads;
-    let may = bars + threads;
-    let operation_chain = may + threads;
-    let operation = operation_chain + threads;
-    let count_chain = operation_chain + 1 + threads;
-    let new_count = count_chain + threads;
-    let bits = count_chain + 1 + threads;
-    let ones = bits + threads;
-    let sum_chain = ones + threads;
-    let sum = sum_chain + threads;
-    let short = sum_chain + 1 + threads;
-    let is_wait = short + 1;
-    let is_nothing = is_wait + 1;
-    let is_init = is_nothing + 1;
-    let stays = is_init + 1;
-    let others = stays + threads;
-    let given = others + threads;
-    let fresh = given + 1;
-    let rows = [
-        Row::One {
-            role: Role::Clock,
-            width: 1,
-            form: Form::Input,
-        },
-        Row::Each {
-            count: threads,
-            role: Role::Ask,
-            width: 1,
-            form: Form::Input,
-        },
-        Row::Each {
-            count: threads,
-            role: Role::Operation,
-            width: 2,
-            form: Form::Input,
-        },
-        Row::Each {
-            count: threads,
-            role: Role::Argument,
-            width: 64,
-            form: Form::Input,
-        },
-        Row::Each {
-            count: threads,
-            role: Role::Grant,
-            width: 1,
-            form: Form::Input,
-        },
-        Row::Each {
-            count: threads,
-            role: Role::State,
-            width: 1,
-            form: Form::Register { initial: 0 },
-        },
-        Row::One {
-            role: Role::State,
-            width: 64,
-            form: Form::Register { initial: 0 },
-        },
-        Row::One {
-            role: Role::Wire,
-            width: 2,
-            form: Form::Constant { number: 0 },
-        },
-        Row::One {
-            role: Role::Wire,
-            width: 2,
-            form: Form::Constant { number: 1 },
-        },
-        Row::One {
-            role: Role::Wire,
-            width: 2,
-            form: Form::Constant { number: 3 },
-        },
-        Row::One {
-            role: Role::Wire,
-            width: 1,
-            form: Form::Constant { number: 0 },
-        },
-        Row::One {
-            role: Role::Wire,
-            width: 1,
-            form: Form::Constant { number: 1 },
-        },
-        Row::One {
-            role: Role::Wire,
-            width: 64,
-            form: Form::Constant { number: 0 },
-        },
-        Row::One {
-            role: Role::Wire,
-            width: 64,
-            form: Form::Constant { number: 1 },
-        },
-        Row::Each {
-            count: threads,
-            role: Role::Wire,
-            width: 1,
-            form: Form::Binary {
-                operator: BinaryOperator::Equal,
-                left: Operand::Each { first: operations },
-                right: Operand::Fixed { place: wait },
-            },
-        },
-        Row::Each {
-            count: threads,
-            role: Role::Wire,
-            width: 1,
-            form: Form::Binary {
-                operator: BinaryOperator::And,
-                left: Operand::Each { first: waits },
-                right: Operand::Each { first: waiting },
-            },
-        },
-        Row::Each {
-            count: threads,
-            role: Role::Wire,
-            width: 1,
-            form: Form::Conditional {
-                condition: Operand::Each { first: bars },
-                if_true: Operand::Fixed { place: none },
-                if_false: Operand::Each { first: asks },
-            },
-        },
-        Row::One {
-            role: Role::Wire,
-            width: 2,
-            form: Form::Constant { number: 3 },
-        },
-        Row::Each {
-            count: threads,
-            role: Role::Wire,
-            width: 2,
-            form: Form::Conditional {
-                condition: Operand::Each { first: grants },
-                if_true: Operand::Each { first: operations },
-                if_false: Operand::Each {
-                    first: operation_chain,
-                },
-            },
-        },
-        Row::One {
-            role: Role::Wire,
-            width: 64,
-            form: Form::Constant { number: 0 },
-        },
-        Row::Each {
-            count: threads,
-            role: Role::Wire,
-            width: 64,
-            form: Form::Conditional {
-                condition: Operand::Each { first: grants },
-                if_true: Operand::Each { first: counts },
-                if_false: Operand::Each { first: count_chain },
-            },
-        },
-        Row::Each {
-            count: threads,
-            role: Role::Wire,
-            width: 1,
-            form: Form::Conditional {
-                condition: Operand::Each { first: grants },
-                if_true: Operand::Fixed { place: some },
-                if_false: Operand::Each { first: waiting },
-            },
-        },
-        Row::Each {
-            count: threads,
-            role: Role::Wire,
-            width: 64,
-            form: Form::Conditional {
-                condition: Operand::Each { first: bits },
-                if_true: Operand::Fixed { place: unit },
-                if_false: Operand::Fixed { place: nought },
-            },
-        },
-        Row::One {
-            role: Role::Wire,
-            width: 64,
-            form: Form::Constant { number: 0 },
-        },
-        Row::Each {
-            count: threads,
-            role: Role::Wire,
-            width: 64,
-            form: Form::Binary {
-                operator: BinaryOperator::Add,
-                left: Operand::Each { first: sum_chain },
-                right: Operand::Each { first: ones },
-            },
-        },
-        Row::One {
-            role: Role::Wire,
-            width: 1,
-            form: Form::Binary {
-                operator: BinaryOperator::Less,
-                left: Operand::Fixed { place: sum },
-                right: Operand::Fixed { place: count },
-            },
-        },
-        Row::One {
-            role: Role::Wire,
-            width: 1,
-            form: Form::Binary {
-                operator: BinaryOperator::Equal,
-                left: Operand::Fixed { place: operation },
-                right: Operand::Fixed { place: wait },
-            },
-        },
-        Row::One {
-            role: Role::Wire,
-            width: 1,
-            form: Form::Binary {
-                operator: BinaryOperator::Equal,
-                left: Operand::Fixed { place: operation },
-                right: Operand::Fixed { place: nothing },
-            },
-        },
-        Row::One {
-            role: Role::Wire,
-            width: 1,
-            form: Form::Binary {
-                operator: BinaryOperator::Equal,
-                left: Operand::Fixed { place: operation },
-                right: Operand::Fixed { place: init },
-            },
-        },
-        Row::Each {
-            count: threads,
-            role: Role::Wire,
-            width: 1,
-            form: Form::Conditional {
-                condition: Operand::Fixed { place: short },
-                if_true: Operand::Each { first: bits },
-                if_false: Operand::Fixed { place: none },
-            },
-        },
-        Row::Each {
-            count: threads,
-            role: Role::Wire,
-            width: 1,
-            form: Form::Conditional {
-                condition: Operand::Fixed { place: is_nothing },
-                if_true: Operand::Each { first: waiting },
-                if_false: Operand::Fixed { place: none },
-            },
-        },
-        Row::One {
-            role: Role::Wire,
-            width: 64,
-            form: Form::Conditional {
-                condition: Operand::Fixed { place: is_init },
-                if_true: Operand::Fixed { place: new_count },
-                if_false: Operand::Fixed { place: nought },
-            },
-        },
-        Row::One {
-            role: Role::Wire,
-            width: 64,
-            form: Form::Conditional {
-                condition: Operand::Fixed { place: is_nothing },
-                if_true: Operand::Fixed { place: count },
-                if_false: Operand::Fixed { place: given },
-            },
-        },
-        Row::Each {
-            count: threads,
-            role: Role::Wire,
-            width: 1,
-            form: Form::Conditional {
-                condition: Operand::Fixed { place: is_wait },
-                if_true: Operand::Each { first: stays },
-                if_false: Operand::Each { first: others },
-            },
-        },
-        Row::One {
-            role: Role::Wire,
-            width: 64,
-            form: Form::Conditional {
-                condition: Operand::Fixed { place: is_wait },
-                if_true: Operand::Fixed { place: count },
-                if_false: Operand::Fixed { place: fresh },
-            },
-        },
-        Row::Each {
-            count: threads,
-            role: Role::Offer,
-            width: 1,
-            form: Form::Output(Operand::Each { first: may }),
-        },
-        Row::Each {
-            count: threads,
-            role: Role::Told,
-            width: 1,
-            form: Form::Output(Operand::Each { first: waiting }),
-        },
-    ];
-    lay(alloc, &rows)
+    let operations = 2;
+    let counts = 3;
+    let grants = 4;
+    let count = 6;
+    let init = 7;
+    let wait = 8;
+    let nothing = 9;
+    let none = 10;
+    let some = 11;
+    let nought = 12;
+    let unit = 13;
+    let waits = 14;
+    let bars = 15;
+    let may = 16;
+    let operation = 17;
+    let new_count = 18;
+    let bits = 19;
+    let ones = 20;
+    let sum = 21;
+    let short = 22;
+    let is_wait = 23;
+    let is_nothing = 24;
+    let is_init = 25;
+    let stays = 26;
+    let others = 27;
+    let given = 28;
+    let fresh = 29;
+    [
+        One(Clock, 1, Input),
+        Each(Ask, 1, Input),
+        Each(Operation, 2, Input),
+        Each(Argument, 64, Input),
+        Each(Grant, 1, Input),
+        Each(State, 1, Register(0)),
+        One(State, 64, Register(0)),
+        One(Wire, 2, Constant(0)),
+        One(Wire, 2, Constant(1)),
+        One(Wire, 2, Constant(3)),
+        One(Wire, 1, Constant(0)),
+        One(Wire, 1, Constant(1)),
+        One(Wire, 64, Constant(0)),
+        One(Wire, 64, Constant(1)),
+        Each(Wire, 1, Binary(Equal, Same(operations), Only(wait))),
+        Each(Wire, 1, Binary(And, Same(waits), Same(WAITING))),
+        Each(Wire, 1, Conditional(Same(bars), Only(none), Same(asks))),
+        Chain(
+            Wire,
+            2,
+            Constant(3),
+            Conditional(Same(grants), Same(operations), Before(operation)),
+        ),
+        Chain(
+            Wire,
+            64,
+            Constant(0),
+            Conditional(Same(grants), Same(counts), Before(new_count)),
+        ),
+        Each(
+            Wire,
+            1,
+            Conditional(Same(grants), Only(some), Same(WAITING)),
+        ),
+        Each(Wire, 64, Conditional(Same(bits), Only(unit), Only(nought))),
+        Chain(Wire, 64, Constant(0), Binary(Add, Before(sum), Same(ones))),
+        One(Wire, 1, Binary(Less, Last(sum), Only(count))),
+        One(Wire, 1, Binary(Equal, Last(operation), Only(wait))),
+        One(Wire, 1, Binary(Equal, Last(operation), Only(nothing))),
+        One(Wire, 1, Binary(Equal, Last(operation), Only(init))),
+        Each(Wire, 1, Conditional(Only(short), Same(bits), Only(none))),
+        Each(
+            Wire,
+            1,
+            Conditional(Only(is_nothing), Same(WAITING), Only(none)),
+        ),
+        One(
+            Wire,
+            64,
+            Conditional(Only(is_init), Last(new_count), Only(nought)),
+        ),
+        One(
+            Wire,
+            64,
+            Conditional(Only(is_nothing), Only(count), Only(given)),
+        ),
+        Each(
+            Wire,
+            1,
+            Conditional(Only(is_wait), Same(stays), Same(others)),
+        ),
+        One(
+            Wire,
+            64,
+            Conditional(Only(is_wait), Only(count), Only(fresh)),
+        ),
+        Each(Offer, 1, Output(Same(may))),
+        Each(Told, 1, Output(Same(WAITING))),
+    ]
 }
