@@ -5,7 +5,7 @@ use Rattle.std.proofs.lemmas.List.{append-nil, length-replicate}
 use Rattle.netlist.specs.declared.netlist.Module.{Module}
 use Rattle.circuit.specs.Modules.{IsLeaf, is_between}
 use Rattle.circuit.specs.Interfaces.{first_of, HasInterface}
-use Rattle.circuit.proofs.Growth.{length-laid}
+use Rattle.circuit.proofs.TableRows.{length-laid}
 use Rattle.circuit.proofs.Tables.{between_on, between_behind}
 use Rattle.barrier_cores.specs.declared.barrier.Shape.{Shape}
 use Rattle.barrier_cores.specs.Barrier.{grants, waiting, operation_chain, offers, tells, rows}
@@ -23,7 +23,7 @@ module _ (s : Shape) (m : Module) (is : IsCoreModule s.threads (Barrier s) m) wh
 
   offers_first : first_of m (outputs n (1 ∷ [])) ≡ offers n
   offers_first =
-      let a = ap length is.table.signals in let b = length-laid 0 (rows n) in
+      let a = ap length is.table.signals in let b = length-laid n rows in
       let c = length-replicate {A = ℕ} n 1 in let d = ap length same_outputs in
       let e = length-append {A = ℕ} (replicate n 1) (replicate n 1) in
       omega (arith, a, b, c, d, e)
