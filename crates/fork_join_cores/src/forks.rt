@@ -1,19 +1,23 @@
 // The module of the fork and join core.
 
 ghost use Rattle.std.specs.Prelude.{◌≡◌, ◌≤◌, [], ◌∷◌, replicate, IfOk};
-ghost use Rattle.circuit.specs.Rows.{laid};
+ghost use Rattle.circuit.specs.Table.{laid};
 ghost use Rattle.circuit.specs.Modules.{IsLeaf};
 ghost use Rattle.circuit.specs.Interfaces.{IsTableModule};
 ghost use Rattle.circuit.specs.Machines.{IsCore};
-ghost use Rattle.fork_join_cores.specs.Forks.{status_memory, argument_memory, rows, statements, store_under, IsShape, IsForks};
+ghost use Rattle.fork_join_cores.specs.Forks.{end, status_memory, argument_memory, rows, statements, store_under, IsShape, IsForks};
 ghost use Rattle.fork_join_cores.specs.Machine.{forks_machine, forks_places, inputs, input_widths, output_widths, is_late};
 
-use circuit::rows::{Form, Operand, Role, Row, lay};
+use circuit::rows::Role::{Address, Ask, Clock, Data, Grant, Offer, Operation, Told, Wire};
+use circuit::table::Form::{Binary, Conditional, Constant, Count, Input, MemoryRead, Output};
+use circuit::table::Operand::{Before, Only, Same};
+use circuit::table::Row::{Chain, Each, One};
+use circuit::table::{Row, lay, place};
 use netlist::netlist::{Action, Effect, Memory, Module, Signal};
 use sqlite_items::Items;
 use std::alloc::{AllocError, Global};
 use verilog_tree::name::Identifier;
-use verilog_tree::tree::BinaryOperator;
+use verilog_tree::tree::BinaryOperator::Equal;
 
 /// A fork and join core that so many threads ask.
 #[derive(Drop)]
@@ -109,412 +113,162 @@ fn actions(alloc: Global, threads: usize) -> Result<Items<Action>, AllocError>
     requires few { threads ≤ 64 }
     ensures { IfOk result (λ actions. actions ≡ statements threads) }
 {
-    let asks = 1;
-    let operations = asks + threads;
-    let ids = operations + threads;
-    let arguments = ids + threads;
-    let grants = arguments + threads;
-    let zero_code = grants + threads;
-    let one_code = zero_code + 1;
-    let two_code = one_code + 1;
-    let none = two_code + 1;
-    let some = none + 1;
-    let statuses = some + 1;
-    let running = statuses + threads;
-    let finished = running + threads;
-    let creates = finished + threads;
-    let joins = creates + threads;
-    let may_create = joins + threads;
-    let may_join = may_create + threads;
-    let others = may_join + threads;
-    let may = others + threads;
-    let numbers = may + threads;
-    let aims = numbers + threads;
-    let targets = aims + threads;
-    let ends = targets + threads;
-    let values = ends + threads;
-    let own = values + threads;
-    let runs = own + threads;
-    let given = runs + threads;
-    let going_chain = given + threads;
-    let going = going_chain + threads;
-    let target_chain = going_chain + 1 + threads;
-    let target = target_chain + threads;
-    let value_chain = target_chain + 1 + threads;
-    let value = value_chain + threads;
-    let argument_chain = value_chain + 1 + threads;
-    let argument = argument_chain + threads;
-    let create_chain = argument_chain + 1 + threads;
-    let create = create_chain + threads;
     let mut actions = Items::new(alloc);
-    let status = store_under(alloc, 0, going, target, value)?;
+    let target = end_of(threads, TARGET);
+    let status = store_under(
+        alloc,
+        0,
+        end_of(threads, GOING),
+        target,
+        end_of(threads, VALUE),
+    )?;
     actions.push(status)?;
-    let given = store_under(alloc, 1, create, target, argument)?;
+    let given = store_under(
+        alloc,
+        1,
+        end_of(threads, CREATE),
+        target,
+        end_of(threads, ARGUMENT),
+    )?;
     actions.push(given)?;
     Ok(actions)
 }
 
-/// Of each thread wires compare the status of the id that it names and its operation, and choose what it would store;
-/// chains of wires hand on that of the granted thread.
+/// The place of the end of a chain.
+fn end_of(threads: usize, chain: usize) -> usize
+    requires few { threads ≤ 64 }
+    ensures { result ≡ end threads chain }
+{
+    place(threads, &rows(), chain) + threads
+}
+
 fn signals(alloc: Global, threads: usize) -> Result<Items<Signal>, AllocError>
     requires few { threads ≤ 64 }
-    ensures { IfOk result (λ signals. signals ≡ laid 0 (rows threads)) }
+    ensures { IfOk result (λ signals. signals ≡ laid threads rows) }
+{
+    lay(alloc, threads, &rows())
+}
+
+// The rows that statements name, by their numbers.
+const GOING: usize = 28;
+
+const TARGET: usize = 29;
+
+const VALUE: usize = 30;
+
+const ARGUMENT: usize = 31;
+
+const CREATE: usize = 32;
+
+/// The table. Of each thread wires compare the status of the id that it names and its operation, and choose what it would
+/// store; chains of wires hand on that of the granted thread.
+fn rows() -> [Row; 36]
+    ensures { result ≡ rows }
 {
     let asks = 1;
-    let operations = asks + threads;
-    let ids = operations + threads;
-    let arguments = ids + threads;
-    let grants = arguments + threads;
-    let zero_code = grants + threads;
-    let one_code = zero_code + 1;
-    let two_code = one_code + 1;
-    let none = two_code + 1;
-    let some = none + 1;
-    let statuses = some + 1;
-    let running = statuses + threads;
-    let finished = running + threads;
-    let creates = finished + threads;
-    let joins = creates + threads;
-    let may_create = joins + threads;
-    let may_join = may_create + threads;
-    let others = may_join + threads;
-    let may = others + threads;
-    let numbers = may + threads;
-    let aims = numbers + threads;
-    let targets = aims + threads;
-    let ends = targets + threads;
-    let values = ends + threads;
-    let own = values + threads;
-    let runs = own + threads;
-    let given = runs + threads;
-    let going_chain = given + threads;
-    let target_chain = going_chain + 1 + threads;
-    let value_chain = target_chain + 1 + threads;
-    let argument_chain = value_chain + 1 + threads;
-    let create_chain = argument_chain + 1 + threads;
-    let rows = [
-        Row::One {
-            role: Role::Clock,
-            width: 1,
-            form: Form::Input,
-        },
-        Row::Each {
-            count: threads,
-            role: Role::Ask,
-            width: 1,
-            form: Form::Input,
-        },
-        Row::Each {
-            count: threads,
-            role: Role::Operation,
-            width: 2,
-            form: Form::Input,
-        },
-        Row::Each {
-            count: threads,
-            role: Role::Address,
-            width: 64,
-            form: Form::Input,
-        },
-        Row::Each {
-            count: threads,
-            role: Role::Data,
-            width: 64,
-            form: Form::Input,
-        },
-        Row::Each {
-            count: threads,
-            role: Role::Grant,
-            width: 1,
-            form: Form::Input,
-        },
-        Row::One {
-            role: Role::Wire,
-            width: 2,
-            form: Form::Constant { number: 0 },
-        },
-        Row::One {
-            role: Role::Wire,
-            width: 2,
-            form: Form::Constant { number: 1 },
-        },
-        Row::One {
-            role: Role::Wire,
-            width: 2,
-            form: Form::Constant { number: 2 },
-        },
-        Row::One {
-            role: Role::Wire,
-            width: 1,
-            form: Form::Constant { number: 0 },
-        },
-        Row::One {
-            role: Role::Wire,
-            width: 1,
-            form: Form::Constant { number: 1 },
-        },
-        Row::Each {
-            count: threads,
-            role: Role::Wire,
-            width: 2,
-            form: Form::MemoryRead {
-                memory: 0,
-                address: Operand::Each { first: ids },
-            },
-        },
-        Row::Each {
-            count: threads,
-            role: Role::Wire,
-            width: 1,
-            form: Form::Binary {
-                operator: BinaryOperator::Equal,
-                left: Operand::Each { first: statuses },
-                right: Operand::Fixed { place: one_code },
-            },
-        },
-        Row::Each {
-            count: threads,
-            role: Role::Wire,
-            width: 1,
-            form: Form::Binary {
-                operator: BinaryOperator::Equal,
-                left: Operand::Each { first: statuses },
-                right: Operand::Fixed { place: two_code },
-            },
-        },
-        Row::Each {
-            count: threads,
-            role: Role::Wire,
-            width: 1,
-            form: Form::Binary {
-                operator: BinaryOperator::Equal,
-                left: Operand::Each { first: operations },
-                right: Operand::Fixed { place: zero_code },
-            },
-        },
-        Row::Each {
-            count: threads,
-            role: Role::Wire,
-            width: 1,
-            form: Form::Binary {
-                operator: BinaryOperator::Equal,
-                left: Operand::Each { first: operations },
-                right: Operand::Fixed { place: one_code },
-            },
-        },
-        Row::Each {
-            count: threads,
-            role: Role::Wire,
-            width: 1,
-            form: Form::Conditional {
-                condition: Operand::Each { first: running },
-                if_true: Operand::Fixed { place: none },
-                if_false: Operand::Each { first: asks },
-            },
-        },
-        Row::Each {
-            count: threads,
-            role: Role::Wire,
-            width: 1,
-            form: Form::Conditional {
-                condition: Operand::Each { first: finished },
-                if_true: Operand::Each { first: asks },
-                if_false: Operand::Fixed { place: none },
-            },
-        },
-        Row::Each {
-            count: threads,
-            role: Role::Wire,
-            width: 1,
-            form: Form::Conditional {
-                condition: Operand::Each { first: joins },
-                if_true: Operand::Each { first: may_join },
-                if_false: Operand::Each { first: asks },
-            },
-        },
-        Row::Each {
-            count: threads,
-            role: Role::Wire,
-            width: 1,
-            form: Form::Conditional {
-                condition: Operand::Each { first: creates },
-                if_true: Operand::Each { first: may_create },
-                if_false: Operand::Each { first: others },
-            },
-        },
-        Row::Each {
-            count: threads,
-            role: Role::Wire,
-            width: 64,
-            form: Form::Count { first: 0 },
-        },
-        Row::Each {
-            count: threads,
-            role: Role::Wire,
-            width: 64,
-            form: Form::Conditional {
-                condition: Operand::Each { first: joins },
-                if_true: Operand::Each { first: ids },
-                if_false: Operand::Each { first: numbers },
-            },
-        },
-        Row::Each {
-            count: threads,
-            role: Role::Wire,
-            width: 64,
-            form: Form::Conditional {
-                condition: Operand::Each { first: creates },
-                if_true: Operand::Each { first: ids },
-                if_false: Operand::Each { first: aims },
-            },
-        },
-        Row::Each {
-            count: threads,
-            role: Role::Wire,
-            width: 2,
-            form: Form::Conditional {
-                condition: Operand::Each { first: joins },
-                if_true: Operand::Fixed { place: zero_code },
-                if_false: Operand::Fixed { place: two_code },
-            },
-        },
-        Row::Each {
-            count: threads,
-            role: Role::Wire,
-            width: 2,
-            form: Form::Conditional {
-                condition: Operand::Each { first: creates },
-                if_true: Operand::Fixed { place: one_code },
-                if_false: Operand::Each { first: ends },
-            },
-        },
-        Row::Each {
-            count: threads,
-            role: Role::Wire,
-            width: 2,
-            form: Form::MemoryRead {
-                memory: 0,
-                address: Operand::Each { first: numbers },
-            },
-        },
-        Row::Each {
-            count: threads,
-            role: Role::Wire,
-            width: 1,
-            form: Form::Binary {
-                operator: BinaryOperator::Equal,
-                left: Operand::Each { first: own },
-                right: Operand::Fixed { place: one_code },
-            },
-        },
-        Row::Each {
-            count: threads,
-            role: Role::Wire,
-            width: 64,
-            form: Form::MemoryRead {
-                memory: 1,
-                address: Operand::Each { first: numbers },
-            },
-        },
-        Row::One {
-            role: Role::Wire,
-            width: 1,
-            form: Form::Constant { number: 0 },
-        },
-        Row::Each {
-            count: threads,
-            role: Role::Wire,
-            width: 1,
-            form: Form::Conditional {
-                condition: Operand::Each { first: grants },
-                if_true: Operand::Fixed { place: some },
-                if_false: Operand::Each { first: going_chain },
-            },
-        },
-        Row::One {
-            role: Role::Wire,
-            width: 64,
-            form: Form::Constant { number: 0 },
-        },
-        Row::Each {
-            count: threads,
-            role: Role::Wire,
-            width: 64,
-            form: Form::Conditional {
-                condition: Operand::Each { first: grants },
-                if_true: Operand::Each { first: targets },
-                if_false: Operand::Each {
-                    first: target_chain,
-                },
-            },
-        },
-        Row::One {
-            role: Role::Wire,
-            width: 2,
-            form: Form::Constant { number: 0 },
-        },
-        Row::Each {
-            count: threads,
-            role: Role::Wire,
-            width: 2,
-            form: Form::Conditional {
-                condition: Operand::Each { first: grants },
-                if_true: Operand::Each { first: values },
-                if_false: Operand::Each { first: value_chain },
-            },
-        },
-        Row::One {
-            role: Role::Wire,
-            width: 64,
-            form: Form::Constant { number: 0 },
-        },
-        Row::Each {
-            count: threads,
-            role: Role::Wire,
-            width: 64,
-            form: Form::Conditional {
-                condition: Operand::Each { first: grants },
-                if_true: Operand::Each { first: arguments },
-                if_false: Operand::Each {
-                    first: argument_chain,
-                },
-            },
-        },
-        Row::One {
-            role: Role::Wire,
-            width: 1,
-            form: Form::Constant { number: 0 },
-        },
-        Row::Each {
-            count: threads,
-            role: Role::Wire,
-            width: 1,
-            form: Form::Conditional {
-                condition: Operand::Each { first: grants },
-                if_true: Operand::Each { first: creates },
-                if_false: Operand::Each {
-                    first: create_chain,
-                },
-            },
-        },
-        Row::Each {
-            count: threads,
-            role: Role::Offer,
-            width: 1,
-            form: Form::Output(Operand::Each { first: may }),
-        },
-        Row::Each {
-            count: threads,
-            role: Role::Told,
-            width: 1,
-            form: Form::Output(Operand::Each { first: runs }),
-        },
-        Row::Each {
-            count: threads,
-            role: Role::Told,
-            width: 64,
-            form: Form::Output(Operand::Each { first: given }),
-        },
-    ];
-    lay(alloc, &rows)
+    let operations = 2;
+    let ids = 3;
+    let arguments = 4;
+    let grants = 5;
+    let zero_code = 6;
+    let one_code = 7;
+    let two_code = 8;
+    let none = 9;
+    let some = 10;
+    let statuses = 11;
+    let running = 12;
+    let finished = 13;
+    let creates = 14;
+    let joins = 15;
+    let may_create = 16;
+    let may_join = 17;
+    let others = 18;
+    let may = 19;
+    let numbers = 20;
+    let aims = 21;
+    let targets = 22;
+    let ends = 23;
+    let values = 24;
+    let own = 25;
+    let runs = 26;
+    let given = 27;
+    [
+        One(Clock, 1, Input),
+        Each(Ask, 1, Input),
+        Each(Operation, 2, Input),
+        Each(Address, 64, Input),
+        Each(Data, 64, Input),
+        Each(Grant, 1, Input),
+        One(Wire, 2, Constant(0)),
+        One(Wire, 2, Constant(1)),
+        One(Wire, 2, Constant(2)),
+        One(Wire, 1, Constant(0)),
+        One(Wire, 1, Constant(1)),
+        Each(Wire, 2, MemoryRead(0, Same(ids))),
+        Each(Wire, 1, Binary(Equal, Same(statuses), Only(one_code))),
+        Each(Wire, 1, Binary(Equal, Same(statuses), Only(two_code))),
+        Each(Wire, 1, Binary(Equal, Same(operations), Only(zero_code))),
+        Each(Wire, 1, Binary(Equal, Same(operations), Only(one_code))),
+        Each(Wire, 1, Conditional(Same(running), Only(none), Same(asks))),
+        Each(Wire, 1, Conditional(Same(finished), Same(asks), Only(none))),
+        Each(
+            Wire,
+            1,
+            Conditional(Same(joins), Same(may_join), Same(asks)),
+        ),
+        Each(
+            Wire,
+            1,
+            Conditional(Same(creates), Same(may_create), Same(others)),
+        ),
+        Each(Wire, 64, Count(0)),
+        Each(Wire, 64, Conditional(Same(joins), Same(ids), Same(numbers))),
+        Each(Wire, 64, Conditional(Same(creates), Same(ids), Same(aims))),
+        Each(
+            Wire,
+            2,
+            Conditional(Same(joins), Only(zero_code), Only(two_code)),
+        ),
+        Each(
+            Wire,
+            2,
+            Conditional(Same(creates), Only(one_code), Same(ends)),
+        ),
+        Each(Wire, 2, MemoryRead(0, Same(numbers))),
+        Each(Wire, 1, Binary(Equal, Same(own), Only(one_code))),
+        Each(Wire, 64, MemoryRead(1, Same(numbers))),
+        Chain(
+            Wire,
+            1,
+            Constant(0),
+            Conditional(Same(grants), Only(some), Before(GOING)),
+        ),
+        Chain(
+            Wire,
+            64,
+            Constant(0),
+            Conditional(Same(grants), Same(targets), Before(TARGET)),
+        ),
+        Chain(
+            Wire,
+            2,
+            Constant(0),
+            Conditional(Same(grants), Same(values), Before(VALUE)),
+        ),
+        Chain(
+            Wire,
+            64,
+            Constant(0),
+            Conditional(Same(grants), Same(arguments), Before(ARGUMENT)),
+        ),
+        Chain(
+            Wire,
+            1,
+            Constant(0),
+            Conditional(Same(grants), Same(creates), Before(CREATE)),
+        ),
+        Each(Offer, 1, Output(Same(may))),
+        Each(Told, 1, Output(Same(runs))),
+        Each(Told, 64, Output(Same(given))),
+    ]
 }
