@@ -5,7 +5,7 @@ use Rattle.std.proofs.lemmas.List.{append-nil, length-replicate}
 use Rattle.netlist.specs.declared.netlist.Module.{Module}
 use Rattle.circuit.specs.Modules.{IsLeaf, is_between}
 use Rattle.circuit.specs.Interfaces.{first_of, HasInterface}
-use Rattle.circuit.proofs.Growth.{length-laid}
+use Rattle.circuit.proofs.TableRows.{length-laid}
 use Rattle.circuit.proofs.Tables.{between_on, between_behind}
 use Rattle.core_family.specs.Shape.{Shape}
 use Rattle.core_family.specs.Forks.{grants, zero_code, going_chain, offers, rows}
@@ -29,7 +29,7 @@ module _ (s : Shape) (m : Module) (is : IsCoreModule s.threads (Forks s) m) wher
 
   offers_first : first_of m (outputs n told) ≡ offers n
   offers_first =
-      let a = ap length is.table.signals in let b = length-laid 0 (rows n) in
+      let a = ap length is.table.signals in let b = length-laid n rows in
       let c = length-replicate {A = ℕ} n 1 in let w = length-replicate {A = ℕ} n 64 in let d = ap length same_outputs in
       let e = length-append {A = ℕ} (replicate n 1) (replicate n 64) in
       let f = length-append {A = ℕ} (replicate n 1) (replicate n 1 ++ replicate n 64) in
