@@ -117,7 +117,7 @@ module _ (n : ℕ) (few : n ≤ 64) (late : ℕ → Bool) (memories : List Words
       ap (rows_end n 0) (drop_take (outputs rows) k rows) ∙ rows_end-append n 0 (take (outputs rows) rows) (take k (drop (outputs rows) rows)) in
       subst (λ y. Has m (y + e) (row_width r)) z (has_at n rows m is (outputs rows + k) r (drop_get (outputs rows) k rows r q) e l))
 
-  roles : (x : ℕ) (s : Signal) → slice_get m.signals x ≡ Some s → HasRole x s
+  pub roles : (x : ℕ) (s : Signal) → slice_get m.signals x ≡ Some s → HasRole x s
   roles = by_signals n rows m is HasRole (elements n few late memories rows ok HasRole (λ k r w f i x el. (r, refl)))
 
   module _ (set : (x : ℕ) → P (inputs rows) ≤ x → x < P (registers rows) → (c : ℕ) → IsSet m x (source.Register c)) (small : length m.signals < 2 ^ 64) where
