@@ -16,13 +16,13 @@ use Rattle.circuit.specs.Rows.{EachOf}
 use Rattle.circuit.specs.Modules.{Has, IsLeaf, FitsAction, FitsMemory}
 use Rattle.circuit.specs.Interfaces.{IsTableModule}
 use Rattle.circuit.specs.Table.{rows_end, place, laid, widths}
-use Rattle.circuit.specs.Fits.{inputs, registers, outputs, input_widths, output_widths, only_width, Words, fits}
+use Rattle.circuit.specs.Fits.{inputs, registers, outputs, input_widths, output_widths, only_width, Words}
 use Rattle.circuit.proofs.Forming.{ActsOnData, IsFormedMemory}
 use Rattle.circuit.proofs.RowModules.{HasRole, roles_apart, signals_apart, not_zero, behind_dash, HasFrom, no_more, one_more, many_more, all_alike, has_ports}
 use Rattle.circuit.proofs.TableModules.{table_module}
 use Rattle.circuit.proofs.TableRows.{row_size, place_up, rows_end-append, by_signals, length-laid}
 use Rattle.circuit.proofs.TableElements.{elements, some_inputs, inputs_first, outputs_last, place_one, clock_wide}
-use Rattle.circuit.proofs.TableSound.{row_width, has_at, AreMemories, leaf, formed}
+use Rattle.circuit.proofs.TableSound.{row_width, has_at, IsLaid, leaf, formed}
 
 -- ---- parts of a list of rows
 
@@ -78,10 +78,7 @@ module _ (n : ℕ) where
 
 -- ---- the module
 
-module _ (n : ℕ) (few : n ≤ 64) (late : ℕ → Bool) (memories : List Words) (rows : List Row) (ok : fits late memories rows ≡ true)
-    (m : Module) (is : m.signals ≡ laid n rows) (late_at : ℕ → Bool)
-    (agrees : (k x : ℕ) → place n rows k ≤ x → x < place n rows (suc k) → late_at x ≡ late k)
-    (words : AreMemories m memories) where
+module _ {n : ℕ} {late : ℕ → Bool} {memories : List Words} {rows : List Row} {m : Module} {late_at : ℕ → Bool} (table : IsLaid n late memories rows m late_at) where
   abbrev P : ℕ → ℕ
   P = place n rows
 
@@ -96,59 +93,59 @@ module _ (n : ℕ) (few : n ≤ 64) (late : ℕ → Bool) (memories : List Words
 
   pub signals_long : length m.signals ≡ P (outputs rows) + length outs
   signals_long =
-      ap length is ∙ length-laid n rows ∙ ap (rows_end n 0) (sym (take-append-drop (outputs rows) rows))
+      ap length table.signals ∙ length-laid n rows ∙ ap (rows_end n 0) (sym (take-append-drop (outputs rows) rows))
       ∙ rows_end-append n 0 (take (outputs rows) rows) (drop (outputs rows) rows)
       ∙ sym (length-widths n (P (outputs rows)) (drop (outputs rows) rows))
 
   clock_row : (o : Option Row) → slice_get rows 0 ≡ o → only_width o ≡ 1 → Has m 0 1
   clock_row None e w = absurd (omega arith)
-  clock_row (Some (One r v f)) e w = subst (Has m 0) w (at_first n m 0 v (has_at n rows m is 0 (One r v f) e 0 (omega arith)))
+  clock_row (Some (One r v f)) e w = subst (Has m 0) w (at_first n m 0 v (has_at n rows m table.signals 0 (One r v f) e 0 (omega arith)))
   clock_row (Some (Each r v f)) e w = absurd (omega arith)
   clock_row (Some (Chain r v first step)) e w = absurd (omega arith)
 
   inputs_are : HasFrom m 0 ins
   inputs_are = has_from n m 0 (take (inputs rows) rows) (λ k r q e l.
       let g = take_get (inputs rows) k rows r q in
-      subst (λ (ks : List Row). Has m (rows_end n 0 ks + e) (row_width r)) (sym g.1) (has_at n rows m is k r g.0 e l))
+      subst (λ (ks : List Row). Has m (rows_end n 0 ks + e) (row_width r)) (sym g.1) (has_at n rows m table.signals k r g.0 e l))
 
   outputs_are : HasFrom m (P (outputs rows)) outs
   outputs_are = has_from n m (P (outputs rows)) (drop (outputs rows) rows) (λ k r q e l.
       let z : P (outputs rows + k) ≡ rows_end n (P (outputs rows)) (take k (drop (outputs rows) rows)) =
       ap (rows_end n 0) (drop_take (outputs rows) k rows) ∙ rows_end-append n 0 (take (outputs rows) rows) (take k (drop (outputs rows) rows)) in
-      subst (λ y. Has m (y + e) (row_width r)) z (has_at n rows m is (outputs rows + k) r (drop_get (outputs rows) k rows r q) e l))
+      subst (λ y. Has m (y + e) (row_width r)) z (has_at n rows m table.signals (outputs rows + k) r (drop_get (outputs rows) k rows r q) e l))
 
   pub roles : (x : ℕ) (s : Signal) → slice_get m.signals x ≡ Some s → HasRole x s
-  roles = by_signals n rows m is HasRole (elements n few late memories rows ok HasRole (λ k r w f i x el. (r, refl)))
+  roles = by_signals n rows m table.signals HasRole (elements n table.few late memories rows table.passes HasRole (λ k r w f i x el. (r, refl)))
 
   module _ (set : (x : ℕ) → P (inputs rows) ≤ x → x < P (registers rows) → (c : ℕ) → IsSet m x (source.Register c)) (small : length m.signals < 2 ^ 64) where
     pub signals_named : AreApart (signal_names m)
-    signals_named = signals_apart m roles small (P (outputs rows)) (formed n few late memories rows ok m is late_at agrees words set)
+    signals_named = signals_apart m roles small (P (outputs rows)) (formed table set)
 
     pub none_zero : (x : ℕ) (s : Signal) → slice_get m.signals x ≡ Some s → (y : List ℕ) → s.name ≡ y → behind_dash y ≡ decimal 0 → is_clk y ≡ false → ⊥
-    none_zero = not_zero m roles small (P (outputs rows)) (formed n few late memories rows ok m is late_at agrees words set)
+    none_zero = not_zero m roles small (P (outputs rows)) (formed table set)
 
     pub apart : m.memories ≡ [] → m.instances ≡ [] → AreApart (declared_names m)
-    apart = roles_apart m roles small (P (outputs rows)) (formed n few late memories rows ok m is late_at agrees words set)
+    apart = roles_apart m roles small (P (outputs rows)) (formed table set)
 
     pub stands : m.instances ≡ [] → EachOf (FitsAction m) m.actions → EachOf FitsMemory m.memories → AreApart (declared_names m) → is_clk m.name ≡ false
         → EachOf (ActsOnData m) m.actions → EachOf (IsFormedMemory m) m.memories → IsTableModule m ins outs
     stands alone acts begins names named clean fills =
-        let one = place_one n few late memories rows ok in
-        let some = some_inputs n few late memories rows ok in
-        let a = inputs_first n few late memories rows ok in let b = outputs_last n few late memories rows ok in
+        let one = place_one n table.few late memories rows table.passes in
+        let some = some_inputs n table.few late memories rows table.passes in
+        let a = inputs_first n table.few late memories rows table.passes in let b = outputs_last n table.few late memories rows table.passes in
         let up = place_up n rows 1 (inputs rows) (omega arith) in
         let room = place_up n rows (inputs rows) (outputs rows) (omega arith) in
         let long = inputs_long in
         table_module m ins outs late_at (P (outputs rows)) (record {
-          leaf = subst (λ k. IsLeaf m k late_at) (sym inputs_long) (leaf n few late memories rows ok m is late_at agrees words alone acts begins);
+          leaf = subst (λ k. IsLeaf m k late_at) (sym inputs_long) (leaf table alone acts begins);
           clocked = omega arith;
-          clock_bit = clock_row (slice_get rows 0) refl (clock_wide n few late memories rows ok);
+          clock_bit = clock_row (slice_get rows 0) refl (clock_wide n table.few late memories rows table.passes);
           long = signals_long;
           room = omega arith;
           ports = has_ports m ins outs (P (outputs rows)) signals_long inputs_are outputs_are;
           names = names;
           named = named;
-          formed = formed n few late memories rows ok m is late_at agrees words set;
+          formed = formed table set;
           acts = clean;
           memories = fills;
         })

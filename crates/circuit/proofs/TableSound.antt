@@ -4,6 +4,7 @@ use Rattle.std.proofs.Common.{refl, sym, ap, ◌∙◌, subst, ⊎_elim, inl, in
 use Rattle.std.specs.Prelude.{not, ◌&&◌, ◌||◌}
 use Rattle.std.proofs.lemmas.Bool.{ltb-true, ltb-false, leb-true, eqb-true, not-true, not-false, lt-ltb, le-ltb}
 use Rattle.std.proofs.lemmas.Bool.Decides.{nat_tests}
+use Rattle.std.proofs.lemmas.Option.{none-some}
 use Rattle.verilog_tree.specs.declared.tree.BinaryOperator.{BinaryOperator}
 use Rattle.verilog_tree.specs.declared.tree.BinaryOperator.TheVariants.{Add, Subtract, Multiply, And, Or, Xor, Equal, Less, ShiftLeft, ShiftRight}
 use Rattle.netlist.specs.declared.netlist.Value.{Value}
@@ -113,15 +114,23 @@ abbrev pub AreMemories : Module → List Words → Type 0
 AreMemories m memories =
     (j : ℕ) (c : Words) → slice_get memories j ≡ Some c → (s : Memory) × (slice_get m.memories j ≡ Some s) × (s.width ≡ c.width) × (length s.initial < 2 ^ c.address)
 
-module _ (n : ℕ) (few : n ≤ 64) (late : ℕ → Bool) (memories : List Words) (rows : List Row) (ok : fits late memories rows ≡ true)
-    (m : Module) (is : m.signals ≡ laid n rows) (late_at : ℕ → Bool)
-    (agrees : (k x : ℕ) → place n rows k ≤ x → x < place n rows (suc k) → late_at x ≡ late k)
-    (words : AreMemories m memories) where
+-- a module of n threads that is laid out by a table which passes its test, where these rows and these places are late
+pub record IsLaid (n : ℕ) (late : ℕ → Bool) (memories : List Words) (rows : List Row) (m : Module) (late_at : ℕ → Bool) : Type 0 where
+  pub few : n ≤ 64
+  pub passes : fits late memories rows ≡ true
+  pub signals : m.signals ≡ laid n rows
+  pub agrees : (k x : ℕ) → place n rows k ≤ x → x < place n rows (suc k) → late_at x ≡ late k
+  pub words : AreMemories m memories
+
+pub no_memories : (m : Module) → AreMemories m []
+no_memories m j c e = absurd (none-some c e)
+
+module _ {n : ℕ} {late : ℕ → Bool} {memories : List Words} {rows : List Row} {m : Module} {late_at : ℕ → Bool} (table : IsLaid n late memories rows m late_at) where
   abbrev P : ℕ → ℕ
   P = place n rows
 
   abbrev IsHere : Reader → ℕ → ℕ → Type 0
-  IsHere = IsAt n few late memories rows ok
+  IsHere = IsAt n table.few late memories rows table.passes
 
   -- signal x reads signal y, which is not the clock
   abbrev Finding : ℕ → ℕ → ℕ → Type 0
@@ -132,10 +141,10 @@ module _ (n : ℕ) (few : n ≤ 64) (late : ℕ → Bool) (memories : List Words
       → (late k.number || not (late j)) ≡ true → Finding x y w
   found k i x j e y w r at there wide inside same before some time =
       let next = place_next n rows j r there in
-      let from = place_some n few late memories rows ok j some in
-      let has : Has m y w = subst (λ z. Has m z w) (sym same) (subst (Has m (P j + e)) wide (has_at n rows m is j r there e inside)) in
-      let late_y : late_at y ≡ late j = agrees j y (omega arith) (omega arith) in
-      let late_x : late_at x ≡ late k.number = agrees k.number x at.here at.inside in (
+      let from = place_some n table.few late memories rows table.passes j some in
+      let has : Has m y w = subst (λ z. Has m z w) (sym same) (subst (Has m (P j + e)) wide (has_at n rows m table.signals j r there e inside)) in
+      let late_y : late_at y ≡ late j = table.agrees j y (omega arith) (omega arith) in
+      let late_x : late_at x ≡ late k.number = table.agrees k.number x at.here at.inside in (
         record {
           has = has;
           before = (omega arith);
@@ -240,7 +249,7 @@ module _ (n : ℕ) (few : n ≤ 64) (late : ℕ → Bool) (memories : List Words
   find_word j w v None q e = absurd cc
   find_word j w v (Some c) q e =
       let t = three (nat_eq c.width w) (nat_lt 0 v) (nat_eq c.address v) e in
-      let s = words j c q in
+      let s = table.words j c q in
       (ltb-true 0 v t.1, (s.0, s.1, s.2 ∙ eqb-true c.width w t.0, subst (λ z. length s.0.initial < 2 ^ z) (eqb-true c.address v t.2) s.3))
 
   find_form : (k : Reader) (i x w : ℕ) (f : Form) → IsHere k i x → 0 < w → (is_input f ≡ true → x < I) → form_fits late memories rows k w f ≡ true → FindsSource x w (source_at n P f i)
@@ -273,7 +282,7 @@ module _ (n : ℕ) (few : n ≤ 64) (late : ℕ → Bool) (memories : List Words
       let l = ltb-true k.number (inputs rows) e in let u = place_up n rows (suc k.number) (inputs rows) (omega arith) in let b = at.inside in omega arith
 
   abbrev IsMade : Reader → Role → ℕ → Form → ℕ → ℕ → Type 0
-  IsMade = IsElement n few late memories rows ok
+  IsMade = IsElement n table.few late memories rows table.passes
 
   finds : (k : Reader) (r : Role) (w : ℕ) (f : Form) (i x : ℕ) → IsMade k r w f i x → FindsSource x w (source_at n P f i)
   finds k r w f i x el = find_form k i x w f el.at el.low (λ t. in_front k i x el.at (sym el.input ∙ t)) el.fits
@@ -285,10 +294,10 @@ module _ (n : ℕ) (few : n ≤ 64) (late : ℕ → Bool) (memories : List Words
   weaken x w (source.Port i p) h = absurd h
 
   abbrev each_one : (Q : ℕ → Signal → Type 0) → ((k : Reader) (r : Role) (w : ℕ) (f : Form) (i x : ℕ) → IsMade k r w f i x → Q x (signal_at n P x r w f i)) → ByRow n rows Q
-  each_one = elements n few late memories rows ok
+  each_one = elements n table.few late memories rows table.passes
 
   pub sound : (x : ℕ) (s : Signal) → slice_get m.signals x ≡ Some s → IsSound m I late_at x s
-  sound = by_signals n rows m is (IsSound m I late_at) (each_one (IsSound m I late_at) (λ k r w f i x el. weaken x w (source_at n P f i) (finds k r w f i x el)))
+  sound = by_signals n rows m table.signals (IsSound m I late_at) (each_one (IsSound m I late_at) (λ k r w f i x el. weaken x w (source_at n P f i) (finds k r w f i x el)))
 
   -- ---- inputs
 
@@ -296,7 +305,7 @@ module _ (n : ℕ) (few : n ≤ 64) (late : ℕ → Bool) (memories : List Words
   input_is Input i e = refl
   input_is f i e = absurd cc
 
-  input_in : (at : ℕ) (r : Row) → form_is is_input r ≡ true → OfRow n P (IsListed n rows m is) at r → (e : ℕ) → e < row_size n r → HasInput m (at + e)
+  input_in : (at : ℕ) (r : Row) → form_is is_input r ≡ true → OfRow n P (IsListed n rows m table.signals) at r → (e : ℕ) → e < row_size n r → HasInput m (at + e)
   input_in at (One r w f) t h zero l =
       let z : at ≡ at + 0 = sym (add-zero at) in subst (HasInput m) z (record { signal = _; listed = h; is = input_is f 0 t })
   input_in at (One r w f) t h (suc e) l = absurd (omega arith)
@@ -313,7 +322,7 @@ module _ (n : ℕ) (few : n ≤ 64) (late : ℕ → Bool) (memories : List Words
       (λ (s : P k ≤ x).
       let z : P k + (x - P k) ≡ x = omega arith in
       subst (HasInput m) z
-      (input_in (P k) r.0 (not-false (form_is is_input r.0) r.2) (subst (OfSome n P (IsListed n rows m is) (P k)) r.1 (listed n rows m is k)) (x - P k) (omega arith)))
+      (input_in (P k) r.0 (not-false (form_is is_input r.0) r.2) (subst (OfSome n P (IsListed n rows m table.signals) (P k)) r.1 (listed n rows m table.signals k)) (x - P k) (omega arith)))
       (let c : (x < P k) ⊎ (P k ≤ x) = grind (arith, nat_tests) in c)
 
   pub input_at : (x : ℕ) → x < I → HasInput m x
@@ -324,7 +333,7 @@ module _ (n : ℕ) (few : n ≤ 64) (late : ℕ → Bool) (memories : List Words
 
   -- what each row's signals show
   pub told : (r : Reading) → Obeys m r → ByRow n rows (Told m r)
-  told r obeys = by_rows n rows m is (Told m r) (all_told_at m I late_at sound r obeys)
+  told r obeys = by_rows n rows m table.signals (Told m r) (all_told_at m I late_at sound r obeys)
 
   -- ---- registers
 
@@ -344,7 +353,7 @@ module _ (n : ℕ) (few : n ≤ 64) (late : ℕ → Bool) (memories : List Words
   -- readings that are the same at the registers' places
   pub same_registers : (h g : Reading) → ((x : ℕ) → I ≤ x → x < P (registers rows) → h.signal x ≡ g.signal x)
       → (x : ℕ) (s : Signal) → slice_get m.signals x ≡ Some s → IsRegister s.source → h.signal x ≡ g.signal x
-  same_registers h g same = by_signals n rows m is (λ x s. IsRegister s.source → h.signal x ≡ g.signal x)
+  same_registers h g same = by_signals n rows m table.signals (λ x s. IsRegister s.source → h.signal x ≡ g.signal x)
       (each_one (λ x s. IsRegister s.source → h.signal x ≡ g.signal x) (λ k r w f i x el t.
       let b = register_at k i x el.at (sym el.register ∙ register_in f i t) in same x b.0 b.1))
 
@@ -402,4 +411,4 @@ module _ (n : ℕ) (few : n ≤ 64) (late : ℕ → Bool) (memories : List Words
         }
 
     pub formed : (x : ℕ) (s : Signal) → slice_get m.signals x ≡ Some s → IsFormed m (P (outputs rows)) x s
-    formed = by_signals n rows m is (IsFormed m (P (outputs rows))) (each_one (IsFormed m (P (outputs rows))) form_element)
+    formed = by_signals n rows m table.signals (IsFormed m (P (outputs rows))) (each_one (IsFormed m (P (outputs rows))) form_element)
