@@ -41,14 +41,8 @@ module _ (shape : Shape) (ok : IsShape shape) (m : Module) (is : IsBarrier shape
   abbrev n : ℕ
   n = shape.threads
 
-  abbrev late : ℕ → Bool
-  late = is_late_row rows
-
-  pub agrees : (k x : ℕ) → place n rows k ≤ x → x < place n rows (suc k) → is_late n x ≡ late k
-  agrees k x a b = sound.late_is n rows k x a b
-
-  pub no_words : sound.AreMemories m []
-  no_words j c e = absurd (none-some c e)
+  pub laid_by : sound.IsLaid n (is_late_row rows) [] rows m (is_late n)
+  laid_by = record { few = ok.few; passes = rows_fit; signals = is.signals; agrees = sound.late_is n rows; words = sound.no_memories m }
 
   there : ByRow n rows (IsListed n rows m is.signals)
   there = listed n rows m is.signals
@@ -76,7 +70,7 @@ module _ (shape : Shape) (ok : IsShape shape) (m : Module) (is : IsBarrier shape
   begins = subst (EachOf FitsMemory) (sym is.memories) tt
 
   pub barrier_leaf : IsLeaf m (inputs n) (is_late n)
-  barrier_leaf = sound.leaf n ok.few late [] rows rows_fit m is.signals (is_late n) agrees no_words is.instances acts_fit begins
+  barrier_leaf = sound.leaf laid_by is.instances acts_fit begins
 
   -- ---- the promise
 
@@ -110,7 +104,7 @@ module _ (shape : Shape) (ok : IsShape shape) (m : Module) (is : IsBarrier shape
 
   faithful : (h g : Reading) (s : Gate) → Shown h s → Shown g s → Agree m h g
   faithful h g s e f = record {
-    registers = sound.same_registers n ok.few late [] rows rows_fit m is.signals (is_late n) agrees no_words h g (same_at h g s e f);
+    registers = sound.same_registers laid_by h g (same_at h g s e f);
     words = λ j k z q l. absurd (none-some z (sym (ap (λ (ms : List Memory). slice_get ms j) is.memories) ∙ q));
   }
 
@@ -121,7 +115,7 @@ module _ (shape : Shape) (ok : IsShape shape) (m : Module) (is : IsBarrier shape
 
   module _ (r : Reading) (s : Gate) (obeys : Obeys m r) (shown : Shown r s) where
     told : ByRow n rows (Told m r)
-    told = sound.told n ok.few late [] rows rows_fit m is.signals (is_late n) agrees no_words r obeys
+    told = sound.told laid_by r obeys
 
     abbrev S : ℕ → ℕ
     S x = r.signal x

@@ -8,7 +8,7 @@ use Rattle.netlist.specs.Sound.{IsSet}
 use Rattle.circuit.specs.Rows.{EachOf, set_at}
 use Rattle.circuit.specs.Interfaces.{IsTableModule}
 use Rattle.circuit.specs.Table.{place}
-use Rattle.circuit.specs.Fits.{is_late_row, registers}
+use Rattle.circuit.specs.Fits.{registers}
 use Rattle.circuit.proofs.Edges.{each_spread, set_by_some}
 use Rattle.circuit.proofs.Forming.{ActsOnData, IsFormedMemory}
 use Rattle.circuit.proofs.TableRows.{length-laid}
@@ -16,8 +16,8 @@ use Rattle.circuit.proofs.TableModule.{stands, apart}
 use Rattle.barrier_cores.specs.declared.barrier.Shape.{Shape}
 use Rattle.barrier_cores.specs.Rows as row
 use Rattle.barrier_cores.specs.Barrier.{rows, at, statements, IsShape, IsBarrier}
-use Rattle.barrier_cores.specs.Machine.{inputs, input_widths, output_widths, is_late}
-use Rattle.barrier_cores.proofs.Meeting.{rows_fit, agrees, no_words, acts_fit, begins}
+use Rattle.barrier_cores.specs.Machine.{inputs, input_widths, output_widths}
+use Rattle.barrier_cores.proofs.Meeting.{laid_by, acts_fit, begins}
 
 module _ (shape : Shape) (ok : IsShape shape) (m : Module) (is : IsBarrier shape m) where
   abbrev n : ℕ
@@ -33,9 +33,9 @@ module _ (shape : Shape) (ok : IsShape shape) (m : Module) (is : IsBarrier shape
   acts = each_spread (ActsOnData m) (set_at (at n row.waiting) (at n row.next)) 0 (n + 1) (λ k l. (tt, omega arith))
 
   pub barrier_stands : IsTableModule m (input_widths n) (output_widths n)
-  barrier_stands = stands n ok.few (is_late_row rows) [] rows rows_fit m is.signals (is_late n) (agrees shape ok m is) (no_words shape ok m is) set small
+  barrier_stands = stands (laid_by shape ok m is) set small
       is.instances (acts_fit shape ok m is) (begins shape ok m is)
-      (apart n ok.few (is_late_row rows) [] rows rows_fit m is.signals (is_late n) (agrees shape ok m is) (no_words shape ok m is) set small is.memories is.instances)
+      (apart (laid_by shape ok m is) set small is.memories is.instances)
       (ap is_clk is.named)
       (subst (EachOf (ActsOnData m)) (sym is.actions) acts)
       (subst (EachOf (IsFormedMemory m)) (sym is.memories) tt)

@@ -42,9 +42,6 @@ module _ (shape : Shape) (ok : IsShape shape) (m : Module) (is : IsForks shape m
   abbrev n : ℕ
   n = shape.threads
 
-  abbrev late : ℕ → Bool
-  late = is_late_row rows
-
   held_status : slice_get m.memories 0 ≡ Some (status_memory n)
   held_status = ap (λ (ms : List Memory). slice_get ms 0) is.memories
 
@@ -54,7 +51,7 @@ module _ (shape : Shape) (ok : IsShape shape) (m : Module) (is : IsForks shape m
   addressed : length (replicate {A = ℕ} n 0) < 2 ^ 64
   addressed = let a = length-replicate {A = ℕ} n 0 in let b = ok.few in omega arith
 
-  pub words : sound.AreMemories m memories
+  words : sound.AreMemories m memories
   words zero c e =
       let same : record { width = 2; address = 64 } ≡ c = cc in
       subst (λ (c : Words). (s : Memory) × (slice_get m.memories 0 ≡ Some s) × (s.width ≡ c.width) × (length s.initial < 2 ^ c.address)) same
@@ -65,8 +62,8 @@ module _ (shape : Shape) (ok : IsShape shape) (m : Module) (is : IsForks shape m
       (argument_memory n, held_arguments, refl, addressed)
   words (suc (suc j)) c e = absurd cc
 
-  pub agrees : (k x : ℕ) → place n rows k ≤ x → x < place n rows (suc k) → is_late shape x ≡ late k
-  agrees k x a b = sound.late_is n rows k x a b
+  pub laid_by : sound.IsLaid n (is_late_row rows) memories rows m (is_late shape)
+  laid_by = record { few = ok.few; passes = rows_fit; signals = is.signals; agrees = sound.late_is n rows; words = words }
 
   there : ByRow n rows (IsListed n rows m is.signals)
   there = listed n rows m is.signals
@@ -101,7 +98,7 @@ module _ (shape : Shape) (ok : IsShape shape) (m : Module) (is : IsForks shape m
   begins = subst (EachOf FitsMemory) (sym is.memories) (each_zero n (2 ^ 2) (lit< tt), (each_zero n (2 ^ 64) (lit< tt), tt))
 
   pub forks_leaf : IsLeaf m (inputs shape) (is_late shape)
-  forks_leaf = sound.leaf n ok.few late memories rows rows_fit m is.signals (is_late shape) agrees words is.instances acts_fit begins
+  forks_leaf = sound.leaf laid_by is.instances acts_fit begins
 
   -- ---- the promise
 
@@ -149,7 +146,7 @@ module _ (shape : Shape) (ok : IsShape shape) (m : Module) (is : IsForks shape m
     S x = r.signal x
 
     told : ByRow n rows (Told m r)
-    told = sound.told n ok.few late memories rows rows_fit m is.signals (is_late shape) agrees words r obeys
+    told = sound.told laid_by r obeys
 
     status_read : (x : ℕ) → (if nat_lt x (memory_words (slice_get m.memories 0)) then r.word 0 x else 0) ≡ slice_index s.statuses x
     status_read x =
@@ -315,7 +312,7 @@ module _ (shape : Shape) (ok : IsShape shape) (m : Module) (is : IsForks shape m
     starts = starts;
     keeps = keeps;
     faithful = λ h g s e f. record {
-      registers = sound.same_registers n ok.few late memories rows rows_fit m is.signals (is_late shape) agrees words h g (λ x a b. absurd (omega arith));
+      registers = sound.same_registers laid_by h g (λ x a b. absurd (omega arith));
       words = same_words h g s e f;
     };
     hears = λ f g h. hears_same f g h;

@@ -9,14 +9,14 @@ use Rattle.netlist.specs.Sound.{IsSet}
 use Rattle.circuit.specs.Rows.{EachOf}
 use Rattle.circuit.specs.Interfaces.{IsTableModule}
 use Rattle.circuit.specs.Table.{place}
-use Rattle.circuit.specs.Fits.{is_late_row, registers}
+use Rattle.circuit.specs.Fits.{registers}
 use Rattle.circuit.proofs.Forming.{ActsOnData, IsFormedMemory}
 use Rattle.circuit.proofs.TableRows.{length-laid}
 use Rattle.circuit.proofs.TableModule.{stands, signals_named, none_zero}
 use Rattle.fork_join_cores.specs.declared.forks.Shape.{Shape}
 use Rattle.fork_join_cores.specs.Forks.{rows, statements, IsShape, IsForks}
-use Rattle.fork_join_cores.specs.Machine.{inputs, input_widths, output_widths, is_late}
-use Rattle.fork_join_cores.proofs.Forking.{memories, rows_fit, agrees, words, acts_fit, begins}
+use Rattle.fork_join_cores.specs.Machine.{inputs, input_widths, output_widths}
+use Rattle.fork_join_cores.proofs.Forking.{laid_by, acts_fit, begins}
 use Rattle.fork_join_cores.proofs.Naming.{memories_apart}
 
 module _ (shape : Shape) (ok : IsShape shape) (m : Module) (is : IsForks shape m) where
@@ -32,14 +32,14 @@ module _ (shape : Shape) (ok : IsShape shape) (m : Module) (is : IsForks shape m
 
   names : AreApart (declared_names m)
   names = memories_apart m n is.memories is.instances
-      (none_zero n ok.few (is_late_row rows) memories rows rows_fit m is.signals (is_late shape) (agrees shape ok m is) (words shape ok m is) set small)
-      (signals_named n ok.few (is_late_row rows) memories rows rows_fit m is.signals (is_late shape) (agrees shape ok m is) (words shape ok m is) set small)
+      (none_zero (laid_by shape ok m is) set small)
+      (signals_named (laid_by shape ok m is) set small)
 
   acts : EachOf (ActsOnData m) (statements n)
   acts = (((omega arith, tt), (omega arith, omega arith)), (((omega arith, tt), (omega arith, omega arith)), tt))
 
   pub forks_stands : IsTableModule m (input_widths shape) (output_widths shape)
-  forks_stands = stands n ok.few (is_late_row rows) memories rows rows_fit m is.signals (is_late shape) (agrees shape ok m is) (words shape ok m is) set small
+  forks_stands = stands (laid_by shape ok m is) set small
       is.instances (acts_fit shape ok m is) (begins shape ok m is) names (ap is_clk is.named)
       (subst (EachOf (ActsOnData m)) (sym is.actions) acts)
       (subst (EachOf (IsFormedMemory m)) (sym is.memories) (

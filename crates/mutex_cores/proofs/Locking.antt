@@ -51,14 +51,14 @@ module _ (shape : Shape) (ok : IsShape shape) (m : Module) (is : IsMutex shape m
   abbrev table : List Row
   table = rows shape.initialised
 
-  abbrev late : ℕ → Bool
-  late = is_late_row table
-
-  pub agrees : (k x : ℕ) → place n table k ≤ x → x < place n table (suc k) → is_late shape x ≡ late k
-  agrees k x a b = sound.late_is n table k x a b
-
-  pub no_words : sound.AreMemories m []
-  no_words j c e = absurd (none-some c e)
+  pub laid_by : sound.IsLaid n (is_late_row table) [] table m (is_late shape)
+  laid_by = record {
+    few = ok.few;
+    passes = rows_fit shape.initialised;
+    signals = is.signals;
+    agrees = sound.late_is n table;
+    words = sound.no_memories m;
+  }
 
   there : ByRow n table (IsListed n table m is.signals)
   there = listed n table m is.signals
@@ -81,7 +81,7 @@ module _ (shape : Shape) (ok : IsShape shape) (m : Module) (is : IsMutex shape m
   begins = subst (EachOf FitsMemory) (sym is.memories) tt
 
   pub mutex_leaf : IsLeaf m (inputs shape) (is_late shape)
-  mutex_leaf = sound.leaf n ok.few late [] table (rows_fit shape.initialised) m is.signals (is_late shape) agrees no_words is.instances acts_fit begins
+  mutex_leaf = sound.leaf laid_by is.instances acts_fit begins
 
   -- ---- the promise
 
@@ -100,7 +100,7 @@ module _ (shape : Shape) (ok : IsShape shape) (m : Module) (is : IsMutex shape m
 
   faithful : (h g : Reading) (s : Lock) → Shown h s → Shown g s → Agree m h g
   faithful h g s e f = record {
-    registers = sound.same_registers n ok.few late [] table (rows_fit shape.initialised) m is.signals (is_late shape) agrees no_words h g
+    registers = sound.same_registers laid_by h g
         (λ x a b. subst (λ y. h.signal y ≡ g.signal y) (is_owner x a b) (e ∙ sym f));
     words = λ j k z q l. absurd (none-some z (sym (ap (λ (ms : List Memory). slice_get ms j) is.memories) ∙ q));
   }
@@ -112,7 +112,7 @@ module _ (shape : Shape) (ok : IsShape shape) (m : Module) (is : IsMutex shape m
 
   module _ (r : Reading) (s : Lock) (obeys : Obeys m r) (shown : Shown r s) where
     told : ByRow n table (Told m r)
-    told = sound.told n ok.few late [] table (rows_fit shape.initialised) m is.signals (is_late shape) agrees no_words r obeys
+    told = sound.told laid_by r obeys
 
     -- the number of a row, and that of its signal of a thread
     abbrev one : ℕ → ℕ

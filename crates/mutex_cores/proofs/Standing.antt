@@ -8,15 +8,15 @@ use Rattle.circuit.specs.declared.table.Row.{Row}
 use Rattle.circuit.specs.Rows.{EachOf, set_at}
 use Rattle.circuit.specs.Interfaces.{IsTableModule}
 use Rattle.circuit.specs.Table.{place}
-use Rattle.circuit.specs.Fits.{is_late_row, registers}
+use Rattle.circuit.specs.Fits.{registers}
 use Rattle.circuit.proofs.Edges.{set_by_some}
 use Rattle.circuit.proofs.Forming.{ActsOnData, IsFormedMemory}
 use Rattle.circuit.proofs.TableRows.{length-laid}
 use Rattle.circuit.proofs.TableModule.{stands, apart}
 use Rattle.mutex_cores.specs.declared.mutex.Shape.{Shape}
 use Rattle.mutex_cores.specs.Mutex.{mutex_name, rows, owner, chain, IsShape, IsMutex}
-use Rattle.mutex_cores.specs.Machine.{inputs, input_widths, output_widths, is_late}
-use Rattle.mutex_cores.proofs.Locking.{rows_fit, agrees, no_words, acts_fit, begins}
+use Rattle.mutex_cores.specs.Machine.{inputs, input_widths, output_widths}
+use Rattle.mutex_cores.proofs.Locking.{laid_by, acts_fit, begins}
 
 no_clock : (b : Bool) → is_clk (mutex_name b) ≡ false
 no_clock true = refl
@@ -39,9 +39,9 @@ module _ (shape : Shape) (ok : IsShape shape) (m : Module) (is : IsMutex shape m
   acts = (tt, omega arith)
 
   pub mutex_stands : IsTableModule m (input_widths shape) (output_widths shape)
-  mutex_stands = stands n ok.few (is_late_row table) [] table (rows_fit shape.initialised) m is.signals (is_late shape) (agrees shape ok m is) (no_words shape ok m is) set small
+  mutex_stands = stands (laid_by shape ok m is) set small
       is.instances (acts_fit shape ok m is) (begins shape ok m is)
-      (apart n ok.few (is_late_row table) [] table (rows_fit shape.initialised) m is.signals (is_late shape) (agrees shape ok m is) (no_words shape ok m is) set small is.memories is.instances)
+      (apart (laid_by shape ok m is) set small is.memories is.instances)
       (ap is_clk is.named ∙ no_clock shape.initialised)
       (subst (EachOf (ActsOnData m)) (sym is.actions) (acts, tt))
       (subst (EachOf (IsFormedMemory m)) (sym is.memories) tt)
