@@ -1,29 +1,32 @@
 -- The table of a bank keeps the promise of the bank's machine.
-use Rattle.std.proofs.Common.{◌∷◌, ◌++◌, subst, ◌≡◌, ℕ, zero, suc, ◌+◌, ◌<◌, ◌≤◌, List, [], length, slice_get, Option, Some, None, true, false, nat_eq, nat_lt}
-use Rattle.std.proofs.Common.{if◌then◌else◌, refl, sym, ap, ◌∙◌, arith, lit<}
-use Rattle.std.specs.Prelude.{◌&&◌, ◌||◌, slice_index}
+use Rattle.std.proofs.Common.{◌∷◌, ◌++◌, subst, ◌≡◌, ℕ, zero, suc, ◌+◌, ◌-◌, ◌^◌, ◌<◌, ◌≤◌, List, [], length, slice_get, Option, Some, None, Bool, true, false, nat_eq, nat_lt}
+use Rattle.std.proofs.Common.{if◌then◌else◌, refl, sym, ap, ◌∙◌, arith}
+use Rattle.std.specs.Prelude.{◌&&◌, nat_le, slice_index}
 use Rattle.std.proofs.lemmas.Nat.{pow_pos}
+use Rattle.std.proofs.lemmas.Bool.{lt-ltb, le-leb, eq-eqb}
 use Rattle.std.proofs.lemmas.List.{length-replicate}
-use Rattle.std.proofs.Math.Bool.{or-true}
 use Rattle.lists.proofs.Places.{zeros_at}
 use Rattle.hls_ints.specs.Residues.{bit_of}
-use Rattle.netlist.specs.declared.netlist.Signal.{Signal}
 use Rattle.netlist.specs.declared.netlist.Memory.{Memory}
 use Rattle.netlist.specs.declared.netlist.Action.{Action}
 use Rattle.netlist.specs.declared.netlist.Module.{Module}
 use Rattle.circuit.specs.Readings.{Reading, written, action_bytes, initial_reading, initial_signal, initial_word, memory_words, next_reading, register_after, word_after}
-use Rattle.circuit.specs.Cycles.{IsRegister}
+use Rattle.circuit.specs.declared.table.Row.{Row}
 use Rattle.circuit.specs.Rows.{EachOf, sets, set_at}
-use Rattle.circuit.specs.Modules.{FitsAction, FitsMemory, Obeys, Agree, Has, HasInput, Reads, IsSound, IsLeaf, is_between}
+use Rattle.circuit.specs.Modules.{FitsAction, FitsMemory, Obeys, Agree, Has, HasInput, IsLeaf}
 use Rattle.circuit.specs.Arbitration.{is_granted}
 use Rattle.circuit.specs.Machines.{Grants, IsCore, asked, printed, after_grant}
-use Rattle.circuit.proofs.Tables.{EachRow, Told, IsListed, all_listed, all_told, by_signals, table_leaf, has, chain_has, no_inputs, one_input, more_inputs, between_on, between_before, between_behind}
+use Rattle.circuit.specs.Table.{place}
+use Rattle.circuit.specs.Fits.{is_late_row, registers, fits, Words as Cells}
+use Rattle.circuit.proofs.Tables.{Told, has}
+use Rattle.circuit.proofs.TableRows.{ByRow, IsListed, listed}
+use Rattle.circuit.proofs.TableSound as sound
 use Rattle.circuit.proofs.Chains.{pick, chain_is}
-use Rattle.bank_cores.specs.declared.bank.Shape.{Shape}
-use Rattle.bank_cores.specs.Bank.{asks, operations, addresses, values, grants, kept, none, reads, address_chain, address, value_chain, value, store_chain, stores, word, takes, next, offers, tells}
-use Rattle.bank_cores.specs.Bank.{rows, store_under, memory_of, IsShape, IsBank}
-use Rattle.bank_cores.specs.Machine.{Words, Ask, ask_of, begun, bank_machine, bank_places, Shows, part_place, inputs, is_late}
 use Rattle.circuit.proofs.Edges.{register_after-append, word_after-append, sets_after, sets_words, sets_print, tested, both_bits, a_bit, read_bit, each_joined, each_spread}
+use Rattle.bank_cores.specs.declared.bank.Shape.{Shape}
+use Rattle.bank_cores.specs.Rows as row
+use Rattle.bank_cores.specs.Bank.{rows, at, end, store_under, memory_of, IsShape, IsBank}
+use Rattle.bank_cores.specs.Machine.{Words, Ask, ask_of, begun, bank_machine, bank_places, Shows, part_place, table_of, inputs, is_late}
 use Rattle.bank_cores.proofs.Effects.{first_word, read_is, each_kept, each_word, sized_after, each_after, if_same, no_bytes}
 
 none_printed : (shape : Shape) (s : Words) (f : ℕ → Ask) (o : Option ℕ) → [] ≡ printed (bank_machine shape) s f o
@@ -33,6 +36,27 @@ none_printed shape s f (Some w) = refl
 sole : (x z : Memory) (j : ℕ) → slice_get (x ∷ []) j ≡ Some z → (x ≡ z) × (j ≡ 0)
 sole x z zero e = (let s : x ≡ z = cc in s, refl)
 sole x z (suc j) e = absurd cc
+
+some_bits : (n a : ℕ) → 1 ≤ n → n < 2 ^ a → 1 ≤ a
+some_bits n zero l b = absurd (omega arith)
+some_bits n (suc a) l b = omega arith
+
+-- a memory of words of w bits, by addresses of a bits
+abbrev pub memory : ℕ → ℕ → List Cells
+memory a w = record { width = w; address = a } ∷ []
+
+-- the rows are in order
+pub rows_fit : (a w : ℕ) → 1 ≤ a → a ≤ 64 → 1 ≤ w → w ≤ 64 → fits (is_late_row (rows a w)) (memory a w) (rows a w) ≡ true
+rows_fit a w a1 a2 w1 w2 =
+    let p = lt-ltb 0 a a1 in
+    let q = le-leb a 64 a2 in
+    let s = lt-ltb 0 w w1 in
+    let t = le-leb w 64 w2 in
+    let u = eq-eqb a a refl in
+    let v = eq-eqb w w refl in
+    let x = lt-ltb 0 (2 ^ a) (pow_pos a) in
+    let y = lt-ltb 0 (2 ^ w) (pow_pos w) in
+    simp (p, q, s, t, u, v, x, y)
 
 module _ (shape : Shape) (ok : IsShape shape) (m : Module) (is : IsBank shape m) where
   abbrev n : ℕ
@@ -44,157 +68,61 @@ module _ (shape : Shape) (ok : IsShape shape) (m : Module) (is : IsBank shape m)
   abbrev w : ℕ
   w = shape.width
 
-  listed : EachRow (IsListed m (rows n a w) is.signals) 0 (rows n a w)
-  listed = all_listed m (rows n a w) is.signals
+  abbrev table : List Row
+  table = table_of shape
+
+  abbrev memories : List Cells
+  memories = memory a w
+
+  fit : fits (is_late_row table) memories table ≡ true
+  fit = rows_fit a w (some_bits (length shape.initial) a ok.some ok.addressed) ok.address_high ok.low ok.high
 
   held : slice_get m.memories 0 ≡ Some (memory_of shape)
   held = ap (λ (ms : List Memory). slice_get ms 0) is.memories
 
-  -- ---- what each row reads
+  words : sound.AreMemories m memories
+  words zero c e =
+      let same : record { width = w; address = a } ≡ c = cc in
+      subst (λ (c : Cells). (s : Memory) × (slice_get m.memories 0 ≡ Some s) × (s.width ≡ c.width) × (length s.initial < 2 ^ c.address)) same
+      (memory_of shape, held, refl, ok.addressed)
+  words (suc j) c e = absurd cc
 
-  early_before : (y : ℕ) → y < grants n → is_late shape y ≡ false
-  early_before y l =
-      ap (λ b. b || is_between (address_chain n) (offers n) y) (between_before (grants n) (kept n) y l)
-      ∙ between_before (address_chain n) (offers n) y (omega arith)
+  pub laid_by : sound.IsLaid n (is_late_row table) memories table m (is_late shape)
+  laid_by = record { few = ok.few; passes = fit; signals = is.signals; agrees = sound.late_is n table; words = words }
 
-  early_between : (y : ℕ) → kept n ≤ y → y < address_chain n → is_late shape y ≡ false
-  early_between y b l =
-      ap (λ b. b || is_between (address_chain n) (offers n) y) (between_behind (grants n) (kept n) y (omega arith) b)
-      ∙ between_before (address_chain n) (offers n) y l
+  there : ByRow n table (IsListed n table m is.signals)
+  there = listed n table m is.signals
 
-  late_on : (x : ℕ) → address_chain n ≤ x → x < offers n → is_late shape x ≡ true
-  late_on x b l =
-      ap (λ t. is_between (grants n) (kept n) x || t) (between_on (address_chain n) (offers n) x b l)
-      ∙ or-true (is_between (grants n) (kept n) x)
+  -- ---- the statements
 
-  -- a late signal reads any
-  from : (x y v : ℕ) → Has m y v → y < x → address_chain n ≤ x → x < offers n → Reads m (is_late shape) x y v
-  from x y v h l b c = record { has = h; before = l; in_time = λ t. late_on x b c }
+  address_has : Has m (end n row.address) a
+  address_has = sound.has_at n table m is.signals row.address _ refl n (omega arith)
 
-  has_address_chain : (k : ℕ) → k ≤ n → Has m (address_chain n + k) a
-  has_address_chain = chain_has m (address_chain n) n a _ _ listed.1.1.1.1.1.1.1.1.1.0 refl listed.1.1.1.1.1.1.1.1.1.1.0 (λ k. refl)
+  value_has : Has m (end n row.value) w
+  value_has = sound.has_at n table m is.signals row.value _ refl n (omega arith)
 
-  has_value_chain : (k : ℕ) → k ≤ n → Has m (value_chain n + k) w
-  has_value_chain = chain_has m (value_chain n) n w _ _ listed.1.1.1.1.1.1.1.1.1.1.1.0 refl listed.1.1.1.1.1.1.1.1.1.1.1.1.0 (λ k. refl)
+  stores_has : Has m (end n row.stores) 1
+  stores_has = sound.has_at n table m is.signals row.stores _ refl n (omega arith)
 
-  has_store_chain : (k : ℕ) → k ≤ n → Has m (store_chain n + k) 1
-  has_store_chain = chain_has m (store_chain n) n 1 _ _ listed.1.1.1.1.1.1.1.1.1.1.1.1.1.0 refl listed.1.1.1.1.1.1.1.1.1.1.1.1.1.1.0 (λ k. refl)
-
-  sound : EachRow (IsSound m (inputs shape) (is_late shape)) 0 (rows n a w)
-  sound = (
-    (omega arith),
-    (
-      (λ k l. omega arith),
-      (
-        (λ k l. omega arith),
-        (
-          (λ k l. omega arith),
-          (
-            (λ k l. omega arith),
-            (
-              (λ k l. omega arith),
-              (
-                (λ k l. pow_pos w),
-                (
-                  (lit< tt),
-                  (
-                    (λ k l. (
-                      refl,
-                      (
-                        1,
-                        record { has = has m (operations n + k) _ (listed.1.1.0 k l); before = omega arith; in_time = λ t. let e = early_before (operations n + k) (omega arith) in absurd cc },
-                        record { has = has m (none n) _ listed.1.1.1.1.1.1.1.0; before = omega arith; in_time = λ t. let e = early_between (none n) (omega arith) (omega arith) in absurd cc },
-                      ),
-                    )),
-                    (
-                      (pow_pos a),
-                      (
-                        (λ k l. (
-                          from (address_chain n + 1 + k) (grants n + k) 1 (has m (grants n + k) _ (listed.1.1.1.1.1.0 k l)) (omega arith) (omega arith) (omega arith),
-                          from (address_chain n + 1 + k) (addresses n + k) a (has m (addresses n + k) _ (listed.1.1.1.0 k l)) (omega arith) (omega arith) (omega arith),
-                          from (address_chain n + 1 + k) (address_chain n + k) a (has_address_chain k (omega arith)) (omega arith) (omega arith) (omega arith),
-                        )),
-                        (
-                          (pow_pos w),
-                          (
-                            (λ k l. (
-                              from (value_chain n + 1 + k) (grants n + k) 1 (has m (grants n + k) _ (listed.1.1.1.1.1.0 k l)) (omega arith) (omega arith) (omega arith),
-                              from (value_chain n + 1 + k) (values n + k) w (has m (values n + k) _ (listed.1.1.1.1.0 k l)) (omega arith) (omega arith) (omega arith),
-                              from (value_chain n + 1 + k) (value_chain n + k) w (has_value_chain k (omega arith)) (omega arith) (omega arith) (omega arith),
-                            )),
-                            (
-                              (lit< tt),
-                              (
-                                (λ k l. (
-                                  from (store_chain n + 1 + k) (grants n + k) 1 (has m (grants n + k) _ (listed.1.1.1.1.1.0 k l)) (omega arith) (omega arith) (omega arith),
-                                  from (store_chain n + 1 + k) (operations n + k) 1 (has m (operations n + k) _ (listed.1.1.0 k l)) (omega arith) (omega arith) (omega arith),
-                                  from (store_chain n + 1 + k) (store_chain n + k) 1 (has_store_chain k (omega arith)) (omega arith) (omega arith) (omega arith),
-                                )),
-                                (
-                                  (memory_of shape, held, refl, (a, from (word n) (address n) a (has_address_chain n (omega arith)) (omega arith) (omega arith) (omega arith), ok.addressed)),
-                                  (
-                                    (λ k l. (
-                                      from (takes n + k) (grants n + k) 1 (has m (grants n + k) _ (listed.1.1.1.1.1.0 k l)) (omega arith) (omega arith) (omega arith),
-                                      from (takes n + k) (reads n + k) 1 (has m (reads n + k) _ (listed.1.1.1.1.1.1.1.1.0 k l)) (omega arith) (omega arith) (omega arith),
-                                    )),
-                                    (
-                                      (λ k l. (
-                                        from (next n + k) (takes n + k) 1 (has m (takes n + k) _ (listed.1.1.1.1.1.1.1.1.1.1.1.1.1.1.1.1.0 k l)) (omega arith) (omega arith) (omega arith),
-                                        from (next n + k) (word n) w (has m (word n) _ listed.1.1.1.1.1.1.1.1.1.1.1.1.1.1.1.0) (omega arith) (omega arith) (omega arith),
-                                        from (next n + k) (kept n + k) w (has m (kept n + k) _ (listed.1.1.1.1.1.1.0 k l)) (omega arith) (omega arith) (omega arith),
-                                      )),
-                                      (
-                                        (λ k l. record {
-                                          has = has m (asks n + k) _ (listed.1.0 k l);
-                                          before = omega arith;
-                                          in_time = λ t. let e = early_before (asks n + k)
-                                              (omega arith) in absurd cc;
-                                        }),
-                                        (
-                                          (λ k l. record {
-                                            has = has m (kept n + k) _ (listed.1.1.1.1.1.1.0 k l);
-                                            before = omega arith;
-                                            in_time = λ t. let e = early_between (kept n + k) (omega arith)
-                                                (omega arith) in absurd cc;
-                                          }),
-                                          tt,
-                                        ),
-                                      ),
-                                    ),
-                                  ),
-                                ),
-                              ),
-                            ),
-                          ),
-                        ),
-                      ),
-                    ),
-                  ),
-                ),
-              ),
-            ),
-          ),
-        ),
-      ),
-    ),
-  )
-
-  set_fits : (k : ℕ) → k < n → FitsAction m (set_at (kept n) (next n) (0 + k))
+  set_fits : (k : ℕ) → k < n → FitsAction m (set_at (at n row.kept) (at n row.next) (0 + k))
   set_fits k l =
       let z : k ≡ 0 + k = omega arith in
-      subst (λ i. FitsAction m (set_at (kept n) (next n) i)) z
-      (tt, (w, record { signal = _; listed = listed.1.1.1.1.1.1.0 k l; wide = refl; is = tt }, has m (next n + k) _ (listed.1.1.1.1.1.1.1.1.1.1.1.1.1.1.1.1.1.0 k l)))
+      subst (λ i. FitsAction m (set_at (at n row.kept) (at n row.next) i)) z
+      (tt, (w, record { signal = _; listed = there row.kept k l; wide = refl; is = tt }, has m (at n row.next + k) _ (there row.next k l)))
 
-  store_fits : FitsAction m (store_under (stores n) (address n) (value n))
-  store_fits = ((has_store_chain n (omega arith), tt), (memory_of shape, held, has_value_chain n (omega arith), (a, has_address_chain n (omega arith))))
+  store_fits : FitsAction m (store_under (end n row.stores) (end n row.address) (end n row.value))
+  store_fits = ((stores_has, tt), (memory_of shape, held, value_has, (a, address_has)))
+
+  pub acts_fit : EachOf (FitsAction m) m.actions
+  acts_fit = subst (EachOf (FitsAction m)) (sym is.actions) (each_joined (FitsAction m) (sets (at n row.kept) (at n row.next) n)
+      (store_under (end n row.stores) (end n row.address) (end n row.value) ∷ [])
+      (each_spread (FitsAction m) (set_at (at n row.kept) (at n row.next)) 0 n set_fits) (store_fits, tt))
+
+  pub begins : EachOf FitsMemory m.memories
+  begins = subst (EachOf FitsMemory) (sym is.memories) (ok.fits, tt)
 
   pub bank_leaf : IsLeaf m (inputs shape) (is_late shape)
-  bank_leaf = table_leaf m (rows n a w) is.signals (inputs shape) (is_late shape) sound is.instances
-      (more_inputs m (grants n) n _ (more_inputs m (values n) n _ (more_inputs m (addresses n) n _ (more_inputs m (operations n) n _ (more_inputs m (asks n) n _ (one_input m 0 _
-      (no_inputs m) listed.0 refl) listed.1.0 (λ k. refl)) listed.1.1.0 (λ k. refl)) listed.1.1.1.0 (λ k. refl)) listed.1.1.1.1.0 (λ k. refl)) listed.1.1.1.1.1.0 (λ k. refl))
-      (subst (EachOf (FitsAction m)) (sym is.actions) (each_joined (FitsAction m) (sets (kept n) (next n) n) (store_under (stores n) (address n) (value n) ∷ [])
-      (each_spread (FitsAction m) (set_at (kept n) (next n)) 0 n set_fits) (store_fits, tt)))
-      (subst (EachOf FitsMemory) (sym is.memories) (ok.fits, tt))
+  bank_leaf = sound.leaf laid_by is.instances acts_fit begins
 
   -- ---- the promise
 
@@ -206,7 +134,7 @@ module _ (shape : Shape) (ok : IsShape shape) (m : Module) (is : IsBank shape m)
     sized = refl;
     words = λ k l. ap (λ ms. initial_word (slice_get ms 0) k) is.memories ∙ first_word shape.initial k;
     each = length-replicate {A = ℕ} n 0;
-    kept = λ i l. ap initial_signal (listed.1.1.1.1.1.1.0 i l) ∙ sym (zeros_at n i);
+    kept = λ i l. ap initial_signal (there row.kept i l) ∙ sym (zeros_at n i);
   }
 
   keeps : (h g : Reading) (s : Words) → Agree m h g → Shown h s → Shown g s
@@ -214,53 +142,14 @@ module _ (shape : Shape) (ok : IsShape shape) (m : Module) (is : IsBank shape m)
     sized = e.sized;
     words = λ k l. sym (same.words 0 k (memory_of shape) held l) ∙ e.words k l;
     each = e.each;
-    kept = λ i l. sym (same.registers (kept n + i) _ (listed.1.1.1.1.1.1.0 i l) tt) ∙ e.kept i l;
+    kept = λ i l. sym (same.registers (at n row.kept + i) _ (there row.kept i l) tt) ∙ e.kept i l;
   }
 
-  abbrev SameRegister : (h g : Reading) → ℕ → Signal → Type 0
-  SameRegister h g x s = IsRegister s.source → h.signal x ≡ g.signal x
-
-  same_registers : (h g : Reading) (s : Words) → Shown h s → Shown g s → EachRow (SameRegister h g) 0 (rows n a w)
-  same_registers h g s e f = (
-    (λ t. absurd t),
-    (
-      (λ k l t. absurd t),
-      (
-        (λ k l t. absurd t),
-        (
-          (λ k l t. absurd t),
-          (
-            (λ k l t. absurd t),
-            (
-              (λ k l t. absurd t),
-              (
-                (λ k l t. e.kept k l ∙ sym (f.kept k l)),
-                (
-                  (λ t. absurd t),
-                  (
-                    (λ k l t. absurd t),
-                    (
-                      (λ t. absurd t),
-                      (
-                        (λ k l t. absurd t),
-                        (
-                          (λ t. absurd t),
-                          (
-                            (λ k l t. absurd t),
-                            ((λ t. absurd t), ((λ k l t. absurd t), ((λ t. absurd t), ((λ k l t. absurd t), ((λ k l t. absurd t), ((λ k l t. absurd t), ((λ k l t. absurd t), tt))))))),
-                          ),
-                        ),
-                      ),
-                    ),
-                  ),
-                ),
-              ),
-            ),
-          ),
-        ),
-      ),
-    ),
-  )
+  same_at : (h g : Reading) (s : Words) → Shown h s → Shown g s → (x : ℕ) → inputs shape ≤ x → x < place n table (registers table) → h.signal x ≡ g.signal x
+  same_at h g s e f x b c =
+      let z : at n row.kept + (x - at n row.kept) ≡ x = omega arith in
+      let k : x - at n row.kept < n = omega arith in
+      subst (λ y. h.signal y ≡ g.signal y) z (e.kept (x - at n row.kept) k ∙ sym (f.kept (x - at n row.kept) k))
 
   same_words : (h g : Reading) (s : Words) → Shown h s → Shown g s → (j k : ℕ) (z : Memory) → slice_get m.memories j ≡ Some z → k < length z.initial → h.word j k ≡ g.word j k
   same_words h g s e f j k z q l =
@@ -275,61 +164,61 @@ module _ (shape : Shape) (ok : IsShape shape) (m : Module) (is : IsBank shape m)
       ∙ ap (λ z. with (g 0) (g 1) z (f 3)) (h 2 (omega arith)) ∙ ap (with (g 0) (g 1) (g 2)) (h 3 (omega arith))
 
   module _ (r : Reading) (s : Words) (obeys : Obeys m r) (shown : Shown r s) where
-    told : EachRow (Told m r) 0 (rows n a w)
-    told = all_told m (rows n a w) is.signals (inputs shape) (is_late shape) sound r obeys
+    told : ByRow n table (Told m r)
+    told = sound.told laid_by r obeys
 
-    offer_is : (i : ℕ) → i < n → r.signal (offers n + i) ≡ bit_of (nat_lt 0 (r.signal (asks n + i)))
-    offer_is i l = told.1.1.1.1.1.1.1.1.1.1.1.1.1.1.1.1.1.1.0 i l ∙ a_bit (r.signal (asks n + i)) (obeys.within (asks n + i) _ (listed.1.0 i l))
+    offer_is : (i : ℕ) → i < n → r.signal (at n row.offers + i) ≡ bit_of (nat_lt 0 (r.signal (at n row.asks + i)))
+    offer_is i l = told row.offers i l ∙ a_bit (r.signal (at n row.asks + i)) (obeys.within (at n row.asks + i) _ (there row.asks i l))
 
-    tell_is : (i : ℕ) → i < n → r.signal (tells n + i) ≡ slice_index s.kept i
-    tell_is i l = told.1.1.1.1.1.1.1.1.1.1.1.1.1.1.1.1.1.1.1.0 i l ∙ shown.kept i l
+    tell_is : (i : ℕ) → i < n → r.signal (at n row.tells + i) ≡ slice_index s.kept i
+    tell_is i l = told row.tells i l ∙ shown.kept i l
 
     module _ (o : Option ℕ) (granted : Grants (bank_machine shape) (bank_places shape) n r o) where
-      address_is : r.signal (address n) ≡ pick o 0 (λ k. r.signal (addresses n + k))
-      address_is = chain_is r n (address_chain n) (grants n) (addresses n) 0 o told.1.1.1.1.1.1.1.1.1.0 told.1.1.1.1.1.1.1.1.1.1.0 granted.below granted.bits
+      address_is : r.signal (end n row.address) ≡ pick o 0 (λ k. r.signal (at n row.addresses + k))
+      address_is = chain_is r n (at n row.address) (at n row.grants) (at n row.addresses) 0 o (told row.address).0 (told row.address).1 granted.below granted.bits
 
-      value_is : r.signal (value n) ≡ pick o 0 (λ k. r.signal (values n + k))
-      value_is = chain_is r n (value_chain n) (grants n) (values n) 0 o told.1.1.1.1.1.1.1.1.1.1.1.0 told.1.1.1.1.1.1.1.1.1.1.1.1.0 granted.below granted.bits
+      value_is : r.signal (end n row.value) ≡ pick o 0 (λ k. r.signal (at n row.values + k))
+      value_is = chain_is r n (at n row.value) (at n row.grants) (at n row.values) 0 o (told row.value).0 (told row.value).1 granted.below granted.bits
 
-      stores_is : r.signal (stores n) ≡ pick o 0 (λ k. r.signal (operations n + k))
-      stores_is = chain_is r n (store_chain n) (grants n) (operations n) 0 o told.1.1.1.1.1.1.1.1.1.1.1.1.1.0 told.1.1.1.1.1.1.1.1.1.1.1.1.1.1.0 granted.below granted.bits
+      stores_is : r.signal (end n row.stores) ≡ pick o 0 (λ k. r.signal (at n row.operations + k))
+      stores_is = chain_is r n (at n row.stores) (at n row.grants) (at n row.operations) 0 o (told row.stores).0 (told row.stores).1 granted.below granted.bits
 
-      word_is : r.signal (word n) ≡ slice_index s.words (pick o 0 (λ k. r.signal (addresses n + k)))
+      word_is : r.signal (at n row.word) ≡ slice_index s.words (pick o 0 (λ k. r.signal (at n row.addresses + k)))
       word_is =
-          told.1.1.1.1.1.1.1.1.1.1.1.1.1.1.1.0
-          ∙ ap (λ (x : Option Memory). if nat_lt (r.signal (address n)) (memory_words x) then r.word 0 (r.signal (address n)) else 0) held
-          ∙ read_is (length shape.initial) (r.signal (address n)) (r.word 0 (r.signal (address n))) s.words shown.sized (λ l. shown.words (r.signal (address n)) l)
+          (told row.word)
+          ∙ ap (λ (x : Option Memory). if nat_lt (r.signal (end n row.address)) (memory_words x) then r.word 0 (r.signal (end n row.address)) else 0) held
+          ∙ read_is (length shape.initial) (r.signal (end n row.address)) (r.word 0 (r.signal (end n row.address))) s.words shown.sized (λ l. shown.words (r.signal (end n row.address)) l)
           ∙ ap (slice_index s.words) address_is
 
-      next_is : (i : ℕ) → i < n → r.signal (next n + i)
-          ≡ (if is_granted o i && nat_eq (r.signal (operations n + i)) 0 then slice_index s.words (pick o 0 (λ k. r.signal (addresses n + k))) else r.signal (kept n + i))
+      next_is : (i : ℕ) → i < n → r.signal (at n row.next + i)
+          ≡ (if is_granted o i && nat_eq (r.signal (at n row.operations + i)) 0 then slice_index s.words (pick o 0 (λ k. r.signal (at n row.addresses + k))) else r.signal (at n row.kept + i))
       next_is i l =
-          told.1.1.1.1.1.1.1.1.1.1.1.1.1.1.1.1.1.0 i l
-          ∙ tested (is_granted o i && nat_eq (r.signal (operations n + i)) 0) (r.signal (takes n + i)) (r.signal (word n)) (r.signal (kept n + i))
-          (told.1.1.1.1.1.1.1.1.1.1.1.1.1.1.1.1.0 i l
-          ∙ both_bits (is_granted o i) (nat_eq (r.signal (operations n + i)) 0) (r.signal (grants n + i)) (r.signal (reads n + i)) (granted.bits i l)
-          (told.1.1.1.1.1.1.1.1.0 i l ∙ ap (λ x. bit_of (nat_eq (r.signal (operations n + i)) x)) told.1.1.1.1.1.1.1.0))
-          ∙ ap (λ x. if is_granted o i && nat_eq (r.signal (operations n + i)) 0 then x else r.signal (kept n + i)) word_is
+          (told row.next) i l
+          ∙ tested (is_granted o i && nat_eq (r.signal (at n row.operations + i)) 0) (r.signal (at n row.takes + i)) (r.signal (at n row.word)) (r.signal (at n row.kept + i))
+          (told row.takes i l
+          ∙ both_bits (is_granted o i) (nat_eq (r.signal (at n row.operations + i)) 0) (r.signal (at n row.grants + i)) (r.signal (at n row.reads + i)) (granted.bits i l)
+          (told row.reads i l ∙ ap (λ x. bit_of (nat_eq (r.signal (at n row.operations + i)) x)) (told row.none)))
+          ∙ ap (λ x. if is_granted o i && nat_eq (r.signal (at n row.operations + i)) 0 then x else r.signal (at n row.kept + i)) word_is
 
-    register_is : (i : ℕ) → i < n → (next_reading m r).signal (kept n + i) ≡ r.signal (next n + i)
+    register_is : (i : ℕ) → i < n → (next_reading m r).signal (at n row.kept + i) ≡ r.signal (at n row.next + i)
     register_is i l =
-        ap (λ (xs : List Action). register_after r xs (kept n + i) (r.signal (kept n + i))) is.actions
-        ∙ register_after-append r (sets (kept n) (next n) n) (store_under (stores n) (address n) (value n) ∷ []) (kept n + i) (r.signal (kept n + i))
-        ∙ if_same (nat_lt 0 (r.signal (stores n)) && true) (register_after r (sets (kept n) (next n) n) (kept n + i) (r.signal (kept n + i)))
-        ∙ sets_after r (kept n) (next n) n i (r.signal (kept n + i)) l
+        ap (λ (xs : List Action). register_after r xs (at n row.kept + i) (r.signal (at n row.kept + i))) is.actions
+        ∙ register_after-append r (sets (at n row.kept) (at n row.next) n) (store_under (end n row.stores) (end n row.address) (end n row.value) ∷ []) (at n row.kept + i) (r.signal (at n row.kept + i))
+        ∙ if_same (nat_lt 0 (r.signal (end n row.stores)) && true) (register_after r (sets (at n row.kept) (at n row.next) n) (at n row.kept + i) (r.signal (at n row.kept + i)))
+        ∙ sets_after r (at n row.kept) (at n row.next) n i (r.signal (at n row.kept + i)) l
 
     word_after_is : (k : ℕ) → (next_reading m r).word 0 k
-        ≡ (if nat_lt 0 (r.signal (stores n)) && true then (if nat_eq (r.signal (address n)) k then r.signal (value n) else r.word 0 k) else r.word 0 k)
+        ≡ (if nat_lt 0 (r.signal (end n row.stores)) && true then (if nat_eq (r.signal (end n row.address)) k then r.signal (end n row.value) else r.word 0 k) else r.word 0 k)
     word_after_is k =
         ap (λ (xs : List Action). word_after r xs 0 k (r.word 0 k)) is.actions
-        ∙ word_after-append r (sets (kept n) (next n) n) (store_under (stores n) (address n) (value n) ∷ []) 0 k (r.word 0 k)
-        ∙ ap (λ old. word_after r (store_under (stores n) (address n) (value n) ∷ []) 0 k old) (sets_words r (kept n) (next n) 0 n 0 k (r.word 0 k))
+        ∙ word_after-append r (sets (at n row.kept) (at n row.next) n) (store_under (end n row.stores) (end n row.address) (end n row.value) ∷ []) 0 k (r.word 0 k)
+        ∙ ap (λ old. word_after r (store_under (end n row.stores) (end n row.address) (end n row.value) ∷ []) 0 k old) (sets_words r (at n row.kept) (at n row.next) 0 n 0 k (r.word 0 k))
 
     silent : (o : Option ℕ) → written m r ≡ printed (bank_machine shape) s (asked (bank_machine shape) (bank_places shape) r) o
     silent o =
         ap (action_bytes m r) is.actions
-        ∙ sets_print r (kept n) (next n) m 0 n (store_under (stores n) (address n) (value n) ∷ [])
-        ∙ ap (λ (l : List ℕ). l ++ []) (no_bytes (nat_lt 0 (r.signal (stores n)) && true) [])
+        ∙ sets_print r (at n row.kept) (at n row.next) m 0 n (store_under (end n row.stores) (end n row.address) (end n row.value) ∷ [])
+        ∙ ap (λ (l : List ℕ). l ++ []) (no_bytes (nat_lt 0 (r.signal (end n row.stores)) && true) [])
         ∙ none_printed shape s (asked (bank_machine shape) (bank_places shape) r) o
 
     moves : (o : Option ℕ) → Grants (bank_machine shape) (bank_places shape) n r o
@@ -337,45 +226,48 @@ module _ (shape : Shape) (ok : IsShape shape) (m : Module) (is : IsBank shape m)
     moves None granted = record {
       sized = shown.sized;
       words = λ k l. word_after_is k
-          ∙ ap (λ c. if nat_lt 0 c && true then (if nat_eq (r.signal (address n)) k then r.signal (value n) else r.word 0 k) else r.word 0 k) (stores_is None granted) ∙ shown.words k l;
+          ∙ ap (λ c. if nat_lt 0 c && true then (if nat_eq (r.signal (end n row.address)) k then r.signal (end n row.value) else r.word 0 k) else r.word 0 k) (stores_is None granted) ∙ shown.words k l;
       each = shown.each;
       kept = λ i l. register_is i l ∙ next_is None granted i l ∙ shown.kept i l;
     }
     moves (Some v) granted =
         let o = Some v in
-        let op = r.signal (operations n + v) in
+        let op = r.signal (at n row.operations + v) in
         let b = nat_lt 0 op in
-        let at = r.signal (addresses n + v) in
-        let d = r.signal (values n + v) in
+        let place = r.signal (at n row.addresses + v) in
+        let d = r.signal (at n row.values + v) in
         record {
-          sized = sized_after b s v at d ∙ shown.sized;
+          sized = sized_after b s v place d ∙ shown.sized;
           words = λ k l. word_after_is k
-              ∙ ap (λ c. if nat_lt 0 c && true then (if nat_eq (r.signal (address n)) k then r.signal (value n) else r.word 0 k) else r.word 0 k) (stores_is o granted)
-              ∙ ap (λ c. if b && true then (if nat_eq c k then r.signal (value n) else r.word 0 k) else r.word 0 k) (address_is o granted)
-              ∙ ap (λ c. if b && true then (if nat_eq at k then c else r.word 0 k) else r.word 0 k) (value_is o granted)
-              ∙ each_word b s k v at d (r.word 0 k) (let e = shown.sized in omega arith) (shown.words k l);
-          each = each_after b s v at d ∙ shown.each;
+              ∙ ap (λ c. if nat_lt 0 c && true then (if nat_eq (r.signal (end n row.address)) k then r.signal (end n row.value) else r.word 0 k) else r.word 0 k) (stores_is o granted)
+              ∙ ap (λ c. if b && true then (if nat_eq c k then r.signal (end n row.value) else r.word 0 k) else r.word 0 k) (address_is o granted)
+              ∙ ap (λ c. if b && true then (if nat_eq place k then c else r.word 0 k) else r.word 0 k) (value_is o granted)
+              ∙ each_word b s k v place d (r.word 0 k) (let e = shown.sized in omega arith) (shown.words k l);
+          each = each_after b s v place d ∙ shown.each;
           kept = λ i l. register_is i l ∙ next_is o granted i l
-              ∙ each_kept b (nat_eq (r.signal (operations n + i)) 0) s i v at d (r.signal (kept n + i)) (let e = shown.each in let c = granted.below v refl in omega arith)
-              (λ e. ap (λ j. nat_eq (r.signal (operations n + j)) 0) e ∙ read_bit op) (shown.kept i l);
+              ∙ each_kept b (nat_eq (r.signal (at n row.operations + i)) 0) s i v place d (r.signal (at n row.kept + i)) (let e = shown.each in let c = granted.below v refl in omega arith)
+              (λ e. ap (λ j. nat_eq (r.signal (at n row.operations + j)) 0) e ∙ read_bit op) (shown.kept i l);
         }
 
   ask_input : (j i : ℕ) → j < 4 → i < n → HasInput m (part_place n j i)
-  ask_input zero i l b = bank_leaf.first (asks n + i) (omega arith)
-  ask_input (suc zero) i l b = bank_leaf.first (operations n + i) (omega arith)
-  ask_input (suc (suc zero)) i l b = bank_leaf.first (addresses n + i) (omega arith)
-  ask_input (suc (suc (suc j))) i l b = bank_leaf.first (values n + i) (omega arith)
+  ask_input zero i l b = bank_leaf.first (at n row.asks + i) (omega arith)
+  ask_input (suc zero) i l b = bank_leaf.first (at n row.operations + i) (omega arith)
+  ask_input (suc (suc zero)) i l b = bank_leaf.first (at n row.addresses + i) (omega arith)
+  ask_input (suc (suc (suc j))) i l b = bank_leaf.first (at n row.values + i) (omega arith)
 
   pub bank_core : IsCore (bank_machine shape) (bank_places shape) n m
   bank_core = record {
     starts = starts;
     keeps = keeps;
-    faithful = λ h g s e f. record { registers = by_signals m (rows n a w) is.signals (SameRegister h g) (same_registers h g s e f); words = same_words h g s e f };
+    faithful = λ h g s e f. record {
+      registers = sound.same_registers laid_by h g (same_at h g s e f);
+      words = same_words h g s e f;
+    };
     hears = λ f g h. hears_same f g h;
     offers = λ r s ob sh i l. offer_is r s ob sh i l;
     tells = λ r s ob sh j i l b. tell_is r s ob sh i b;
     moves = λ r s o ob sh g. moves r s ob sh o g;
     writes = λ r s o ob sh g. silent r s ob sh o;
     ask_inputs = ask_input;
-    grant_inputs = λ i l. bank_leaf.first (grants n + i) (omega arith);
+    grant_inputs = λ i l. bank_leaf.first (at n row.grants + i) (omega arith);
   }

@@ -1,11 +1,14 @@
 -- A bank as a machine: a thread asks to read or to write a word; a write that is granted changes one word, and a read that
 -- is granted keeps the word for its thread, until that thread's next one.
-use Rattle.std.specs.Prelude.{◌≡◌, ℕ, zero, suc, ◌+◌, ◌<◌, Bool, ◌||◌, nat_lt, if◌then◌else◌, replicate, List, [], ◌∷◌, ◌++◌, length, slice_index, slice_set}
+use Rattle.std.specs.Prelude.{◌≡◌, ℕ, zero, suc, ◌+◌, ◌<◌, Bool, nat_lt, if◌then◌else◌, replicate, List, [], length, slice_index, slice_set}
 use Rattle.circuit.specs.Readings.{Reading}
-use Rattle.circuit.specs.Modules.{is_between}
+use Rattle.circuit.specs.declared.table.Row.{Row}
+use Rattle.circuit.specs.Table.{place}
+use Rattle.circuit.specs.Fits as table
 use Rattle.circuit.specs.Machines.{CoreMachine, CorePlaces}
 use Rattle.bank_cores.specs.declared.bank.Shape.{Shape}
-use Rattle.bank_cores.specs.Bank.{asks, operations, addresses, values, grants, kept, address_chain, offers, tells}
+use Rattle.bank_cores.specs.Rows as row
+use Rattle.bank_cores.specs.Bank.{rows, at, grants, kept, offers, tells}
 
 -- the words of the bank, and for each thread the word that it read last, 0 before its first
 pub record Words : Type 0 where
@@ -60,10 +63,10 @@ pub record Shows (shape : Shape) (r : Reading) (s : Words) : Type 0 where
 
 -- where the module has its ports
 abbrev pub part_place : ℕ → ℕ → ℕ → ℕ
-part_place n zero i = asks n + i
-part_place n (suc zero) i = operations n + i
-part_place n (suc (suc zero)) i = addresses n + i
-part_place n (suc (suc (suc j))) i = values n + i
+part_place n zero i = at n row.asks + i
+part_place n (suc zero) i = at n row.operations + i
+part_place n (suc (suc zero)) i = at n row.addresses + i
+part_place n (suc (suc (suc j))) i = at n row.values + i
 
 abbrev pub bank_places : (shape : Shape) → CorePlaces (bank_machine shape)
 bank_places shape = record {
@@ -74,21 +77,22 @@ bank_places shape = record {
   tell = λ j i. tells shape.threads + i;
 }
 
--- the input ports stand before this place
-abbrev pub inputs : Shape → ℕ
-inputs shape = kept shape.threads
+-- the table of a shape
+abbrev pub table_of : Shape → List Row
+table_of shape = rows shape.address_width shape.width
 
--- the clock, whether each thread asks, whether it writes, their addresses, their values, and whether each is granted
+-- the input ports stand before this place: the clock, whether each thread asks, whether it writes, their addresses, their values, and
+-- whether each is granted
+abbrev pub inputs : Shape → ℕ
+inputs shape = place shape.threads (table_of shape) (table.inputs (table_of shape))
+
 abbrev pub input_widths : Shape → List ℕ
-input_widths shape =
-    1 ∷ (replicate shape.threads 1 ++ (replicate shape.threads 1 ++ (replicate shape.threads shape.address_width
-    ++ (replicate shape.threads shape.width ++ replicate shape.threads 1))))
+input_widths shape = table.input_widths (table_of shape) shape.threads
 
 -- whether each may be granted, and the word that is kept for each
 abbrev pub output_widths : Shape → List ℕ
-output_widths shape = replicate shape.threads 1 ++ replicate shape.threads shape.width
+output_widths shape = table.output_widths (table_of shape) shape.threads
 
 -- the grants, and what follows from them; the output ports do not
 abbrev pub is_late : Shape → ℕ → Bool
-is_late shape x =
-    is_between (grants shape.threads) (kept shape.threads) x || is_between (address_chain shape.threads) (offers shape.threads) x
+is_late shape = table.is_late (table_of shape) shape.threads

@@ -1,20 +1,25 @@
 // The module of a bank.
 
 ghost use Rattle.std.specs.Prelude.{◌≡◌, ◌≤◌, [], ◌∷◌, IfOk};
-ghost use Rattle.circuit.specs.Rows.{laid};
+ghost use Rattle.circuit.specs.Table.{laid};
 ghost use Rattle.circuit.specs.Modules.{IsLeaf};
 ghost use Rattle.circuit.specs.Interfaces.{IsTableModule};
 ghost use Rattle.circuit.specs.Machines.{IsCore};
-ghost use Rattle.bank_cores.specs.Bank.{bank_name, memory_of, rows, statements, store_under, IsShape, IsBank};
+ghost use Rattle.bank_cores.specs.Bank.{bank_name, end, memory_of, rows, statements, store_under, IsShape, IsBank};
 ghost use Rattle.bank_cores.specs.Machine.{bank_machine, bank_places, inputs, input_widths, output_widths, is_late};
 
 use crate::name::GlobalName;
-use circuit::rows::{Form, Operand, Role, Row, lay, sets};
+use circuit::rows::Role::{Address, Ask, Clock, Data, Grant, Offer, Operation, State, Told, Wire};
+use circuit::rows::sets;
+use circuit::table::Form::{Binary, Conditional, Constant, Input, MemoryRead, Output, Register};
+use circuit::table::Operand::{Before, Last, Only, Same};
+use circuit::table::Row::{Chain, Each, One};
+use circuit::table::{Row, lay, place};
 use netlist::netlist::{Action, Effect, Memory, Module, Signal};
 use sqlite_items::Items;
 use std::alloc::{AllocError, Global};
 use verilog_tree::name::Identifier;
-use verilog_tree::tree::BinaryOperator;
+use verilog_tree::tree::BinaryOperator::{And, Equal};
 
 /// A bank that so many threads ask: the name of its global, its number among the banks of that global, the width of an
 /// address in bits, the width of a word in bits, and the first value of each word.
@@ -111,31 +116,29 @@ fn actions(alloc: Global, threads: usize) -> Result<Items<Action>, AllocError>
     requires few { threads ≤ 64 }
     ensures { IfOk result (λ actions. actions ≡ statements threads) }
 {
-    let asks = 1;
-    let operations = asks + threads;
-    let addresses = operations + threads;
-    let values = addresses + threads;
-    let grants = values + threads;
-    let kept = grants + threads;
-    let none = kept + threads;
-    let reads = none + 1;
-    let address_chain = reads + threads;
-    let address = address_chain + threads;
-    let value_chain = address_chain + 1 + threads;
-    let value = value_chain + threads;
-    let store_chain = value_chain + 1 + threads;
-    let stores = store_chain + threads;
-    let word = store_chain + 1 + threads;
-    let takes = word + 1;
-    let next = takes + threads;
+    let rows = rows(1, 1);
+    let kept = place(threads, &rows, KEPT);
+    let next = place(threads, &rows, NEXT);
     let mut actions = sets(alloc, kept, next, threads)?;
-    let store = store_under(alloc, stores, address, value)?;
+    let stores = end_of(threads, STORES);
+    let store = store_under(
+        alloc,
+        stores,
+        end_of(threads, ADDRESS),
+        end_of(threads, VALUE),
+    )?;
     actions.push(store)?;
     Ok(actions)
 }
 
-/// Chains of wires hand on the address and the value of the granted thread, and whether it writes; a thread whose read is
-/// granted takes the word at that address.
+/// The place of the end of a chain.
+fn end_of(threads: usize, chain: usize) -> usize
+    requires few { threads ≤ 64 }
+    ensures { result ≡ end threads chain }
+{
+    place(threads, &rows(1, 1), chain) + threads
+}
+
 fn signals(
     alloc: Global,
     threads: usize,
@@ -143,166 +146,72 @@ fn signals(
     width: u64,
 ) -> Result<Items<Signal>, AllocError>
     requires few { threads ≤ 64 }
-    ensures { IfOk result (λ signals. signals ≡ laid 0 (rows threads address_width width)) }
+    ensures { IfOk result (λ signals. signals ≡ laid threads (rows address_width width)) }
+{
+    lay(alloc, threads, &rows(address_width, width))
+}
+
+// The rows that statements name, by their numbers.
+const KEPT: usize = 6;
+
+const ADDRESS: usize = 9;
+
+const VALUE: usize = 10;
+
+const STORES: usize = 11;
+
+const NEXT: usize = 14;
+
+/// The table, for addresses and words of these widths. Chains of wires hand on the address and the value of the granted
+/// thread, and whether it writes; a thread whose read is granted takes the word at that address.
+fn rows(address_width: u64, width: u64) -> [Row; 17]
+    ensures { result ≡ rows address_width width }
 {
     let asks = 1;
-    let operations = asks + threads;
-    let addresses = operations + threads;
-    let values = addresses + threads;
-    let grants = values + threads;
-    let kept = grants + threads;
-    let none = kept + threads;
-    let reads = none + 1;
-    let address_chain = reads + threads;
-    let address = address_chain + threads;
-    let value_chain = address_chain + 1 + threads;
-    let store_chain = value_chain + 1 + threads;
-    let word = store_chain + 1 + threads;
-    let takes = word + 1;
-    let rows = [
-        Row::One {
-            role: Role::Clock,
-            width: 1,
-            form: Form::Input,
-        },
-        Row::Each {
-            count: threads,
-            role: Role::Ask,
-            width: 1,
-            form: Form::Input,
-        },
-        Row::Each {
-            count: threads,
-            role: Role::Operation,
-            width: 1,
-            form: Form::Input,
-        },
-        Row::Each {
-            count: threads,
-            role: Role::Address,
-            width: address_width,
-            form: Form::Input,
-        },
-        Row::Each {
-            count: threads,
-            role: Role::Data,
+    let operations = 2;
+    let addresses = 3;
+    let values = 4;
+    let grants = 5;
+    let none = 7;
+    let reads = 8;
+    let word = 12;
+    let takes = 13;
+    [
+        One(Clock, 1, Input),
+        Each(Ask, 1, Input),
+        Each(Operation, 1, Input),
+        Each(Address, address_width, Input),
+        Each(Data, width, Input),
+        Each(Grant, 1, Input),
+        Each(State, width, Register(0)),
+        One(Wire, 1, Constant(0)),
+        Each(Wire, 1, Binary(Equal, Same(operations), Only(none))),
+        Chain(
+            Wire,
+            address_width,
+            Constant(0),
+            Conditional(Same(grants), Same(addresses), Before(ADDRESS)),
+        ),
+        Chain(
+            Wire,
             width,
-            form: Form::Input,
-        },
-        Row::Each {
-            count: threads,
-            role: Role::Grant,
-            width: 1,
-            form: Form::Input,
-        },
-        Row::Each {
-            count: threads,
-            role: Role::State,
+            Constant(0),
+            Conditional(Same(grants), Same(values), Before(VALUE)),
+        ),
+        Chain(
+            Wire,
+            1,
+            Constant(0),
+            Conditional(Same(grants), Same(operations), Before(STORES)),
+        ),
+        One(Wire, width, MemoryRead(0, Last(ADDRESS))),
+        Each(Wire, 1, Binary(And, Same(grants), Same(reads))),
+        Each(
+            Wire,
             width,
-            form: Form::Register { initial: 0 },
-        },
-        Row::One {
-            role: Role::Wire,
-            width: 1,
-            form: Form::Constant { number: 0 },
-        },
-        Row::Each {
-            count: threads,
-            role: Role::Wire,
-            width: 1,
-            form: Form::Binary {
-                operator: BinaryOperator::Equal,
-                left: Operand::Each { first: operations },
-                right: Operand::Fixed { place: none },
-            },
-        },
-        Row::One {
-            role: Role::Wire,
-            width: address_width,
-            form: Form::Constant { number: 0 },
-        },
-        Row::Each {
-            count: threads,
-            role: Role::Wire,
-            width: address_width,
-            form: Form::Conditional {
-                condition: Operand::Each { first: grants },
-                if_true: Operand::Each { first: addresses },
-                if_false: Operand::Each {
-                    first: address_chain,
-                },
-            },
-        },
-        Row::One {
-            role: Role::Wire,
-            width,
-            form: Form::Constant { number: 0 },
-        },
-        Row::Each {
-            count: threads,
-            role: Role::Wire,
-            width,
-            form: Form::Conditional {
-                condition: Operand::Each { first: grants },
-                if_true: Operand::Each { first: values },
-                if_false: Operand::Each { first: value_chain },
-            },
-        },
-        Row::One {
-            role: Role::Wire,
-            width: 1,
-            form: Form::Constant { number: 0 },
-        },
-        Row::Each {
-            count: threads,
-            role: Role::Wire,
-            width: 1,
-            form: Form::Conditional {
-                condition: Operand::Each { first: grants },
-                if_true: Operand::Each { first: operations },
-                if_false: Operand::Each { first: store_chain },
-            },
-        },
-        Row::One {
-            role: Role::Wire,
-            width,
-            form: Form::MemoryRead {
-                memory: 0,
-                address: Operand::Fixed { place: address },
-            },
-        },
-        Row::Each {
-            count: threads,
-            role: Role::Wire,
-            width: 1,
-            form: Form::Binary {
-                operator: BinaryOperator::And,
-                left: Operand::Each { first: grants },
-                right: Operand::Each { first: reads },
-            },
-        },
-        Row::Each {
-            count: threads,
-            role: Role::Wire,
-            width,
-            form: Form::Conditional {
-                condition: Operand::Each { first: takes },
-                if_true: Operand::Fixed { place: word },
-                if_false: Operand::Each { first: kept },
-            },
-        },
-        Row::Each {
-            count: threads,
-            role: Role::Offer,
-            width: 1,
-            form: Form::Output(Operand::Each { first: asks }),
-        },
-        Row::Each {
-            count: threads,
-            role: Role::Told,
-            width,
-            form: Form::Output(Operand::Each { first: kept }),
-        },
-    ];
-    lay(alloc, &rows)
+            Conditional(Same(takes), Only(word), Same(KEPT)),
+        ),
+        Each(Offer, 1, Output(Same(asks))),
+        Each(Told, width, Output(Same(KEPT))),
+    ]
 }
