@@ -5,7 +5,7 @@ use Rattle.std.proofs.lemmas.List.{append-nil, length-replicate}
 use Rattle.netlist.specs.declared.netlist.Module.{Module}
 use Rattle.circuit.specs.Modules.{IsLeaf, is_between}
 use Rattle.circuit.specs.Interfaces.{first_of, HasInterface}
-use Rattle.circuit.proofs.Growth.{length-laid}
+use Rattle.circuit.proofs.TableRows.{length-laid}
 use Rattle.circuit.proofs.Tables.{between_on, between_behind}
 use Rattle.bank_cores.specs.declared.bank.Shape.{Shape}
 use Rattle.bank_cores.specs.Bank.{grants, kept, address_chain, offers, tells, rows}
@@ -33,7 +33,7 @@ module _ (s : Shape) (m : Module) (is : IsCoreModule s.threads (Bank s) m) where
 
   offers_first : first_of m (outputs n (s.width ∷ [])) ≡ offers n
   offers_first =
-      let a = ap length is.table.signals in let b = length-laid 0 (rows n s.address_width s.width) in
+      let a = ap length is.table.signals in let b = length-laid n (rows s.address_width s.width) in
       let c = length-replicate {A = ℕ} n 1 in let w = length-replicate {A = ℕ} n s.width in let d = ap length same_outputs in
       let e = length-append {A = ℕ} (replicate n 1) (replicate n s.width) in
       omega (arith, a, b, c, d, e, w)
