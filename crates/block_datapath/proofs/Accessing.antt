@@ -1,7 +1,7 @@
 -- What accesses of globals ask of banks: lemmas of each function that adds a part.
 use Rattle.std.proofs.Common.{◌≡◌, ◌≢◌, ℕ, ◌+◌, ◌/◌, ◌%◌, ◌^◌, ◌<◌, ◌≤◌, nat_eq, Bool, true, false, ◌&&◌}
 use Rattle.std.proofs.Common.{if◌then◌else◌, List, [], ◌∷◌, ◌++◌, length, slice_get, slice_index, Option, Some, None, ℤ, pos}
-use Rattle.std.proofs.Common.{refl, sym, ap, subst, ◌∙◌, arith, ⊎_elim, inl, inr, max, length-append, add-one}
+use Rattle.std.proofs.Common.{refl, sym, ap, subst, ◌∙◌, arith, ⊎_elim, inr, max, length-append, add-one}
 use Rattle.std.proofs.lemmas.Nat.{pow_pos}
 use Rattle.std.proofs.lemmas.Bool.{eqb-true, and_parts, cases_eq}
 use Rattle.std.proofs.lemmas.Option.{slice_get_within}
@@ -20,7 +20,7 @@ use Rattle.block_ir.specs.declared.code.ThreadCode.{ThreadCode}
 use Rattle.block_ir.specs.declared.plan.BlockPlan.{BlockPlan}
 use Rattle.planned_block.specs.Block.{Operation as PlannedOperation, UsesIn, Uses, operation_at, size}
 use Rattle.planned_block.specs.Plan.{further_states, last_state}
-use Rattle.planned_block.specs.Slot.{Slot, is_request, value_now, register_value}
+use Rattle.planned_block.specs.Slot.{Slot, is_request, value_now}
 use Rattle.planned_block.proofs.Bits.{same_is, other_is}
 use Rattle.planned_block.specs.Advance.{last_of}
 use Rattle.thread_promise.specs.View.{operand_view, operation_view, planned_view, plan_view, register_at}
@@ -55,7 +55,7 @@ use Rattle.block_datapath.specs.Accesses.{reaches_in, asked_in, SeesOperand, See
 use Rattle.block_datapath.specs.Accesses.{AsksFirst, HaveBankWidths, HasOwnWidths, AreIndexLinks, AreAccessLinks}
 use Rattle.block_datapath.specs.Accesses.{IsAskRight, AsksBlock, IsAskingBlock}
 use Rattle.thread_promise.proofs.Waiting.{request_is_slow}
-use Rattle.block_datapath.proofs.Walking.{listed_view, within_view, uses_source}
+use Rattle.block_datapath.proofs.Walking.{listed_view, within_view, uses_source, requested, uses_left, register_later}
 use Rattle.block_datapath.proofs.Wiring.{one_more, registers_after, values_after, sources_after, word_stands_after}
 use Rattle.block_datapath.proofs.Requesting.{same_asked, not_yet, bank_chains_after}
 
@@ -409,13 +409,6 @@ module _ (globals : List IntegerType) (spreads : List Spread) (code : ThreadCode
 
   module _ (old new : List Signal) (values : List Given) (are : AreRegistered globals code p b old new (length b.operations) values) (right : IsAskRight globals code b p)
       (m : Module) (r : Reading) (q : Slot) (wire : ℕ → ℤ) (sees : SeesSlot globals code registers b p m r q) where
-    register_later : (j x : ℕ) → last_state (planned_view b) (plan_view b p) j < q.state → (plan_view b p).register j ≡ Some x →
-        value_now (planned_view b) (plan_view b p) q wire j ≡ q.registers x
-    register_later j x less e =
-        ap (λ (c : Bool). if c then wire j else register_value q.registers ((plan_view b p).register j))
-        (other_is (last_state (planned_view b) (plan_view b p) j) q.state (λ same. absurd (omega arith)))
-        ∙ ap (register_value q.registers) e
-
     module _ (n : ℕ) (below : n < size (planned_view b)) (request : is_request (operation_at (planned_view b) n).kind ≡ true) (at : q.state ≡ slice_index p.starts n) where
       value_kept : (j : ℕ) (o : Operation) → Uses (operation_at (planned_view b) n) j → slice_get b.operations j ≡ Some o →
           IsValue m r registers values (slice_index p.starts n) j (value_type globals code o) (value_now (planned_view b) (plan_view b p) q wire j)
@@ -448,7 +441,7 @@ module _ (globals : List IntegerType) (spreads : List Spread) (code : ThreadCode
               sign = is.sign;
               here = λ e. absurd (let f : last_state (planned_view b) (plan_view b p) j ≡ slice_index p.starts n = sym last ∙ e in omega (arith, f, past));
               later = λ ne.
-                  subst (λ (z : ℤ). IsKept m r registers given.register (value_type globals code o) z) (sym (register_later j has.0 before has.1))
+                  subst (λ (z : ℤ). IsKept m r registers given.register (value_type globals code o) z) (sym (register_later b p q wire j has.0 before has.1))
                   (subst (λ (z : Option ℕ). IsKept m r registers z (value_type globals code o) (q.registers has.0)) (sym (is.register ∙ has.1)) kept);
             };
           }
@@ -466,26 +459,20 @@ module _ (globals : List IntegerType) (spreads : List Spread) (code : ThreadCode
           → SeesSource m r registers code.variables values (slice_index p.starts n) q.variables (value_now (planned_view b) (plan_view b p) q wire) operand.source
       operand_kept operand typed uses = source_kept operand.source typed (λ j ty e. uses j (uses_source operand j ty e))
 
-    uses_left : (n : ℕ) (o : Operation) (j : ℕ) → slice_get b.operations n ≡ Some o → UsesIn (operation_view o).left j → Uses (operation_at (planned_view b) n) j
-    uses_left n o j listed u = subst (λ (z : PlannedOperation). Uses z j) (sym (listed_view b.operations n o listed)) (inl u)
-
     uses_right : (n : ℕ) (o : Operation) (j : ℕ) → slice_get b.operations n ≡ Some o → UsesIn (operation_view o).right j → Uses (operation_at (planned_view b) n) j
     uses_right n o j listed u = subst (λ (z : PlannedOperation). Uses z j) (sym (listed_view b.operations n o listed)) (inr u)
-
-    requested : (n : ℕ) (o : Operation) → slice_get b.operations n ≡ Some o → is_request (operation_view o).kind ≡ true → is_request (operation_at (planned_view b) n).kind ≡ true
-    requested n o listed e = ap (λ (z : PlannedOperation). is_request z.kind) (listed_view b.operations n o listed) ∙ e
 
     access_seen : (n : ℕ) (o : Operation) → slice_get b.operations n ≡ Some o → q.state ≡ slice_index p.starts n → IsTypedOperation globals code b.operations o
         → SeesAccess m r registers code.variables values (slice_index p.starts n) q.variables (value_now (planned_view b) (plan_view b p) q wire) o
     access_seen n (Unary operator ty a) listed at typed = tt
     access_seen n (Binary operator ty a c) listed at typed = tt
     access_seen n (ReadGlobal x count i) listed at typed =
-        operand_kept n (within_view b.operations n (ReadGlobal x count i) listed) (requested n (ReadGlobal x count i) listed refl) at i typed.0
-        (λ j u. uses_left n (ReadGlobal x count i) j listed u)
+        operand_kept n (within_view b.operations n (ReadGlobal x count i) listed) (requested b n (ReadGlobal x count i) listed refl) at i typed.0
+        (λ j u. uses_left b n (ReadGlobal x count i) j listed u)
     access_seen n (WriteGlobal x count i a) listed at typed =
         let below = within_view b.operations n (WriteGlobal x count i a) listed in
-        let request = requested n (WriteGlobal x count i a) listed refl in (
-          operand_kept n below request at i typed.0 (λ j u. uses_left n (WriteGlobal x count i a) j listed u),
+        let request = requested b n (WriteGlobal x count i a) listed refl in (
+          operand_kept n below request at i typed.0 (λ j u. uses_left b n (WriteGlobal x count i a) j listed u),
           operand_kept n below request at a typed.1 (λ j u. uses_right n (WriteGlobal x count i a) j listed u),
         )
     access_seen n (ReadArray x count i) listed at typed = tt

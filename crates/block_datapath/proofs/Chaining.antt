@@ -14,6 +14,7 @@ use Rattle.operator_wires.specs.Gives.{Gives}
 use Rattle.operator_wires.specs.Words.{Resizes, resized_word}
 use Rattle.operator_wires.proofs.Giving.{grows_refl, grows_then}
 use Rattle.operator_wires.proofs.Making.{of_ok}
+use Rattle.operator_wires.proofs.Bits.{and_bits, set_bit}
 use Rattle.block_datapath.specs.declared.registers.Held.{Held}
 use Rattle.block_datapath.specs.declared.registers.Registers.{Registers}
 use Rattle.block_datapath.specs.declared.operands.Given.{Given}
@@ -25,16 +26,6 @@ use Rattle.block_datapath.specs.Chains.{next_number, is_set, SetsNext, TellsStag
 pub equal_small : (v w a l : ℕ) → v ≡ w → a < 2 ^ w → l < 2 ^ w → word_equal v a l ≡ bit_of (nat_eq a l)
 equal_small v w a l e p q =
     ap (λ x. word_equal x a l) e ∙ ap (λ x. bit_of (nat_eq x (l % 2 ^ w))) (mod-eq_of_lt p) ∙ ap (λ x. bit_of (nat_eq a x)) (mod-eq_of_lt q)
-
-pub and_bits : (t u : Bool) → word_and 1 (bit_of t) (bit_of u) ≡ bit_of (t && u)
-and_bits true true = refl
-and_bits true false = refl
-and_bits false true = refl
-and_bits false false = refl
-
-pub set_bit : (t : Bool) → not (nat_eq (bit_of t) 0) ≡ t
-set_bit true = refl
-set_bit false = refl
 
 -- ---- stages and states
 

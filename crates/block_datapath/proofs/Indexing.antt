@@ -1,5 +1,5 @@
 -- What an access uses in the state in which it starts has a type.
-use Rattle.std.proofs.Common.{◌≡◌, ℕ, ◌<◌, ◌≤◌, Bool, true, false, if◌then◌else◌, List, [], ◌∷◌, slice_get, slice_index, Some, ℤ, refl, sym, ap, subst, ◌∙◌, arith, inl}
+use Rattle.std.proofs.Common.{◌≡◌, ℕ, ◌<◌, ◌≤◌, Bool, true, if◌then◌else◌, List, [], ◌∷◌, slice_get, slice_index, Some, ℤ, refl, sym, ap, subst, ◌∙◌, arith}
 use Rattle.hls_ints.specs.Types.{IntegerType, HasType, wrapped}
 use Rattle.hls_ints.proofs.Conversions.{wrapped-range}
 use Rattle.block_ir.specs.declared.operand.Source.{Source}
@@ -10,19 +10,19 @@ use Rattle.block_ir.specs.declared.block.Operation.TheVariants.{ReadGlobal, Writ
 use Rattle.block_ir.specs.declared.block.Block.{Block}
 use Rattle.block_ir.specs.declared.code.ThreadCode.{ThreadCode}
 use Rattle.block_ir.specs.declared.plan.BlockPlan.{BlockPlan}
-use Rattle.planned_block.specs.Block.{Operand as PlannedOperand, Operation as PlannedOperation, Through, operand_value, operation_at, size, Uses, UsesIn}
+use Rattle.planned_block.specs.Block.{Operand as PlannedOperand, Through, operand_value, operation_at, size, Uses, UsesIn}
 use Rattle.planned_block.specs.Plan.{last_state}
 use Rattle.planned_block.specs.Slot.{Slot, is_request, value_now, register_value}
 use Rattle.planned_block.proofs.Bits.{other_is}
 use Rattle.thread_promise.proofs.Waiting.{request_is_slow}
-use Rattle.thread_promise.specs.View.{source_view, converted_to, operand_view, operation_view, planned_view, plan_view}
+use Rattle.thread_promise.specs.View.{source_view, converted_to, operand_view, planned_view, plan_view}
 use Rattle.netlist.specs.declared.netlist.Module.{Module}
 use Rattle.verilog_meaning.specs.Readings.{Reading}
 use Rattle.thread_promise.specs.Types.{source_type, last_type, value_type, IsTypedSource, IsTypedOperand}
 use Rattle.block_datapath.specs.declared.registers.Registers.{Registers}
 use Rattle.block_datapath.specs.Operations.{seen_value, SeesSlot}
 use Rattle.block_datapath.specs.Accesses.{IsAskRight}
-use Rattle.block_datapath.proofs.Walking.{uses_source, listed_view, within_view}
+use Rattle.block_datapath.proofs.Walking.{uses_source, within_view, requested, uses_left}
 
 module _ (variables given : ℕ → ℤ) where
   converted_typed : (types : List IntegerType) (ty : IntegerType) (o : PlannedOperand) → HasType ty (operand_value variables given o)
@@ -69,22 +69,16 @@ module _ (globals : List IntegerType) (code : ThreadCode) (registers : Registers
           (source_typed i.source typed (λ j ty e. uses j (uses_source i j ty e))),
     )
 
-  requested : (n : ℕ) (o : Operation) → slice_get b.operations n ≡ Some o → is_request (operation_view o).kind ≡ true → is_request (operation_at (planned_view b) n).kind ≡ true
-  requested n o listed e = ap (λ (z : PlannedOperation). is_request z.kind) (listed_view b.operations n o listed) ∙ e
-
-  uses_left : (n : ℕ) (o : Operation) (j : ℕ) → slice_get b.operations n ≡ Some o → UsesIn (operation_view o).left j → Uses (operation_at (planned_view b) n) j
-  uses_left n o j listed u = subst (λ (z : PlannedOperation). Uses z j) (sym (listed_view b.operations n o listed)) (inl u)
-
   -- THE INDEX of a read, and of a write
   pub index_typed : (k x n : ℕ) (i : Operand) → slice_get b.operations k ≡ Some (ReadGlobal x n i) → slice_index p.starts k ≡ q.state →
       (ty : IntegerType) × HasType ty (seen_value q.variables given i)
   index_typed k x n i listed at =
-      operand_typed k (within_view b.operations k (ReadGlobal x n i) listed) (requested k (ReadGlobal x n i) listed refl) at i
+      operand_typed k (within_view b.operations k (ReadGlobal x n i) listed) (requested b k (ReadGlobal x n i) listed refl) at i
       (right.typed.operations k (ReadGlobal x n i) listed).0
-      (λ j u. uses_left k (ReadGlobal x n i) j listed u)
+      (λ j u. uses_left b k (ReadGlobal x n i) j listed u)
 
   pub target_typed : (k x n : ℕ) (i a : Operand) → slice_get b.operations k ≡ Some (WriteGlobal x n i a) → slice_index p.starts k ≡ q.state → (ty : IntegerType)
       × HasType ty (seen_value q.variables given i)
   target_typed k x n i a listed at =
-      operand_typed k (within_view b.operations k (WriteGlobal x n i a) listed) (requested k (WriteGlobal x n i a) listed refl) at i
-      (right.typed.operations k (WriteGlobal x n i a) listed).0 (λ j u. uses_left k (WriteGlobal x n i a) j listed u)
+      operand_typed k (within_view b.operations k (WriteGlobal x n i a) listed) (requested b k (WriteGlobal x n i a) listed refl) at i
+      (right.typed.operations k (WriteGlobal x n i a) listed).0 (λ j u. uses_left b k (WriteGlobal x n i a) j listed u)

@@ -1,11 +1,10 @@
 -- The end of a block: lemmas of what variables get, and of the stage that follows.
-use Rattle.std.proofs.Common.{◌≡◌, ◌≢◌, ℕ, ◌+◌, ◌<◌, Bool, true, false, not, ◌&&◌, nat_eq, if◌then◌else◌, List, [], ◌∷◌, ◌++◌, length, slice_get, Option, Some}
+use Rattle.std.proofs.Common.{◌≡◌, ◌≢◌, ℕ, ◌+◌, ◌<◌, Bool, not, ◌&&◌, nat_eq, if◌then◌else◌, List, [], ◌∷◌, ◌++◌, length, slice_get, Option, Some}
 use Rattle.std.proofs.Common.{refl, sym, ap, subst, ◌∙◌, arith, ⊎_elim, add-one, length-append, min}
 use Rattle.std.specs.Prelude.{Result, IfOk}
 use Rattle.std.proofs.lemmas.Bool.{cases_eq}
 use Rattle.lists.proofs.Places.{get_last, get_front}
 use Rattle.netlist.specs.declared.netlist.Signal.{Signal}
-use Rattle.hls_ints.specs.Residues.{bit_of}
 use Rattle.hls_ints.specs.Types.{IntegerType, wrapped}
 use Rattle.hls_ints.specs.Operators.{is_zero}
 use Rattle.block_ir.specs.declared.operand.Operand.{Operand}
@@ -18,6 +17,7 @@ use Rattle.operator_wires.specs.Gives.{Grows, Gives}
 use Rattle.operator_wires.specs.Words.{IsWord, Becomes, TestsZero}
 use Rattle.operator_wires.proofs.Giving.{grows_refl, grows_then}
 use Rattle.operator_wires.proofs.Making.{of_ok}
+use Rattle.operator_wires.proofs.Bits.{chosen_by, set_bit}
 use Rattle.block_datapath.specs.declared.registers.Registers.{Registers}
 use Rattle.block_datapath.specs.declared.operands.Given.{Given}
 use Rattle.block_datapath.specs.declared.ending.Finish.{Finish}
@@ -27,7 +27,6 @@ use Rattle.block_datapath.specs.Operations.{seen_value}
 use Rattle.block_datapath.specs.Chains.{next_number, is_set, SetsNext}
 use Rattle.block_datapath.specs.Ending.{BecomesOwn, IsFinal, ShowsFinal, ShowsFinals, ShowsNext, finishes_in, finish_number, SetsFirst}
 use Rattle.block_datapath.proofs.Seeing.{own_word}
-use Rattle.block_datapath.proofs.Chaining.{set_bit}
 
 -- ---- words of variables
 
@@ -124,10 +123,6 @@ sets_more a b c last before middle after finishes n f t listed u = record {
 
 -- ---- the stage that follows
 
-chosen_stage : (t : Bool) (y n : ℕ) → (if nat_eq (bit_of t) 0 then n else y) ≡ (if t then y else n)
-chosen_stage true y n = refl
-chosen_stage false y n = refl
-
 pub branch_shown : {E : Type 0} (x : Result ℕ E) (registers : Registers) (code : ThreadCode) (values : List Given) (state : ℕ) (a b c d e f : List Signal) (test : Operand)
     (nonzero otherwise : ℕ)
     (word : Word) (bit yes_place no_place : ℕ) (types : List IntegerType) → types ≡ code.variables → ShowsOperand a b registers types values state test word →
@@ -150,7 +145,7 @@ branch_shown x registers code values state a b c d e f test nonzero otherwise wo
           let told = u.shows m r (operand_type test) (seen_value variables given test) gc o (t.shows m r variables given gb o source) in
           last.shows m r g o
           ∙ ap (λ z. if nat_eq z 0 then r.signal no_place else r.signal yes_place) told
-          ∙ chosen_stage (is_zero (seen_value variables given test)) (r.signal yes_place) (r.signal no_place)
+          ∙ chosen_by (is_zero (seen_value variables given test)) (r.signal yes_place) (r.signal no_place)
           ∙ ap (λ z. if is_zero (seen_value variables given test) then z else r.signal no_place) (w.shows m r ge o)
           ∙ ap (λ z. if is_zero (seen_value variables given test) then min otherwise (length code.stages) else z) (v.shows m r gd o);
     }) made

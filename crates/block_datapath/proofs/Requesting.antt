@@ -25,13 +25,14 @@ use Rattle.block_datapath.specs.declared.registers.Held.{Held}
 use Rattle.block_datapath.specs.Wired.{IsLinked}
 use Rattle.block_datapath.proofs.Linking.{chains_after}
 use Rattle.operator_wires.proofs.Making.{of_ok}
+use Rattle.operator_wires.proofs.Bits.{and_bits, set_bit}
 use Rattle.block_datapath.specs.declared.requests.BankRequests.{BankRequests}
 use Rattle.block_datapath.specs.declared.requests.BankAccess.{BankAccess}
 use Rattle.block_datapath.specs.Chains.{next_number, is_set, SetsNext}
 use Rattle.thread_promise.specs.Globals.{IsSmallPower}
 use Rattle.block_datapath.specs.Requests.{TellsBank, AddressesBank, Asked, asked_at, asked_by}
 use Rattle.block_datapath.specs.Requests.{AreAsMany, AsksOne, AsksSome, AsksBank, AreBankChains, StandsAccess, IsAskAdded, AreAsksAdded}
-use Rattle.block_datapath.proofs.Chaining.{equal_small, and_bits, set_bit}
+use Rattle.block_datapath.proofs.Chaining.{equal_small}
 
 -- ---- numbers
 

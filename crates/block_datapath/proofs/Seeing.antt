@@ -117,7 +117,7 @@ converted_more : (types : List IntegerType) (t : IntegerType) (o : PlannedOperan
 converted_more [] t o = refl
 converted_more (s ∷ types) t o = converted_more types t (Through (wrapped s) o)
 
-last_more : (types : List IntegerType) (t from : IntegerType) → last_type from (types ++ t ∷ []) ≡ t
+pub last_more : (types : List IntegerType) (t from : IntegerType) → last_type from (types ++ t ∷ []) ≡ t
 last_more [] t from = refl
 last_more (s ∷ types) t from = last_more types t s
 

@@ -1,5 +1,5 @@
 -- The values of a block's operations, one after the other: each shows the planned block's wire in the operation's last state.
-use Rattle.std.proofs.Common.{◌≡◌, ◌≢◌, ℕ, zero, suc, ◌+◌, ◌<◌, ◌≤◌, Bool, if◌then◌else◌, List, [], ◌∷◌, ◌++◌, length, slice_get, slice_index, Option}
+use Rattle.std.proofs.Common.{◌≡◌, ◌≢◌, ℕ, zero, suc, ◌+◌, ◌<◌, ◌≤◌, Bool, true, if◌then◌else◌, List, [], ◌∷◌, ◌++◌, length, slice_get, slice_index, Option}
 use Rattle.std.proofs.Common.{Some, ℤ, refl, sym, ap, subst, ◌∙◌, arith, inl, inr, ⊎_elim, length-append, get_or}
 use Rattle.std.specs.Prelude.{slice_index_or}
 use Rattle.std.proofs.lemmas.Option.{slice_get-get_or}
@@ -22,7 +22,7 @@ use Rattle.block_ir.specs.declared.code.ThreadCode.{ThreadCode}
 use Rattle.block_ir.specs.declared.plan.BlockPlan.{BlockPlan}
 use Rattle.planned_block.specs.Block.{Operand as PlannedOperand, Through, Operation as PlannedOperation, UsesIn, Uses, operation_at, size, no_operation}
 use Rattle.planned_block.specs.Plan.{last_state, further_states}
-use Rattle.planned_block.specs.Slot.{Slot, value_now, operand_now, register_value, result_of}
+use Rattle.planned_block.specs.Slot.{Slot, is_request, value_now, operand_now, register_value, result_of}
 use Rattle.planned_block.proofs.Bits.{same_is, other_is}
 use Rattle.thread_promise.specs.View.{source_view, operand_view, operation_view, operations_view, converted_to, binary_kind, planned_view, plan_view}
 use Rattle.operator_wires.specs.Modules.{Obeys}
@@ -56,6 +56,21 @@ uses_converted (t ∷ types) o j u = uses_converted types (Through (wrapped t) o
 
 pub uses_source : (o : Operand) (j : ℕ) (ty : IntegerType) → o.source ≡ Value j ty → UsesIn (operand_view o) j
 uses_source o j ty e = uses_converted o.conversions (source_view o.source) j (subst (λ (s : Source). UsesIn (source_view s) j) (sym e) refl)
+
+-- an operation of a block has a request where its view has one, and uses what its left operand uses
+pub requested : (b : Block) (n : ℕ) (o : Operation) → slice_get b.operations n ≡ Some o → is_request (operation_view o).kind ≡ true → is_request (operation_at (planned_view b) n).kind ≡ true
+requested b n o listed e = ap (λ (z : PlannedOperation). is_request z.kind) (listed_view b.operations n o listed) ∙ e
+
+pub uses_left : (b : Block) (n : ℕ) (o : Operation) (j : ℕ) → slice_get b.operations n ≡ Some o → UsesIn (operation_view o).left j → Uses (operation_at (planned_view b) n) j
+uses_left b n o j listed u = subst (λ (z : PlannedOperation). Uses z j) (sym (listed_view b.operations n o listed)) (inl u)
+
+-- past its last state a value stands in its register
+pub register_later : (b : Block) (p : BlockPlan) (q : Slot) (wire : ℕ → ℤ) (j x : ℕ) → last_state (planned_view b) (plan_view b p) j < q.state → (plan_view b p).register j ≡ Some x →
+    value_now (planned_view b) (plan_view b p) q wire j ≡ q.registers x
+register_later b p q wire j x less e =
+    ap (λ (c : Bool). if c then wire j else register_value q.registers ((plan_view b p).register j))
+    (other_is (last_state (planned_view b) (plan_view b p) j) q.state (λ same. absurd (omega arith)))
+    ∙ ap (register_value q.registers) e
 
 binary_gives : (bank : Location → ℕ) (o : BinaryOperator) (f : ℤ → ℤ → ℤ) (words : ℕ → ℤ) (arrays : Memory ℤ) (l r : ℤ) → result_of bank (binary_kind o f) words arrays l r ≡ f l r
 binary_gives bank operator.Multiply f words arrays l r = refl

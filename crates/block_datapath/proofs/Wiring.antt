@@ -1,5 +1,5 @@
 -- Wires of operands, operations and chains: lemmas of each function that adds some.
-use Rattle.std.proofs.Common.{◌≡◌, ℕ, zero, suc, ◌<◌, ◌≤◌, ◌^◌, true, false, arith, List, [], ◌∷◌, ◌++◌, length, slice_get, Option, Some, None, refl, sym, ap, subst, ◌∙◌}
+use Rattle.std.proofs.Common.{◌≡◌, ℕ, zero, suc, ◌<◌, ◌≤◌, ◌^◌, true, false, arith, List, [], ◌∷◌, ◌++◌, length, slice_get, Option, Some, None, sym, ap, subst, ◌∙◌}
 use Rattle.std.specs.Prelude.{Result, IfOk}
 use Rattle.std.proofs.lemmas.Nat.{pow_pos}
 use Rattle.netlist.specs.declared.netlist.Signal.{Signal}
@@ -17,7 +17,7 @@ use Rattle.operator_wires.specs.Gives.{Grows}
 use Rattle.operator_wires.specs.Built.{Base, IsEarlier, Adds, StandsAs, AddsWord}
 use Rattle.operator_wires.specs.Added.{IsAdded, ConstantAdds, ResizedAdds, IsConstant, IsConverted, IsOfTwo, LikeOne}
 use Rattle.operator_wires.proofs.Building.{stands_after, room_of, wires_none, wires_then}
-use Rattle.operator_wires.proofs.Wording.{at_least, at_most, own, word_of, word_none, word_after}
+use Rattle.operator_wires.proofs.Wording.{at_least, at_most, own, word_of, word_none, word_after, word_like}
 use Rattle.operator_wires.proofs.Making.{of_ok}
 use Rattle.thread_promise.specs.Types.{source_type, last_type, operand_type, value_type, element_type}
 use Rattle.block_datapath.specs.declared.registers.Held.{Held}
@@ -28,6 +28,7 @@ use Rattle.block_datapath.specs.Wired.{AreRegisters, AreValues, AreSources, IsSo
 use Rattle.block_datapath.specs.Wired.{IsOperationWord, IsElementWord, IsAddress, AreGiven}
 use Rattle.block_datapath.specs.Units.{unit_place}
 use Rattle.block_datapath.proofs.Sharing.{listed_at, result_own, wide_as}
+use Rattle.block_datapath.proofs.Seeing.{last_more}
 
 -- ---- what stands goes on standing
 
@@ -137,38 +138,29 @@ pub zero_wired : {E : Type 0} (x : Result Word E) (a b : List Signal) (registers
     IfOk x (IsGivenWord a b registers given)
 zero_wired x a b registers given made = of_ok x (LikeOne a b given.word) (IsGivenWord a b registers given) (λ out t base types ty is stands. t base ty stands) made
 
-like : (base : Base) (a b : List Signal) (ty : IntegerType) (word out : Word) (place : ℕ) → StandsAs a base ty word → Adds base a b word.width place → out.place ≡ place
-    → out.width ≡ word.width → out.signed ≡ word.signed → AddsWord base a b ty out
-like base a b ty word out place is t at wide sign =
-    word_of base a b ty place out (subst (λ n. Adds base a b n place) is.says t) at (wide ∙ is.says) (sign ∙ is.sign)
-
 pub narrow_wired : (a b : List Signal) (held : Held) (word out : Word) (place : ℕ) → ResizedAdds a b held.register held.width word.width false place → out.place ≡ place
     → out.width ≡ word.width → out.signed ≡ word.signed → IsNarrow a b held word out
 narrow_wired a b held word out place t at wide sign base ty e is =
     let w = own base a ty word is in
-    like base a b ty word out place is (t base e w.low w.high (λ (no : false ≡ true). absurd cc)) at wide sign
+    word_like base a b ty word out place is (t base e w.low w.high (λ (no : false ≡ true). absurd cc)) at wide sign
 
 pub zero_like_wired : (a b : List Signal) (word out : Word) (place : ℕ) → ConstantAdds a b word.width 0 place → out.place ≡ place → out.width ≡ word.width →
     out.signed ≡ word.signed
     → LikeOne a b word out
 zero_like_wired a b word out place t at wide sign base ty is =
     let w = own base a ty word is in
-    like base a b ty word out place is (t base (room_of a base word.place word.width w) w.low w.high (pow_pos word.width)) at wide sign
+    word_like base a b ty word out place is (t base (room_of a base word.place word.width w) w.low w.high (pow_pos word.width)) at wide sign
 
 -- ---- conversions
 
 pub converted_none : (a : List Signal) (word : Word) → AreConverted a a word [] word
 converted_none a word base from is = word_none base a from word is
 
-last_is : (types : List IntegerType) (t from : IntegerType) → last_type from (types ++ t ∷ []) ≡ t
-last_is [] t from = refl
-last_is (s ∷ types) t from = last_is types t s
-
 pub converted_more : (a b c : List Signal) (word middle out : Word) (types : List IntegerType) (t : IntegerType) → AreConverted a b word types middle → IsConverted b c middle t out
     → AreConverted a c word (types ++ t ∷ []) out
 converted_more a b c word middle out types t u v base from is =
     let first = u base from is in
-    subst (λ (k : IntegerType). AddsWord base a c k out) (sym (last_is types t from)) (word_after base a b c t out first.wires (v base (last_type from types) first.word))
+    subst (λ (k : IntegerType). AddsWord base a c k out) (sym (last_more types t from)) (word_after base a b c t out first.wires (v base (last_type from types) first.word))
 
 pub operand_wired : {E : Type 0} (x : Result Word E) (a b c : List Signal) (types : List IntegerType) (registers : Registers) (values : List Given) (operand : Operand)
     (word : Word)

@@ -1,6 +1,6 @@
 // The registers of a slot, and what they hold next if the state is left.
 
-ghost use Rattle.std.specs.Prelude.{OnOk};
+ghost use Rattle.std.specs.Prelude.{◌≡◌, slice_index, OnOk};
 ghost use Rattle.block_datapath.specs.Wired.{IsLinked};
 ghost use Rattle.block_datapath.specs.Chains.{SetsNext};
 
@@ -45,6 +45,13 @@ pub struct Registers {
     pub spreads: Items<Spread>,
     /// The results of the functional units.
     pub units: Items<UnitResults>,
+}
+
+/// The place of a number, or 0.
+pub fn place_at(places: &[usize], number: usize) -> usize
+    ensures { result ≡ slice_index places.now number }
+{
+    places.get(number).copied().unwrap_or(0)
 }
 
 /// Where a condition holds the register of that number, if there is one, gets what another signal of its width shows,

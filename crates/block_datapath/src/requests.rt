@@ -61,7 +61,8 @@ impl BankRequests {
     }
 }
 
-fn equal_widths(alloc: Global, count: usize, width: u64) -> Result<Items<u64>, AllocError>
+/// So many equal widths.
+pub fn equal_widths(alloc: Global, count: usize, width: u64) -> Result<Items<u64>, AllocError>
     ensures { IfOk result (λ widths. widths ≡ replicate count width) }
 {
     Ok(Items::from_vec(vec![in alloc; width; count]?))

@@ -80,7 +80,7 @@ fn unit_place(
 fn serves(results: &UnitResults, operator: BinaryOperator, ty: CType) -> bool
     ensures { result ≡ is_for operator ty results.now }
 {
-    is_same(results.operator, operator) && is_type(results.ty, unit_type(operator, ty))
+    same_operator(results.operator, operator) && is_type(results.ty, unit_type(operator, ty))
 }
 
 fn is_type(left: CType, right: CType) -> bool
@@ -89,7 +89,8 @@ fn is_type(left: CType, right: CType) -> bool
     left.bits() == right.bits() && left.is_signed() == right.is_signed()
 }
 
-fn is_same(left: BinaryOperator, right: BinaryOperator) -> bool
+/// Whether the operators are the same, and one that has units.
+pub fn same_operator(left: BinaryOperator, right: BinaryOperator) -> bool
     ensures { result ≡ same_operator left right }
 {
     match (left, right) {

@@ -32,7 +32,7 @@ use Rattle.thread_layout.specs.Thread.{numbers_of, cores_of, is_core, IsServed}
 use Rattle.thread_layout.proofs.Cores.{HasKind, kind_there}
 use Rattle.thread_layout.proofs.Losing.{found_not_lost, lost_there}
 use Rattle.thread_layout.proofs.Placed.{from_rest}
-use Rattle.thread_layout.proofs.Quiet.{target}
+use Rattle.thread_layout.proofs.Quiet.{target, service_kept}
 use Rattle.thread_layout.proofs.Shown.{Shows}
 use Rattle.thread_layout.proofs.Sight.{shown_last, waits_last, does, still, knows, stage_shown, enabled}
 use Rattle.fsm_datapath.proofs.Leaving.{IsTarget, act_leave, act_moved}
@@ -70,12 +70,6 @@ call_fits served main (act.BarrierDestroy barrier) call e prints =
     let same : call_of Barriers 2 (barrier ∷ []) ≡ call = cc in subst (Fits served) same (record { number = omega arith; values = omega arith })
 call_fits served true act.Return call e prints = absurd cc
 call_fits served false act.Return call e prints = let same : call_of Ids 2 [] ≡ call = cc in subst (Fits served) same (record { number = omega arith; values = omega arith })
-
-service_kept : (s : Service) (number : ℕ) (ws : List ℕ) → (asked_with s number ws).service ≡ s
-service_kept Mutexes number ws = refl
-service_kept Barriers number ws = refl
-service_kept Ids number ws = refl
-service_kept Prints number ws = refl
 
 number_kept : (s : Service) (number : ℕ) (ws : List ℕ) → (asked_with s number ws).number ≡ number
 number_kept Mutexes number ws = refl

@@ -24,10 +24,7 @@ use Rattle.thread_layout.proofs.Placed.{from_control, opens_count}
 use Rattle.thread_layout.proofs.Quiet.{bank_bit, service_bit, asks_kind, target, raises}
 use Rattle.thread_layout.proofs.Shown.{Shows}
 use Rattle.thread_layout.proofs.Sight.{heard, steered}
-
-none_pass : (f : ℕ → Bool) (n : ℕ) → ((k : ℕ) → k < n → f k ≡ false) → any_below f n ≡ false
-none_pass f zero none = refl
-none_pass f (suc n) none = ap (λ t. t || f n) (none_pass f n (λ k less. none k (omega arith))) ∙ none n (omega arith)
+use Rattle.thread_layout.proofs.Needed.{none_below}
 
 -- tests of which only one may pass
 pub only_one : (f : ℕ → Bool) (n c : ℕ) → c < n → ((k : ℕ) → k < n → k ≢ c → f k ≡ false) → any_below f n ≡ f c
@@ -35,7 +32,7 @@ only_one f zero c less none = absurd (omega arith)
 only_one f (suc n) c less none =
     ⊎_elim
     (λ (same : n ≡ c).
-    ap (λ t. t || f n) (none_pass f n (λ k below. none k (omega arith) (λ is. absurd (omega arith)))) ∙ ap f same)
+    ap (λ t. t || f n) (none_below f n (λ k below. none k (omega arith) (λ is. absurd (omega arith)))) ∙ ap f same)
     (λ (ne : n ≢ c). ap (λ t. any_below f n || t) (none n (omega arith) ne) ∙ or-false (any_below f n) ∙ only_one f n c (omega arith) (λ k below. none k (omega arith)))
     (cases_eq n c)
 
@@ -105,7 +102,7 @@ module _ (shape : Shape) (code : ThreadCode) (plan : Planned) (m : Module) (t : 
     missing_of : (c : Option ℕ) → IsTarget r c a g → ((n : ℕ) → n < cores_of shape → raised n ≡ is_core c n)
         → any_below (unmet raised grants e) (cores_of shape) ≡ (a && not ((a && e) && g))
     missing_of None is raised_so =
-        none_pass (unmet raised grants e) (cores_of shape) (λ k less. no_unmet (raised k) e (grants k) (raised_so k less)) ∙ ap (λ z. z && not ((z && e) && g)) (sym is)
+        none_below (unmet raised grants e) (cores_of shape) (λ k less. no_unmet (raised k) e (grants k) (raised_so k less)) ∙ ap (λ z. z && not ((z && e) && g)) (sym is)
     missing_of (Some c) is raised_so =
         let less = is.2 in
         only_one (unmet raised grants e) (cores_of shape) c less
@@ -116,7 +113,7 @@ module _ (shape : Shape) (code : ThreadCode) (plan : Planned) (m : Module) (t : 
     winning_of : (c : Option ℕ) → IsTarget r c a g → ((n : ℕ) → n < cores_of shape → raised n ≡ is_core c n)
         → any_below (got raised grants e) (cores_of shape) ≡ ((a && e) && g)
     winning_of None is raised_so =
-        none_pass (got raised grants e) (cores_of shape) (λ k less. no_got (raised k) e (grants k) (raised_so k less)) ∙ ap (λ z. (z && e) && g) (sym is)
+        none_below (got raised grants e) (cores_of shape) (λ k less. no_got (raised k) e (grants k) (raised_so k less)) ∙ ap (λ z. (z && e) && g) (sym is)
     winning_of (Some c) is raised_so =
         let less = is.2 in
         only_one (got raised grants e) (cores_of shape) c less

@@ -1,18 +1,16 @@
 -- What a thread's module does at an act and past the last stage.
 use Rattle.std.proofs.Common.{◌≡◌, ℕ, zero, suc, ◌+◌, ◌-◌, ◌%◌, ◌<◌, ◌≤◌, ◌^◌, Bool, true, false, not, ◌&&◌, ◌||◌, nat_eq, nat_lt, if◌then◌else◌, List, length, map}
-use Rattle.std.proofs.Common.{slice_get, Option, Some, None, ℤ, pos, refl, sym, ap, subst, ◌∙◌, arith, min}
+use Rattle.std.proofs.Common.{slice_get, Option, Some, None, pos, refl, sym, ap, subst, ◌∙◌, arith}
 use Rattle.std.proofs.Math.Nat.{mod-eq_of_lt}
 use Rattle.std.proofs.lemmas.Option.{slice_get_within, get_or_from_slice_get}
-use Rattle.std.proofs.lemmas.Bool.{eq-eqb}
 use Rattle.std.proofs.Math.Bool.{and-false}
 use Rattle.lists.proofs.Places.{get_there}
 use Rattle.interleaving.specs.Memory.{Location}
 use Rattle.hls_ints.specs.Residues.{residue_of, bit_of}
 use Rattle.hls_ints.specs.Types.{IntegerType, HasType, width_of}
 use Rattle.block_ir.specs.declared.code.ActOperand.{ActOperand}
-use Rattle.block_ir.specs.declared.code.ActOperand.TheVariants.{Constant, Variable}
 use Rattle.block_ir.specs.declared.code.Act.{Act}
-use Rattle.block_ir.specs.declared.code.Act.TheVariants.{Print, Return}
+use Rattle.block_ir.specs.declared.code.Act.TheVariants.{Return}
 use Rattle.block_ir.specs.declared.code.Array.{Array}
 use Rattle.block_ir.specs.declared.code.Stage.{Stage}
 use Rattle.block_ir.specs.declared.code.Stage.TheVariants as stage
@@ -25,38 +23,33 @@ use Rattle.circuit.specs.Modules.{Obeys}
 use Rattle.operator_wires.specs.Words.{resized_word}
 use Rattle.thread_promise.specs.Globals.{bank_total}
 use Rattle.thread_promise.specs.Slots.{element_at, ShowsData}
-use Rattle.thread_promise.specs.Promise.{operand_of_act, is_run, went_on}
+use Rattle.thread_promise.specs.Promise.{is_run, went_on}
 use Rattle.block_datapath.specs.Chains.{next_number}
 use Rattle.thread_slots.specs.declared.shape.Shape.{Shape}
 use Rattle.thread_slots.specs.declared.stores.Store.{Store}
 use Rattle.thread_slots.specs.Cells.{store_action, AreOff}
-use Rattle.block_ir.specs.Asked.{act_value, Service, Prints, Request as Call, request_of, printer_core}
+use Rattle.block_ir.specs.Asked.{act_value, Service, Request as Call, request_of}
 use Rattle.thread_promise.specs.Moves.{asked_in, core_asked}
 use Rattle.thread_slots.specs.Requests.{group}
 use Rattle.thread_slots.specs.Services.{service_of, number_width, value_count}
 use Rattle.thread_layout.specs.Fields.{IsTypedActOperand}
-use Rattle.thread_layout.specs.Asking.{call_of, values_of}
+use Rattle.thread_layout.specs.Asking.{values_of}
 use Rattle.thread_slots.specs.Wired.{field_width}
 use Rattle.thread_layout.specs.Acts.{LeavesFor}
 use Rattle.thread_layout.specs.Modules.{IsModule}
-use Rattle.thread_layout.specs.Thread.{numbers_of, cores_of, inputs_of, is_core, places_of, port_at, done_at, IsPrintable, IsServed}
-use Rattle.fsm_datapath.proofs.Leaving.{IsTarget, act_leave, act_moved}
-use Rattle.fsm_datapath.proofs.Unasked.{asked_as}
-use Rattle.thread_layout.proofs.Cores.{HasKind, kind_there}
+use Rattle.thread_layout.specs.Thread.{numbers_of, inputs_of, places_of, port_at, done_at, IsServed}
+use Rattle.fsm_datapath.proofs.Leaving.{act_leave, act_moved}
+use Rattle.thread_layout.proofs.Cores.{HasKind}
 use Rattle.thread_layout.proofs.Placed.{stands_copies, from_inside, from_rest, fields_count, field_stands, done_stands}
 use Rattle.thread_slots.proofs.Putting.{off_stores}
 use Rattle.thread_layout.proofs.Raising.{from_whole}
 use Rattle.thread_layout.proofs.Acting.{leaves_later}
-use Rattle.thread_layout.proofs.Losing.{found_not_lost, unasked_not_lost}
+use Rattle.thread_layout.proofs.Losing.{unasked_not_lost}
 use Rattle.thread_layout.proofs.Quiet.{ask_now, target, called}
 use Rattle.thread_layout.proofs.Resting.{agrees_off, left_moves, marks_left}
 use Rattle.thread_layout.proofs.Shown.{keeps_so}
 use Rattle.thread_layout.proofs.Sight.{shown_last, waits_last, stored, all_stored, next_words, does, still, knows, stage_shown, sees_variables, enabled, next_stage, next_state, next_beat}
 use Rattle.thread_layout.proofs.Sight.{next_variable, next_mark}
-
-same_operand : (variables : ℕ → ℤ) (v : ActOperand) → act_value variables v ≡ operand_of_act variables v
-same_operand variables (Constant ty n) = refl
-same_operand variables (Variable x ty) = refl
 
 -- a number fits its port
 cut : (w n : ℕ) → n < 2 ^ w → n % 2 ^ (w - 1 + 1) ≡ n
@@ -191,78 +184,6 @@ module _ (shape : Shape) (code : ThreadCode) (plan : Planned) (m : Module) (t : 
         let less : suc j < suc (value_count shape.served call.service) = omega arith in
         field_is call.service k own r (suc j) o less
         ∙ (called shape code plan m t served r q o shows a next call listed is_call).values_are j v there typed (subst (λ (n : ℕ). suc j < n) (sym start_fields) less)
-
-  -- a printf
-  module _ (r : Reading) (q : Slot) (site next : ℕ) (values : List ActOperand) (o : Obeys m r) (shows : Shows r q)
-      (listed : slice_get code.stages q.stage ≡ Some (stage.Act (Print site values) next)) where
-    can : IsPrintable code shape.served.printer site values next
-    can = served.prints q.stage site next values listed
-
-    abbrev printer : ℕ
-    printer = printer_core (numbers_of shape)
-
-    own : HasKind banks shape.served Prints printer
-    own = kind_there banks shape.served Prints 0 printer refl
-
-    leaves : LeavesFor (min next (length code.stages)) false r t.laid.start t.inside.chains
-    leaves =
-        leaves_later (min next (length code.stages)) false r t.laid.start t.laid.rested t.inside.chains
-        (shown_last shape code plan m t served r o
-        (found_not_lost shape code plan m t served r q o shows printer (ap (λ s. core_asked (numbers_of shape) (asked_in shape.is_main s q.variables)) listed)
-        (let z : banks ≤ printer = omega arith in z) (let z : printer < cores_of shape = omega arith in z)))
-        ((does shape code plan m t served q.stage (stage.Act (Print site values) next) listed).acts (Print site values) next refl m r
-        (from_rest shape code plan m t served) o (knows shape code plan m t served r o) (still shape code plan m t served r o)
-        (stage_shown shape code plan m t served r o q shows))
-
-    site_is : r.signal (port_at shape m printer 1) ≡ site
-    site_is = number_is r q (Print site values) next (call_of Prints site values) printer o shows listed refl own can.site_fits
-
-    values_are : (j : ℕ) (v : ActOperand) → slice_get values j ≡ Some v → r.signal (port_at shape m printer (suc (suc j)))
-        ≡ residue_of 64 (operand_of_act q.variables v)
-    values_are j v there =
-        let few = can.few in
-        let inside = slice_get_within values j v there in
-        value_is r q (Print site values) next (call_of Prints site values) printer o shows listed refl own j v there (can.typed j v there) (omega arith)
-        ∙ ap (residue_of 64) (same_operand q.variables v)
-
-    -- it is asked, and grants
-    aims : (g : Bool) → r.signal (2 + printer) ≡ bit_of g → IsTarget shape code plan m t served r (Some printer) true g
-    aims g e = (refl, (let z : banks ≤ printer = omega arith in z), (let z : printer < cores_of shape = omega arith in z), e)
-
-    asked_it : target shape code plan m t served r q o shows ≡ Some printer
-    asked_it = ap (λ s. core_asked (numbers_of shape) (asked_in shape.is_main s q.variables)) listed
-
-    not_so : is_run (slice_get code.stages q.stage) ≡ false
-    not_so = run_of r q (Print site values) next listed
-
-    goes_on : r.signal 1 ≡ 1 → r.signal (2 + printer) ≡ 1 → Shows (next_reading m r) (went_on next q)
-    goes_on on grant =
-        let le = can.leads in
-        let same : min next (length code.stages) ≡ next = omega arith in
-        let leave = act_leave shape code plan m t served r q o shows not_so false true true true (Some printer) asked_it (aims true grant) leaves.waits on in
-        subst (λ (n : ℕ). Shows (next_reading m r) (went_on n q)) same
-        (act_left r q (min next (length code.stages)) o shows (act_off r q (Print site values) next o shows listed) on leave leaves)
-
-    waits_on : r.signal (2 + printer) ≡ 0 → Shows (next_reading m r) q
-    waits_on none =
-        let e = enabled shape code plan m t served r o in
-        stays_off r q o shows
-        (act_leave shape code plan m t served r q o shows not_so false true e.0 false (Some printer) asked_it (aims false none) leaves.waits e.1 ∙ off_without_grant e.0)
-        (act_moved shape code plan m t served r q o shows not_so false true e.0 false (Some printer) asked_it (aims false none) leaves.waits e.1 ∙ off_moved e.0)
-
-    pub prints_so : (r.signal (port_at shape m printer 0) ≡ r.signal 1) × (r.signal (port_at shape m printer 1) ≡ site)
-        × ((j : ℕ) (v : ActOperand) → slice_get values j ≡ Some v → r.signal (port_at shape m printer (suc (suc j)))
-        ≡ residue_of 64 (operand_of_act q.variables v))
-        × (r.signal 1 ≡ 1 → r.signal (2 + printer) ≡ 1 → Shows (next_reading m r) (went_on next q)) × (r.signal (2 + printer) ≡ 0 → Shows (next_reading m r) q)
-    prints_so =
-        let e = enabled shape code plan m t served r o in (
-          asked_as shape code plan m t served r q printer o shows not_so (omega arith) e.0 e.1
-              ∙ ap (λ c. bit_of (is_core c printer && e.0)) asked_it ∙ ap (λ z. bit_of (z && e.0)) (eq-eqb printer printer refl) ∙ sym e.1,
-          site_is,
-          values_are,
-          goes_on,
-          waits_on,
-        )
 
   pub returns_so : shape.is_main ≡ true → (r : Reading) (q : Slot) (next : ℕ) → Obeys m r → Shows r q → slice_get code.stages q.stage ≡ Some (stage.Act Return next) → r.signal 1 ≡ 1
       → Shows (next_reading m r) (went_on (length code.stages) q)

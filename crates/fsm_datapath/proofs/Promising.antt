@@ -1,5 +1,5 @@
--- The module of a thread runs its code.
-use Rattle.std.proofs.Common.{◌≡◌, ◌≢◌, ℕ, suc, ◌+◌, ◌%◌, ◌<◌, ◌≤◌, ◌^◌, Bool, true, false, ◌||◌, nat_eq, if◌then◌else◌, List, length, map, Some, ℤ, pos, refl, sym, ap, subst, ◌∙◌}
+-- What a thread's module does in a state of a block: what the planned block says.
+use Rattle.std.proofs.Common.{◌≡◌, ◌≢◌, ℕ, suc, ◌+◌, ◌%◌, ◌<◌, ◌≤◌, ◌^◌, Bool, true, false, ◌||◌, nat_eq, if◌then◌else◌, List, length, map, ℤ, pos, refl, sym, ap, subst, ◌∙◌}
 use Rattle.std.proofs.Common.{arith}
 use Rattle.std.proofs.Math.Nat.{mod-eq_of_lt}
 use Rattle.std.proofs.lemmas.Option.{slice_get_within}
@@ -20,36 +20,36 @@ use Rattle.planned_block.specs.Slot.{Slot, operand_now, arrays_next, result_of, 
 use Rattle.planned_block.specs.Advance.{answered, is_ready, is_answered, wires, words_next, registers_next, left_for_next, state_left, advance}
 use Rattle.planned_block.proofs.Bits.{same_is}
 use Rattle.planned_block.proofs.Total.{wires_wired, registers_right}
+use Rattle.planned_block.proofs.Advancing.{any_tells}
 use Rattle.planned_view.specs.View.{planned_view, plan_view}
 use Rattle.netlist.specs.declared.netlist.Module.{Module}
-use Rattle.verilog_meaning.specs.Readings.{Reading, initial_reading, next_reading, word_after}
+use Rattle.verilog_meaning.specs.Readings.{Reading, next_reading, word_after}
 use Rattle.circuit.specs.Modules.{Obeys}
 use Rattle.thread_promise.specs.Globals.{bank_of}
 use Rattle.thread_promise.specs.Types.{value_type}
 use Rattle.thread_promise.specs.Slots.{element_at, IsAlive, ShowsData, ShowsInBlock}
-use Rattle.thread_promise.specs.Moves.{first_slot}
-use Rattle.thread_promise.specs.Promise.{is_run, IsInside, HearsBanks, RunsCode}
+use Rattle.thread_promise.specs.Promise.{is_run}
+use Rattle.thread_promise.specs.Serving.{IsInside, HearsBanks}
 use Rattle.block_datapath.specs.Leave.{IsInStage}
 use Rattle.block_datapath.specs.Operations.{SeesSlot, IsFed}
 use Rattle.thread_slots.specs.declared.shape.Shape.{Shape}
 use Rattle.thread_slots.specs.declared.stores.Store.{Store}
 use Rattle.thread_slots.specs.Cells.{store_action}
+use Rattle.thread_layout.specs.Leaf.{served_ports}
 use Rattle.thread_layout.specs.Modules.{IsModule}
 use Rattle.thread_layout.specs.Stages.{LeavesState}
-use Rattle.thread_layout.specs.Thread.{inputs_of, places_of, ports_of, IsServed}
+use Rattle.thread_layout.specs.Thread.{inputs_of, places_of, IsServed}
+use Rattle.thread_layout.proofs.Sight.{in_stage, shared_so, told_so, told_nothing}
+use Rattle.thread_layout.proofs.Sight.{shown_last, stored, all_stored, does, still, knows, stays_but, words_stay, next_beat, next_mark, next_kept, is_right, kept_of, has_widths, sees_slot}
 use Rattle.fsm_datapath.proofs.Cells.{cells, next_arrays}
 use Rattle.thread_layout.proofs.Losing.{block_not_lost}
-use Rattle.thread_layout.proofs.Meeting.{any_found}
 use Rattle.thread_layout.proofs.Moving.{block_leave, block_moved, block_mark}
 use Rattle.thread_layout.proofs.Needed.{need_wide, taken_needs}
 use Rattle.thread_layout.proofs.Placed.{wide_bit, from_rest, from_inside, beat_at, granted_at}
-use Rattle.fsm_datapath.proofs.Printing.{HoldsArrays, shows_next, prints_so, returns_so, ends_so, done_so}
-use Rattle.thread_layout.proofs.Requested.{indices, targets, printing, asks_so, asks_none_so}
-use Rattle.thread_layout.proofs.Resting.{agrees_off, rests_so}
-use Rattle.thread_layout.proofs.Shown.{starts_so, keeps_so, keeps_in_so, global_within}
-use Rattle.thread_layout.proofs.Sight.{shown_last, stored, all_stored, does, still, knows, stays_but, words_stay, next_beat, next_mark, next_kept, is_right, kept_of, has_widths, sees_slot}
-use Rattle.thread_layout.proofs.Sight.{in_stage, shared_so, told_so, told_nothing}
-use Rattle.fsm_datapath.proofs.Unasked.{asks_outside_so, quiet_so}
+use Rattle.fsm_datapath.proofs.Printing.{HoldsArrays, shows_next}
+use Rattle.thread_layout.proofs.Requested.{indices, targets, printing}
+use Rattle.thread_layout.proofs.Resting.{agrees_off}
+use Rattle.thread_layout.proofs.Shown.{keeps_in_so, global_within}
 
 module _ (shape : Shape) (code : ThreadCode) (plan : Planned) (m : Module) (t : IsModule shape code plan m) (served : IsServed shape code plan) where
   abbrev behind : ℕ
@@ -76,8 +76,8 @@ module _ (shape : Shape) (code : ThreadCode) (plan : Planned) (m : Module) (t : 
   -- ---- blocks
 
   module _ (memory : Memory ℤ) (grant : ℕ → Bool) (r : Reading) (q : Slot) (b : Block) (p : BlockPlan) (o : Obeys m r)
-      (inside : IsInside shape.globals shape.spreads code plan m (places_of (inputs_of shape) code plan) (ports_of shape m) r q b p)
-      (hears : HearsBanks shape.globals shape.spreads code plan m (places_of (inputs_of shape) code plan) (ports_of shape m) r q b p grant) (on : r.signal 1 ≡ 1) where
+      (inside : IsInside shape.globals shape.spreads code plan (places_of (inputs_of shape) code plan) r q b p)
+      (hears : HearsBanks shape.globals shape.spreads (served_ports shape m) r q b p grant) (on : r.signal 1 ≡ 1) where
     abbrev bank : Location → ℕ
     bank = bank_of shape.spreads
 
@@ -302,7 +302,7 @@ module _ (shape : Shape) (code : ThreadCode) (plan : Planned) (m : Module) (t : 
               typed_words = shows.typed_words;
               outside = shows.outside;
               none_granted = λ none x less.
-                  let k = any_found grants (size (planned_view b)) some in
+                  let k = any_tells grants (size (planned_view b)) some in
                   absurd (let clash : true ≡ false = sym (ap (λ z. q.granted k.0 || z) k.2 ∙ or-true (q.granted k.0)) ∙ none k.0 in cc);
             };
             alive = λ k n alive.
@@ -334,21 +334,3 @@ module _ (shape : Shape) (code : ThreadCode) (plan : Planned) (m : Module) (t : 
 
     pub moves_so : Goal (is_ready (planned_view b) (plan_view b p) q grant) (advance bank (planned_view b) (plan_view b p) q memory grant)
     moves_so = by_ready (is_ready (planned_view b) (plan_view b p) q grant) (is_answered (planned_view b) (plan_view b p) q grant) refl refl
-
-  -- THE PROMISE of main
-  pub runs_code : shape.is_main ≡ true → RunsCode shape.globals shape.spreads code plan m (places_of (inputs_of shape) code plan) (ports_of shape m)
-  runs_code main = record {
-    starts = subst (λ (b : Bool). Shows (initial_reading (Some m)) (first_slot b 0 (length code.stages))) main (starts_so shape code plan m t served 0);
-    keeps = keeps_so shape code plan m t served;
-    keeps_in_block = keeps_in_so shape code plan m t served;
-    rests = rests_so shape code plan m t served;
-    asks = asks_so shape code plan m t served;
-    asks_none = λ r q b p n o inside. asks_none_so shape code plan m t served r q b p o inside n;
-    asks_outside = asks_outside_so shape code plan m t served;
-    moves = moves_so;
-    prints = prints_so shape code plan m t served;
-    quiet = quiet_so shape code plan m t served;
-    returns = returns_so shape code plan m t served main;
-    ends = ends_so shape code plan m t served main;
-    done = done_so shape code plan m t served;
-  }

@@ -1,5 +1,5 @@
 -- Memories of the local arrays.
-use Rattle.std.proofs.Common.{◌≡◌, ℕ, zero, suc, ◌+◌, ◌<◌, ◌≤◌, ◌^◌, List, [], ◌∷◌, length, map, Some, refl, sym, ap, subst, ◌∙◌, arith}
+use Rattle.std.proofs.Common.{◌≡◌, ℕ, zero, suc, ◌+◌, ◌<◌, ◌≤◌, ◌^◌, List, [], ◌∷◌, length, Some, refl, sym, ap, subst, ◌∙◌, arith}
 use Rattle.std.specs.Prelude.{slice_get, replicate, codes}
 use Rattle.std.proofs.lemmas.List.{length-replicate}
 use Rattle.std.proofs.lemmas.Option.{slice_get_within}
@@ -10,15 +10,15 @@ use Rattle.netlist.specs.declared.netlist.Signal.{Signal}
 use Rattle.netlist.specs.declared.netlist.Memory.{Memory}
 use Rattle.netlist.specs.declared.netlist.Module.{Module}
 use Rattle.netlist.specs.Laid.{AreApart, memory_names}
-use Rattle.netlist.specs.NetlistOf.{Name}
 use Rattle.verilog_meaning.specs.Names.{numbered}
 use Rattle.circuit.specs.Rows.{EachOf}
 use Rattle.circuit.specs.Modules.{FitsMemory}
 use Rattle.module_sound.specs.Names.{place_of}
 use Rattle.module_sound.specs.Sounds.{IsRightMemory, AreRightMemories}
+use Rattle.module_sound.proofs.Sounding.{memory_at_name}
 use Rattle.operator_wires.proofs.Wording.{at_least, at_most}
-use Rattle.thread_layout.specs.Memories.{memory_for, memories_from}
 use Rattle.thread_slots.proofs.Digits.{digits_tell}
+use Rattle.thread_layout.specs.Memories.{memory_for, memories_from}
 
 -- ---- one memory for each array
 
@@ -36,11 +36,6 @@ array_tells n inputs j small = digits_tell j small
 zeros_fit : (w n : ℕ) → EachOf (λ k. k < 2 ^ w) (replicate n 0)
 zeros_fit w zero = tt
 zeros_fit w (suc n) = (pow_pos w, zeros_fit w n)
-
-named_at : (ms : List Memory) (i : ℕ) (x : Name) → slice_get (map (λ (c : Memory). c.name) ms) i ≡ Some x → (c : Memory) × (slice_get ms i ≡ Some c) × (c.name ≡ x)
-named_at [] i x e = absurd cc
-named_at (c ∷ ms) zero x e = let same : c.name ≡ x = cc in (c, refl, same)
-named_at (c ∷ ms) (suc i) x e = named_at ms i x e
 
 module _ (m : Module) (arrays : List Array) (are : m.memories ≡ memories_from 0 arrays) (few : length arrays ≤ 2 ^ 64)
     (some_words : (a : ℕ) (array : Array) → slice_get arrays a ≡ Some array → 1 ≤ array.length)
@@ -67,8 +62,8 @@ module _ (m : Module) (arrays : List Array) (are : m.memories ≡ memories_from 
 
   apart : AreApart (memory_names m)
   apart i j x e f =
-      let a = named_at m.memories i x e in
-      let b = named_at m.memories j x f in
+      let a = memory_at_name m.memories i x e in
+      let b = memory_at_name m.memories j x f in
       let p = memory_is i a.0 a.1 in
       let q = memory_is j b.0 b.1 in
       let i_few = slice_get_within arrays i p.0 p.1 in

@@ -16,6 +16,7 @@ use Rattle.block_ir.specs.declared.plan.Planned.{Planned}
 use Rattle.planned_block.specs.Slot.{Slot}
 use Rattle.planned_block.specs.Advance.{any_below}
 use Rattle.planned_block.specs.Closed.{IsClosed}
+use Rattle.planned_block.proofs.Advancing.{some_tells}
 use Rattle.planned_view.specs.View.{planned_view, plan_view}
 use Rattle.netlist.specs.declared.netlist.Source.{Source}
 use Rattle.netlist.specs.declared.netlist.Source.TheVariants.{Register}
@@ -33,7 +34,8 @@ use Rattle.operator_wires.specs.Built.{IsEarlier}
 use Rattle.operator_wires.proofs.Building.{within}
 use Rattle.operator_wires.proofs.Giving.{grows_then, listed}
 use Rattle.thread_promise.specs.Globals.{bank_total}
-use Rattle.thread_promise.specs.Promise.{IsInside, is_run}
+use Rattle.thread_promise.specs.Promise.{is_run}
+use Rattle.thread_promise.specs.Serving.{IsInside}
 use Rattle.block_datapath.specs.declared.registers.Held.{Held}
 use Rattle.block_datapath.specs.Requests.{Asked}
 use Rattle.thread_slots.specs.declared.shape.Shape.{Shape}
@@ -51,12 +53,14 @@ use Rattle.thread_promise.specs.Moves.{meeting}
 use Rattle.thread_slots.specs.Idle.{is_idle}
 use Rattle.thread_slots.specs.Numbers.{is_wait, numbers}
 use Rattle.thread_slots.proofs.Numbering.{number_is}
+use Rattle.thread_layout.proofs.Sight.{waits_last, still, knows, enabled, waiting, state_wide, enable_bit, next_beat, chains_bits, stage_shown}
+use Rattle.thread_layout.proofs.Remembering.{each_append}
 use Rattle.fsm_datapath.specs.Steady.{NeedsNoMore, IsBeat, IsSteadyServed}
-use Rattle.thread_layout.specs.Thread.{cores_of, inputs_of, port_at, need_at, done_at, places_of, ports_of, IsServed}
+use Rattle.thread_layout.specs.Thread.{cores_of, inputs_of, port_at, need_at, done_at, places_of, IsServed}
 use Rattle.fsm_datapath.proofs.Alike.{ActsAlike, wires_alike, wire_alike, next_alike, set_acts, sets_alike, stores_alike}
 use Rattle.thread_layout.proofs.Losing.{quiet_not_lost}
 use Rattle.thread_layout.proofs.Moving.{asker}
-use Rattle.thread_layout.proofs.Needed.{asked_now, asked_bank, asked_kind, service_off, unneeded_asks, idle_needs_so, meeting_needs, end_needs, return_needs, closed_needs, some_below, none_below}
+use Rattle.thread_layout.proofs.Needed.{asked_now, asked_bank, asked_kind, service_off, unneeded_asks, idle_needs_so, meeting_needs, end_needs, return_needs, closed_needs, none_below, bit_false}
 use Rattle.thread_layout.proofs.Opened.{raised_by, acts_by, no_service, all_count, marked_now, mark_bit, open_bits, want_wide, wired, start_many, start_less, bit_told}
 use Rattle.thread_layout.proofs.Cores.{none_open}
 use Rattle.thread_layout.proofs.Opening.{joined_front, joined_back}
@@ -69,19 +73,9 @@ use Rattle.thread_layout.proofs.Placed.{ask_copied, need_stands, done_stands, be
 use Rattle.thread_layout.proofs.Quiet.{bank_bit, service_shown}
 use Rattle.thread_layout.proofs.Raising.{from_whole, none_wanted, wanted, wanted_bit}
 use Rattle.thread_layout.proofs.Requested.{indices, targets, printing}
-use Rattle.thread_layout.proofs.Resting.{raised_now, grants_now, opens_now, steers_now, agrees_off, rests_so, marks_left}
-use Rattle.thread_layout.proofs.Remembering.{each_append}
-use Rattle.thread_layout.proofs.Sight.{waits_last, still, knows, enabled, waiting, state_wide, enable_bit, next_beat, chains_bits, stage_shown}
+use Rattle.thread_layout.proofs.Resting.{raised_now, grants_now, opens_now, steers_now, agrees_off, rests_so, marks_left, one_is}
 
 -- ---- bits
-
-is_true : (b : Bool) → bit_of b ≡ 1 → b ≡ true
-is_true true e = refl
-is_true false e = absurd cc
-
-is_false : (b : Bool) → bit_of b ≡ 0 → b ≡ false
-is_false true e = absurd cc
-is_false false e = refl
 
 turned : (b : Bool) → bit_of b ≡ bit_of (not b) → ⊥
 turned true e = absurd cc
@@ -269,7 +263,7 @@ module _ (shape : Shape) (code : ThreadCode) (plan : Planned) (m : Module) (t : 
               (λ end. absurd (let clash : 0 ≡ 1 = sym none ∙ end_needs shape code plan m t served r o end in cc))
 
       waits_false : waits ≡ false
-      waits_false = is_false waits (sym (waiting shape code plan m t served r o).1 ∙ waits_not)
+      waits_false = bit_false waits (sym (waiting shape code plan m t served r o).1 ∙ waits_not)
 
       leaves : r.signal 1 ≡ 1 → r.signal t.edge.leave ≡ 1
       leaves on = left_is true on ∙ ap bit_of (left_quiet quiet_here true ∙ ap not waits_false)
@@ -313,7 +307,7 @@ module _ (shape : Shape) (code : ThreadCode) (plan : Planned) (m : Module) (t : 
 
       waits_end : waits ≡ true
       waits_end =
-          is_true waits
+          one_is waits
           (sym (waiting shape code plan m t served r o).1
           ∙ waits_last shape code plan m t served r o true false
           (t.laid.walks.stays main m r (from_rest shape code plan m t served) o t.laid.begins.bits (knows shape code plan m t served r o)
@@ -465,7 +459,7 @@ module _ (shape : Shape) (code : ThreadCode) (plan : Planned) (m : Module) (t : 
         let hears : grants_now shape code plan m t served r o k ≡ true = ap (λ z. nat_eq z 1) granted in
         let hit : any_below (got (raised_now shape code plan m t served r o) (grants_now shape code plan m t served r o) true)
         (length t.inside.early.opens) ≡ true =
-        some_below (got (raised_now shape code plan m t served r o) (grants_now shape code plan m t served r o) true) (length t.inside.early.opens) k
+        some_tells (got (raised_now shape code plan m t served r o) (grants_now shape code plan m t served r o) true) (length t.inside.early.opens) k
         (subst (λ n. k < n) (sym (opens_count shape code plan m t served)) less)
         (ap (λ z. (z && true) && grants_now shape code plan m t served r o k) asked ∙ hears) in
         moves_on r o
@@ -481,7 +475,7 @@ module _ (shape : Shape) (code : ThreadCode) (plan : Planned) (m : Module) (t : 
   ended main r o done =
       stays_end r o main
       (eqb-true (r.signal t.inside.slot.stage.register) (length code.stages)
-      (is_true (nat_eq (r.signal t.inside.slot.stage.register) (length code.stages))
+      (one_is (nat_eq (r.signal t.inside.slot.stage.register) (length code.stages))
       (sym
       (t.laid.early.asked.asks.done_is m r (from_whole shape code plan m t served) o (knows shape code plan m t served r o))
       ∙ sym (done_copied r o) ∙ done)))
@@ -528,7 +522,7 @@ module _ (shape : Shape) (code : ThreadCode) (plan : Planned) (m : Module) (t : 
           (cases_lt n banks)
 
       quiet_closed : (r : Reading) (q : Slot) (b : Block) (p : BlockPlan) (o : Obeys m r)
-          (inside : IsInside shape.globals shape.spreads code plan m (places_of (inputs_of shape) code plan) (ports_of shape m) r q b p) →
+          (inside : IsInside shape.globals shape.spreads code plan (places_of (inputs_of shape) code plan) r q b p) →
           IsClosed (planned_view b) (plan_view b p) q → Quiet r o
       quiet_closed r q b p o inside closed =
           quiet_of r o

@@ -1,5 +1,5 @@
 -- What cores tell a thread, one behind the other.
-use Rattle.std.proofs.Common.{◌≡◌, ℕ, zero, suc, ◌+◌, ◌-◌, ◌<◌, ◌≤◌, Bool, true, false, if◌then◌else◌, List, [], ◌∷◌, ◌++◌, length, map, take, slice_get, Some, refl, sym, ap, ◌∙◌}
+use Rattle.std.proofs.Common.{◌≡◌, ℕ, zero, suc, ◌+◌, ◌-◌, ◌<◌, ◌≤◌, Bool, true, false, if◌then◌else◌, List, [], ◌∷◌, ◌++◌, length, map, take, refl, sym, ap, ◌∙◌}
 use Rattle.std.proofs.Common.{arith, ⊎_elim, length-append, append_assoc}
 use Rattle.std.specs.Prelude.{replicate}
 use Rattle.std.proofs.lemmas.Bool.{cases_lt, le-ltb, lt-ltb}
@@ -131,9 +131,3 @@ pub told_all : (words : List ℕ) (served : Served) → told_of (map bank_port w
 told_all words served =
     told_then (map bank_port words) (map (act_port served) (services served))
     ∙ ap (λ l. l ++ told_of (map (act_port served) (services served))) (told_banks words) ∙ ap (λ l. words ++ l) (told_acts served)
-
--- number j of core k is there
-pub told_there : (ports : List CorePort) (k j : ℕ) (p : CorePort) → slice_get ports k ≡ Some p → j < length p.told → j < tells_of ports k
-told_there [] k j p e less = absurd cc
-told_there (q ∷ ports) zero j p e less = let same : q ≡ p = cc in let count : length q.told ≡ length p.told = ap (λ (z : CorePort). length z.told) same in omega arith
-told_there (q ∷ ports) (suc k) j p e less = told_there ports k j p e less

@@ -1,7 +1,6 @@
 -- Cores that are not asked: banks outside of blocks, and of those that acts ask all but the one of the act.
 use Rattle.std.proofs.Common.{◌≡◌, ◌≢◌, ℕ, ◌<◌, ◌≤◌, Bool, true, false, ◌&&◌, slice_get, Option, Some, None, refl, sym, ap, ◌∙◌, arith}
 use Rattle.std.proofs.lemmas.Bool.{ne_eqb}
-use Rattle.block_ir.specs.Asked.{printer_core}
 use Rattle.thread_promise.specs.Moves.{asked_in, core_asked}
 use Rattle.hls_ints.specs.Residues.{bit_of}
 use Rattle.block_ir.specs.declared.code.ThreadCode.{ThreadCode}
@@ -11,12 +10,12 @@ use Rattle.netlist.specs.declared.netlist.Module.{Module}
 use Rattle.verilog_meaning.specs.Readings.{Reading}
 use Rattle.circuit.specs.Modules.{Obeys}
 use Rattle.thread_promise.specs.Globals.{bank_total}
-use Rattle.thread_promise.specs.Promise.{is_print, is_run}
+use Rattle.thread_promise.specs.Promise.{is_run}
 use Rattle.thread_slots.specs.declared.shape.Shape.{Shape}
 use Rattle.thread_layout.specs.Modules.{IsModule}
 use Rattle.thread_layout.specs.Thread.{numbers_of, cores_of, is_core, port_at, IsServed}
 use Rattle.fsm_datapath.proofs.Leaving.{IsTarget, core_asks}
-use Rattle.fsm_datapath.proofs.Targets.{target_within, not_printer}
+use Rattle.fsm_datapath.proofs.Targets.{target_within}
 use Rattle.thread_layout.proofs.Placed.{ask_copied}
 use Rattle.fsm_datapath.proofs.Targets.{block_quiet}
 use Rattle.thread_layout.proofs.Shown.{Shows}
@@ -78,10 +77,3 @@ module _ (shape : Shape) (code : ThreadCode) (plan : Planned) (m : Module) (t : 
           ask_copied shape code plan m t served r k o less
           ∙ block_quiet shape code plan m t served r q o shows is k past less e.0 (enable_bit shape code plan m t served r o e.0 e.1)
       by false is = asked_as r q k o shows is less e.0 e.1 ∙ ap (λ z. bit_of (z && e.0)) (not_it _ other)
-
-  -- the printer of a code of main is asked at a printf alone
-  pub quiet_so : (r : Reading) (q : Slot) → Obeys m r → Shows shape code plan m t served r q → is_print (slice_get code.stages q.stage) ≡ false
-      → r.signal (port_at shape m (printer_core (numbers_of shape)) 0) ≡ 0
-  quiet_so r q o shows not_so =
-      asks_alone_so r q (printer_core (numbers_of shape)) o shows (omega arith) (omega arith)
-      (not_printer shape.is_main (slice_get code.stages q.stage) q.variables (numbers_of shape) not_so)

@@ -5,14 +5,9 @@ use Rattle.block_ir.specs.declared.plan.Planned.{Planned}
 use Rattle.netlist.specs.declared.netlist.Module.{Module}
 use Rattle.thread_slots.specs.declared.shape.Shape.{Shape}
 use Rattle.thread_slots.specs.Naming.{AreNamed}
-use Rattle.thread_layout.specs.Modules.{IsModule}
 use Rattle.thread_layout.specs.Thread.{inputs_of, IsServed}
 
 -- THE REGISTERS of variables, one behind the other, are called after them
 abbrev pub NamesServedVariables : Shape → ThreadCode → Planned → Module → Type 0
 NamesServedVariables shape code plan m =
     IsServed shape code plan → AreNamed m.signals (inputs_of shape + 3) (map string_bytes code.names) (length code.variables)
-
--- so it is in each module that is laid out
-abbrev pub LaidOutIsNamed : Type 0
-LaidOutIsNamed = (shape : Shape) (code : ThreadCode) (plan : Planned) (m : Module) → IsModule shape code plan m → NamesServedVariables shape code plan m

@@ -11,7 +11,6 @@ use Rattle.module_sound.specs.Grades.{AreGrades, ActsRight, IsPort, IsSlotPort}
 use Rattle.module_sound.specs.Kinds.{IsPlaced}
 use Rattle.module_sound.specs.Sounds.{AreRightMemories, BeginsWithClock, IsSoundAlone}
 use Rattle.thread_slots.specs.declared.shape.Shape.{Shape}
-use Rattle.thread_layout.specs.Modules.{IsModule}
 use Rattle.thread_layout.specs.Thread.{cores_of, inputs_of, core_ports, first_output, need_at, done_at, IsServed}
 use Rattle.thread_layout.specs.Leaf.{leaf_of}
 
@@ -58,7 +57,3 @@ pub record IsLeafOf (shape : Shape) (m : Module) : Type 0 where
 -- THE MODULE IS A LEAF
 abbrev pub IsLeafOfServedCode : Shape → ThreadCode → Planned → Module → Type 0
 IsLeafOfServedCode shape code plan m = IsServed shape code plan → IsLeafOf shape m
-
--- each module that is laid out is one
-abbrev pub LaidOutIsLeaf : Type 0
-LaidOutIsLeaf = (shape : Shape) (code : ThreadCode) (plan : Planned) (m : Module) → IsModule shape code plan m → IsLeafOfServedCode shape code plan m

@@ -18,19 +18,18 @@ use Rattle.verilog_meaning.specs.Readings.{Reading, next_reading}
 use Rattle.circuit.specs.Modules.{Obeys, Agree}
 use Rattle.leaf_machine.specs.Steady.{IsSteadyThread}
 use Rattle.thread_promise.specs.Slots.{ShowsData}
-use Rattle.thread_promise.specs.Promise.{IsInside}
+use Rattle.thread_promise.specs.Serving.{IsInside}
 use Rattle.thread_slots.specs.declared.shape.Shape.{Shape}
 use Rattle.thread_layout.specs.Leaf.{leaf_of}
-use Rattle.thread_layout.specs.Modules.{IsModule}
-use Rattle.thread_layout.specs.Thread.{cores_of, inputs_of, places_of, ports_of, IsServed}
+use Rattle.thread_layout.specs.Thread.{cores_of, inputs_of, need_at, places_of, IsServed}
 
 -- in a state of a block in which no access starts and no word is taken, and at main's return, no core is needed
 pub record NeedsNoMore (shape : Shape) (code : ThreadCode) (plan : Planned) (m : Module) : Type 0 where
   pub closed : (r : Reading) (q : Slot) (b : Block) (p : BlockPlan) → Obeys m r →
-      IsInside shape.globals shape.spreads code plan m (places_of (inputs_of shape) code plan) (ports_of shape m) r q b p →
-      IsClosed (planned_view b) (plan_view b p) q → r.signal (ports_of shape m).need ≡ 0
+      IsInside shape.globals shape.spreads code plan (places_of (inputs_of shape) code plan) r q b p →
+      IsClosed (planned_view b) (plan_view b p) q → r.signal (need_at shape m) ≡ 0
   pub returns : shape.is_main ≡ true → (r : Reading) (q : Slot) (next : ℕ) → Obeys m r → ShowsData shape.globals code (places_of (inputs_of shape) code plan) r q →
-      slice_get code.stages q.stage ≡ Some (stage.Act Return next) → r.signal (ports_of shape m).need ≡ 0
+      slice_get code.stages q.stage ≡ Some (stage.Act Return next) → r.signal (need_at shape m) ≡ 0
 
 -- a register `beat` of one bit stands at this place
 pub record IsBeat (m : Module) (place : ℕ) : Type 0 where
@@ -57,7 +56,3 @@ pub record IsSteadyServed (shape : Shape) (code : ThreadCode) (plan : Planned) (
 -- THE MODULE IS STEADY
 abbrev pub IsSteadyServedCode : Shape → ThreadCode → Planned → Module → Type 0
 IsSteadyServedCode shape code plan m = IsServed shape code plan → IsSteadyServed shape code plan m
-
--- each module that is laid out is
-abbrev pub LaidOutIsSteady : Type 0
-LaidOutIsSteady = (shape : Shape) (code : ThreadCode) (plan : Planned) (m : Module) → IsModule shape code plan m → IsSteadyServedCode shape code plan m

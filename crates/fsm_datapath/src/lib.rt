@@ -4,9 +4,8 @@
 #![tactic(auto)]
 
 // What it is made of stands in `thread_slots`, `thread_asks`, `thread_requests`, `thread_states` and, put together, in `thread_layout`;
-// its laws, which are proved of any module that is laid out so, stand here. The promise is made of the code of main, and of that of every other thread
+// what is proved here holds of any module that is laid out so (`IsModule`). The promise is made of the code of main, and of that of every other thread
 // (`IsServed`). Signals have grades by their places: 0 is what registers alone reach, 1 what the enable reaches, 2 what a grant or a word of a bank
 // reaches. Each wire reads earlier signals, of no higher grade; what cores are asked has grade 1.
 
-pub mod law;
 pub mod module;

@@ -1,7 +1,7 @@
 // The module of a thread.
 
 ghost use Rattle.std.specs.Prelude.{IfOk};
-ghost use Rattle.fsm_datapath.specs.Runs.{RunsServedCode, ServesCode};
+ghost use Rattle.fsm_datapath.specs.Runs.{ServesCode};
 ghost use Rattle.fsm_datapath.specs.SoundLeaf.{IsLeafOfServedCode};
 ghost use Rattle.fsm_datapath.specs.Naming.{NamesServedVariables};
 ghost use Rattle.fsm_datapath.specs.Routine.{IsRoutineOfServedCode};
@@ -21,7 +21,6 @@ pub fn module(
     code: &ThreadCode,
     planned: &Planned,
 ) -> Result<Module, AllocError>
-    ensures runs { IfOk result (RunsServedCode shape.now code.now planned.now) }
     ensures serves { IfOk result (ServesCode shape.now code.now planned.now) }
     ensures leaf { IfOk result (IsLeafOfServedCode shape.now code.now planned.now) }
     ensures routine { IfOk result (IsRoutineOfServedCode shape.now code.now planned.now) }

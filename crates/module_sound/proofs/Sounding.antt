@@ -50,7 +50,7 @@ constants_right w (n ∷ ns) e = and_from (nat_lt n (2 ^ w)) (all_right (λ k. n
 
 -- ---- names of two lists
 
-memory_at_name : (ms : List Memory) (i : ℕ) (x : Name) → slice_get (map (λ (c : Memory). c.name) ms) i ≡ Some x → (c : Memory) × (slice_get ms i ≡ Some c) × (c.name ≡ x)
+pub memory_at_name : (ms : List Memory) (i : ℕ) (x : Name) → slice_get (map (λ (c : Memory). c.name) ms) i ≡ Some x → (c : Memory) × (slice_get ms i ≡ Some c) × (c.name ≡ x)
 memory_at_name [] i x e = absurd cc
 memory_at_name (c ∷ ms) zero x e = let same : c.name ≡ x = cc in (c, refl, same)
 memory_at_name (c ∷ ms) (suc i) x e = memory_at_name ms i x e

@@ -265,7 +265,7 @@ module _ (t : Thread) (is : IsThread t) where
       unfolding grant grants_at
       grant_is k x w o = ap₂ (λ (c d : Bool). c && d) (less_is k (size (planned_view b)) o.below) (ap (λ (z : Target). grants_at z k) o.target)
 
-      hears : HearsBanks t.globals t.spreads t.numbers t.main t.routine t.code t.plan t.body t.places t.ports r q b p grant
+      hears : HearsBanks t.globals t.spreads t.ports r q b p grant
       hears = record {
         grants = λ k x w o.
             let n = bank_now t.spreads b p q k x in

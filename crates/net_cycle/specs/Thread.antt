@@ -73,7 +73,7 @@ module _ (t : Thread) where
   Runs = RunsAt t.globals t.spreads t.code t.plan
 
   abbrev pub Inside : Reading → Slot → Block → BlockPlan → Type 0
-  Inside = IsInside t.globals t.spreads t.numbers t.main t.routine t.code t.plan t.body t.places t.ports
+  Inside = IsInside t.globals t.spreads t.code t.plan t.places
 
   abbrev pub Through : Reading → Bool → (ℕ → Bool) → (ℕ → ℕ → ℕ) → Reading → Type 0
   Through = GoesThrough t.body t.leaf cores t.parts t.told

@@ -33,7 +33,7 @@ room_of a base y w e = let l = within a base y w e in let f = e.after in omega a
 pub longer : (a b : List Signal) → Grows a b → length a ≤ length b
 longer a b g = let n = ap length g.is ∙ length-append a g.more in omega arith
 
-only_last : (a : List Signal) (t s : Signal) (x : ℕ) → length a ≤ x → slice_get (a ++ t ∷ []) x ≡ Some s → (x ≡ length a) × (t ≡ s)
+pub only_last : (a : List Signal) (t s : Signal) (x : ℕ) → length a ≤ x → slice_get (a ++ t ∷ []) x ≡ Some s → (x ≡ length a) × (t ≡ s)
 only_last [] t s zero l e = (refl, (let same : t ≡ s = cc in same))
 only_last [] t s (suc x) l e = absurd cc
 only_last (y ∷ a) t s zero l e = absurd (omega arith)

@@ -1,4 +1,5 @@
 pub mod Giving
+pub mod Bits
 pub mod Building
 pub mod Wording
 pub mod Working

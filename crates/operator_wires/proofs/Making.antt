@@ -1,6 +1,6 @@
 -- Words that are made, and what operators show on them.
 use Rattle.std.proofs.Common.{◌≡◌, ℕ, Bool, true, false, if◌then◌else◌, List, ℤ, refl, sym, ap, subst, ◌∙◌}
-use Rattle.std.specs.Prelude.{Result, IfOk}
+use Rattle.std.specs.Prelude.{Result, Ok, Err, IfOk, OnOk}
 use Rattle.c_program.specs.declared.tree.UnaryOperator.{UnaryOperator}
 use Rattle.c_program.specs.declared.tree.BinaryOperator.{BinaryOperator}
 use Rattle.verilog_tree.specs.declared.tree.BinaryOperator.{BinaryOperator as Gate}
@@ -20,6 +20,18 @@ use Rattle.operator_wires.specs.Gives.{Gives}
 use Rattle.operator_wires.specs.Words.{IsWord, Makes, Holds, TestsZero, Becomes, Combine, Applies, Joins, TakesRight}
 use Rattle.operator_wires.specs.Numbers.{less_number}
 use Rattle.operator_wires.proofs.Giving.{grows_refl, grows_then}
+
+-- ---- two facts of an answer
+
+pub on_two : {A E : Type 0} (x : Result A E) (P Q R : Type 0) → (P → Q → R) → OnOk x P → OnOk x Q → OnOk x R
+on_two (Ok a) P Q R h p q = h p q
+on_two (Err e) P Q R h p q = tt
+
+pub of_two : {A E : Type 0} (x : Result A E) (P Q R : A → Type 0) → ((a : A) → P a → Q a → R a) → IfOk x P → IfOk x Q → IfOk x R
+of_two (Ok a) P Q R h p q = h a p q
+of_two (Err e) P Q R h p q = tt
+
+-- ---- words
 
 pub constant_holds : (a b : List Signal) (ty : IntegerType) (z : ℤ) (out : Word) (n w place : ℕ) → Gives a b place w (λ m r. n) → w ≡ width_of ty → n ≡ residue_of (width_of ty) z
     → out.place ≡ place → out.width ≡ width_of ty → out.signed ≡ ty.signed → Holds a b ty (wrapped ty z) out

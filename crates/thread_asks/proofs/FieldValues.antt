@@ -26,8 +26,9 @@ use Rattle.block_datapath.proofs.Seeing.{own_word}
 use Rattle.operator_wires.specs.Built.{Base, IsEarlier, StandsAs, AddsWord}
 use Rattle.operator_wires.specs.Added.{ChoiceAdds}
 use Rattle.operator_wires.proofs.Building.{stands_after, wires_none, wires_then, room_of}
+use Rattle.operator_wires.proofs.Making.{of_two}
 use Rattle.thread_slots.specs.Wired.{LinkFields, AreSlots, KeepsFields}
-use Rattle.thread_asks.proofs.Taken.{of_two, values_linked}
+use Rattle.thread_asks.proofs.Taken.{values_linked}
 use Rattle.thread_asks.specs.Fields.{IsTypedActOperand, act_type, ShowsActOperand, AsksValues, AsksValue, AsksNumber, NamesObject}
 
 -- ---- operands

@@ -1,6 +1,5 @@
 -- Chains through the stages of acts: their links stand.
 use Rattle.std.proofs.Common.{◌≡◌, ℕ, suc, ◌<◌, ◌≤◌, ◌^◌, true, false, List, length, refl, sym, ap, subst, ◌∙◌, arith}
-use Rattle.std.specs.Prelude.{Result, Ok, Err, IfOk}
 use Rattle.std.proofs.lemmas.Option.{slice_get_within}
 use Rattle.circuit.proofs.Growth.{length-spread}
 use Rattle.hls_ints.specs.Types.{IntegerType, long_int}
@@ -15,12 +14,6 @@ use Rattle.block_datapath.specs.Wired.{AreChains, HasWidthAt, AddsLinks}
 use Rattle.thread_slots.specs.Wired.{field_width, LinkFields, AreSlots, KeepsFields}
 use Rattle.thread_slots.proofs.Linked.{later_field, slots_later, fields_later}
 use Rattle.thread_slots.proofs.Taken.{held_there, held_is, fields_held, field_held}
-
--- ---- two facts of an answer
-
-pub of_two : {A E : Type 0} (x : Result A E) (P Q R : A → Type 0) → ((a : A) → P a → Q a → R a) → IfOk x P → IfOk x Q → IfOk x R
-of_two (Ok a) P Q R h p q = h a p q
-of_two (Err e) P Q R h p q = tt
 
 -- ---- requests
 

@@ -1,13 +1,13 @@
 -- The typed code of a thread function, by a right plan, is served beside a program's cores: its arrays fit, its globals have few banks, it has registers
 -- enough, its acts lead to stages, and the printer can print its printfs.
-use Rattle.std.proofs.Common.{◌≡◌, ◌≢◌, ℕ, zero, suc, ◌<◌, ◌≤◌, ◌^◌, Bool, true, false, List, [], ◌∷◌, length, map, Option, Some, None, refl, sym, ap, ◌∙◌, subst, arith}
+use Rattle.std.proofs.Common.{◌≡◌, ℕ, zero, suc, ◌<◌, ◌≤◌, ◌^◌, Bool, true, false, List, [], ◌∷◌, length, map, Option, Some, None, refl, sym, ap, ◌∙◌, subst, arith}
 use Rattle.std.specs.Prelude.{slice_get}
 use Rattle.std.specs.List.{AllByRecursion}
 use Rattle.std.proofs.lemmas.List.{length-map}
 use Rattle.std.proofs.lemmas.Option.{none-some, same_Some, slice_get_within}
-use Rattle.hls_ints.specs.Types.{IntegerType, long_int}
+use Rattle.hls_ints.specs.Types.{IntegerType}
 use Rattle.c_program.specs.declared.tree.LocalVariable.{LocalVariable}
-use Rattle.c_program.specs.Tree.{Piece, Function, Program}
+use Rattle.c_program.specs.Tree.{Piece, Program}
 use Rattle.c_program.specs.Limits.{greatest, longest_local}
 use Rattle.c_program.specs.Resolved.{IsFunction, IsResolved}
 use Rattle.c_limits.specs.Counts.{first_passed}
@@ -112,14 +112,12 @@ module _ (P : Program) (resolved : IsResolved P) (limits : first_passed P ≡ No
       right.below k x (slice_get_within b.operations k o listed) kept
 
   printable : (l site next : ℕ) (values : List ActOperand) → slice_get c.code.stages l ≡ Some (stage.Act (Print site values) next) →
-      IsPrintable c.code (served_by w).printer site values next
+      IsPrintable (served_by w).printer site values
   printable l site next values at =
       let h = typed.stages l (stage.Act (Print site values) next) at in
       record {
         site_fits = (let inside = slice_get_within (print_formats P) site h.0.format h.0.listed in let few = few_formats in omega (arith, inside, few));
         few = (let n = h.0.few in let four = cores.values in omega (arith, n, four));
-        typed = λ j v e. values_typed P c.code values j v h.0.typed e;
-        leads = (let n = h.1 in omega (arith, n));
       }
 
   leads : (l : ℕ) (a : Act) (next : ℕ) → slice_get c.code.stages l ≡ Some (stage.Act a next) → (a ≡ Return → ⊥) → next ≤ length c.code.stages
@@ -142,7 +140,7 @@ module _ (P : Program) (resolved : IsResolved P) (limits : first_passed P ≡ No
   operands_typed : (main : Bool) (l : ℕ) (a : Act) (next : ℕ) (call : Call) → slice_get c.code.stages l ≡ Some (stage.Act a next) → request_of main a ≡ Some call →
       (j : ℕ) (v : ActOperand) → slice_get call.operands j ≡ Some v → IsTypedActOperand c.code v
   operands_typed main l (Print site values) next call at r j v e =
-      (printable l site next values at).typed j v (of_call values call j v (let same : values ≡ call.operands = cc in same) e)
+      values_typed P c.code values j v (typed.stages l (stage.Act (Print site values) next) at).0.typed (of_call values call j v (let same : values ≡ call.operands = cc in same) e)
   operands_typed main l (Create thread argument) next call at r j v e =
       let h = (typed.stages l (stage.Act (Create thread argument) next) at).0 in
       two_typed P c.code thread argument j v (number_typed P c.code _ thread h.0) (value_typed P c.code argument h.1)

@@ -9,13 +9,10 @@ ghost use Rattle.thread_bodies.specs.Bodies.{CodesAreServed, LaidAreBodies, Laid
 pub use program_plans::{PlannedFunction, plan_functions};
 pub use threads::modules;
 
-/// A module that is laid out for a thread, with ports for all cores of a program, is what the program's parts ask of it.
+/// A module that is laid out for a thread, with ports for all cores of a program, is what the program's parts ask of it (`bodies`), and main's stays where it
+/// has ended (`main`). The typed code of a thread function, by a right plan, is one that `module` lays out beside these cores (`served`).
 pub fn laid_are_bodies()
     ensures bodies { LaidAreBodies }
     ensures main { LaidMainStays }
-{}
-
-/// The typed code of a thread function, by a right plan, is one that `module` lays out beside the cores of a program.
-pub fn codes_are_served()
-    ensures { CodesAreServed }
+    ensures served { CodesAreServed }
 {}

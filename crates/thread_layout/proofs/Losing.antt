@@ -10,6 +10,7 @@ use Rattle.block_ir.specs.declared.plan.Planned.{Planned}
 use Rattle.block_ir.specs.Asked.{Service, Mutexes, Barriers, Ids, Prints, Numbers, Asked, Request as Call, request_of, asked_at, printer_core}
 use Rattle.planned_block.specs.Slot.{Slot}
 use Rattle.planned_block.specs.Advance.{any_below}
+use Rattle.planned_block.proofs.Advancing.{some_tells}
 use Rattle.netlist.specs.declared.netlist.Module.{Module}
 use Rattle.verilog_meaning.specs.Readings.{Reading}
 use Rattle.circuit.specs.Modules.{Obeys}
@@ -23,7 +24,7 @@ use Rattle.thread_asks.specs.Asking.{same_service, is_for, is_asked}
 use Rattle.thread_layout.specs.Modules.{IsModule}
 use Rattle.thread_layout.specs.Thread.{numbers_of, cores_of, is_core, IsServed}
 use Rattle.thread_requests.specs.Early.{act_count}
-use Rattle.thread_layout.proofs.Needed.{some_below, none_below}
+use Rattle.thread_layout.proofs.Needed.{none_below}
 use Rattle.thread_layout.proofs.Opened.{acts_by, has_object, from_lost, from_acts, all_count}
 use Rattle.thread_layout.proofs.Quiet.{service_bit, block_bit, ask_now, target, asks_kind, raises}
 use Rattle.thread_layout.proofs.Shown.{Shows}
@@ -109,7 +110,7 @@ module _ (shape : Shape) (code : ThreadCode) (plan : Planned) (m : Module) (t : 
     found_not_lost c is behind inside =
         now.shows
         ∙ ap (λ b. bit_of (objects (asks_kind shape code plan m t served r q o shows) && not b))
-        (some_below (λ k. true && acts_by shape code plan m t served r (asks_kind shape code plan m t served r q o shows) k) open_count (c - banks)
+        (some_tells (λ k. true && acts_by shape code plan m t served r (asks_kind shape code plan m t served r q o shows) k) open_count (c - banks)
         (subst (λ n. c - banks < n) (sym t.laid.early.opens_acts.count) few) opened)
         ∙ never (objects (asks_kind shape code plan m t served r q o shows))
       where

@@ -1,36 +1,21 @@
 -- Requests by operation and by bank: a state is ready, and a grant moves it, in both views alike.
-use Rattle.std.proofs.Common.{◌≡◌, ℕ, zero, suc, ◌<◌, Bool, true, false, not, ◌&&◌, ◌||◌, refl, sym, ap, ◌∙◌, arith, ⊎_elim, ◌≢◌}
-use Rattle.std.proofs.lemmas.Bool.{cases_eq, and_from, and_parts}
-use Rattle.std.proofs.Math.Bool.{not-not, or-true}
+use Rattle.std.proofs.Common.{◌≡◌, ℕ, zero, suc, ◌<◌, Bool, true, false, not, ◌&&◌, ◌||◌, refl, sym, ap, ◌∙◌}
+use Rattle.std.proofs.lemmas.Bool.{and_from, and_parts}
+use Rattle.std.proofs.Math.Bool.{not-not}
 use Rattle.std.specs.Cmp.{both_ways}
 use Rattle.planned_block.specs.Advance.{all_below, any_below}
+use Rattle.planned_block.proofs.Advancing.{any_tells, some_tells}
 use Rattle.thread_states.specs.Control.{got, unmet}
 
 -- ---- truth
-
--- one that passes, where any does
-pub any_found : (f : ℕ → Bool) (n : ℕ) → any_below f n ≡ true → (k : ℕ) × (k < n) × (f k ≡ true)
-any_found f zero e = absurd cc
-any_found f (suc n) e = by (any_below f n) (f n) refl refl e (λ h. any_found f n h)
-  where
-    by : (t u : Bool) → any_below f n ≡ t → f n ≡ u → (t || u) ≡ true → (any_below f n ≡ true → (k : ℕ) × (k < n) × (f k ≡ true)) → (k : ℕ) × (k < suc n) × (f k ≡ true)
-    by true u p q h rest = let found = rest p in (found.0, (let less = found.1 in omega arith), found.2)
-    by false true p q h rest = (n, omega arith, q)
-    by false false p q h rest = absurd cc
-
-pub any_is : (f : ℕ → Bool) (n k : ℕ) → k < n → f k ≡ true → any_below f n ≡ true
-any_is f zero k less e = absurd (omega arith)
-any_is f (suc n) k less e =
-    ⊎_elim (λ (same : k ≡ n). ap (λ t. any_below f n || t) (ap f (sym same) ∙ e) ∙ or-true (any_below f n))
-    (λ (ne : k ≢ n). ap (λ t. t || f n) (any_is f n k (omega arith) e)) (cases_eq k n)
 
 -- two lists of tests with one that passes in each, or none
 pub any_same : (f g : ℕ → Bool) (n m : ℕ) → ((k : ℕ) → k < n → f k ≡ true → (j : ℕ) × (j < m) × (g j ≡ true)) → ((j : ℕ) → j < m → g j ≡ true → (k : ℕ) × (k < n) × (f k ≡ true))
     → any_below f n ≡ any_below g m
 any_same f g n m there back =
     both_ways (any_below f n) (any_below g m)
-    (λ e. let k = any_found f n e in let j = there k.0 k.1 k.2 in any_is g m j.0 j.1 j.2)
-    (λ e. let j = any_found g m e in let k = back j.0 j.1 j.2 in any_is f n k.0 k.1 k.2)
+    (λ e. let k = any_tells f n e in let j = there k.0 k.1 k.2 in some_tells g m j.0 j.1 j.2)
+    (λ e. let j = any_tells g m e in let k = back j.0 j.1 j.2 in some_tells f n k.0 k.1 k.2)
 
 not_both : (t u : Bool) → (t && u) ≡ not (not t || not u)
 not_both true true = refl
@@ -157,7 +142,7 @@ module _ (N B : ℕ) (asks granted grant wants marked grants : ℕ → Bool) (ba
   only_own counts k less asked counted one =
       both_ways (any_below (λ n. counts n && got opened grants true n) B) (answer k)
       (λ e.
-      let n = any_found (λ n. counts n && got opened grants true n) B e in
+      let n = any_tells (λ n. counts n && got opened grants true n) B e in
       let two = and_parts (counts n.0) (got opened grants true n.0) n.2 in
       let parts = got_parts (wants n.0) (marked n.0) (grants n.0) two.1 in
       let at : n.0 ≡ bank k = one n.0 n.1 two.0 parts.0 in
@@ -165,6 +150,6 @@ module _ (N B : ℕ) (asks granted grant wants marked grants : ℕ → Bool) (ba
       answer_from (asks k) (granted k) (grant k) asked not_yet (sym (hears k less asked not_yet) ∙ ap grants (sym at) ∙ parts.2))
       (λ e.
       let parts = answer_parts (asks k) (granted k) (grant k) e in
-      any_is (λ n. counts n && got opened grants true n) B (bank k) (below k less asked)
+      some_tells (λ n. counts n && got opened grants true n) B (bank k) (below k less asked)
       (and_from (counts (bank k)) (got opened grants true (bank k)) counted
       (got_from (wants (bank k)) (marked (bank k)) (grants (bank k)) (wanted k less asked) (marks k less asked ∙ parts.1) (hears k less asked parts.1 ∙ parts.2))))

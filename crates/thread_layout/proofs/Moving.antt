@@ -20,12 +20,13 @@ use Rattle.planned_block.specs.Plan.{Target, NoTarget, OfGlobal, OfArray, target
 use Rattle.planned_block.specs.Slot.{Slot, is_request, asks, value_now}
 use Rattle.planned_block.specs.Advance.{any_below, answered, is_ready, is_answered}
 use Rattle.planned_block.proofs.Bits.{same_is}
+use Rattle.planned_block.proofs.Advancing.{any_tells, some_tells}
 use Rattle.planned_view.specs.View.{planned_view, plan_view}
 use Rattle.netlist.specs.declared.netlist.Module.{Module}
 use Rattle.verilog_meaning.specs.Readings.{Reading}
 use Rattle.circuit.specs.Modules.{Obeys}
 use Rattle.thread_promise.specs.Globals.{bank_total, bank_now, wires_now, IsOpen}
-use Rattle.thread_promise.specs.Promise.{IsInside, HearsBanks}
+use Rattle.thread_promise.specs.Serving.{IsInside, HearsBanks}
 use Rattle.block_datapath.specs.Operations.{seen_value}
 use Rattle.block_datapath.specs.Accesses.{is_bank, reaches_in}
 use Rattle.block_datapath.proofs.Reaching.{some_banks, reaching, only_one}
@@ -37,9 +38,10 @@ use Rattle.thread_requests.proofs.Opening.{joined_front, joined_back}
 use Rattle.thread_slots.specs.Bits.{HasBit, HaveBits, is_in}
 use Rattle.thread_requests.specs.Early.{spread_out}
 use Rattle.thread_states.specs.Control.{got, unmet, is_left, counts_of, Steers}
+use Rattle.thread_layout.specs.Leaf.{served_ports}
 use Rattle.thread_layout.specs.Modules.{marks_of, IsModule}
-use Rattle.thread_layout.specs.Thread.{cores_of, inputs_of, places_of, ports_of, IsServed}
-use Rattle.thread_layout.proofs.Meeting.{any_found, any_is, ready, moving, only_own}
+use Rattle.thread_layout.specs.Thread.{cores_of, inputs_of, places_of, IsServed}
+use Rattle.thread_layout.proofs.Meeting.{ready, moving, only_own}
 use Rattle.thread_layout.proofs.Opened.{raised_by, acts_by, no_service, all_count, marked_now, mark_bit, mark_of_bank, open_bits, bit_told}
 use Rattle.thread_layout.proofs.Cores.{none_open}
 use Rattle.thread_layout.proofs.Placed.{from_control, opens_count}
@@ -117,7 +119,7 @@ module _ (shape : Shape) (code : ThreadCode) (plan : Planned) (m : Module) (t : 
   banks = bank_total shape.spreads
 
   module _ (r : Reading) (q : Slot) (b : Block) (p : BlockPlan) (o : Obeys m r)
-      (inside : IsInside shape.globals shape.spreads code plan m (places_of (inputs_of shape) code plan) (ports_of shape m) r q b p)
+      (inside : IsInside shape.globals shape.spreads code plan (places_of (inputs_of shape) code plan) r q b p)
       (indices : (k x n : ℕ) (i : Operand) → slice_get b.operations k ≡ Some (ReadGlobal x n i) → slice_index p.starts k ≡ q.state → (ty : IntegerType)
       × HasType ty (seen_value q.variables (value_now (planned_view b) (plan_view b p) q (wires_now shape.spreads b p q)) i))
       (targets : (k x n : ℕ) (i a : Operand) → slice_get b.operations k ≡ Some (WriteGlobal x n i a) → slice_index p.starts k ≡ q.state → (ty : IntegerType)
@@ -149,12 +151,12 @@ module _ (shape : Shape) (code : ThreadCode) (plan : Planned) (m : Module) (t : 
 
     is_wanted : (k : ℕ) → k < size (planned_view b) → asking k ≡ true → wanted shape code plan m t served r q b p o inside (bank k) ≡ true
     is_wanted k below e =
-        any_is (reached shape code plan m t served r q b p o inside (bank k)) (length b.operations) k (subst (λ n. k < n) (size-view b.operations) below)
+        some_tells (reached shape code plan m t served r q b p o inside (bank k)) (length b.operations) k (subst (λ n. k < n) (size-view b.operations) below)
         (reached_own k below e)
 
     pub asker : (n : ℕ) → n < banks → wanted shape code plan m t served r q b p o inside n ≡ true → (k : ℕ) × (k < size (planned_view b)) × (asking k ≡ true) × (bank k ≡ n)
     asker n less e =
-        let k = any_found (reached shape code plan m t served r q b p o inside n) (length b.operations) e in
+        let k = any_tells (reached shape code plan m t served r q b p o inside n) (length b.operations) e in
         let reach = reaching shape.globals shape.spreads code t.inside.slot q.stage b p q (wires_now shape.spreads b p q) n k.0 k.2 in
         let asked : asking k.0 ≡ true =
         and_from (is_request (operation_at (planned_view b) k.0).kind) (nat_eq ((plan_view b p).start k.0) q.state)
@@ -291,7 +293,7 @@ module _ (shape : Shape) (code : ThreadCode) (plan : Planned) (m : Module) (t : 
         shut true is = absurd (let k = open_asker n less is in none k.0 k.1 k.2 k.3 k.4)
         shut false is = is
 
-    module _ (grant : ℕ → Bool) (hears : HearsBanks shape.globals shape.spreads code plan m (places_of (inputs_of shape) code plan) (ports_of shape m) r q b p grant) where
+    module _ (grant : ℕ → Bool) (hears : HearsBanks shape.globals shape.spreads (served_ports shape m) r q b p grant) where
       heard_so : (k : ℕ) → k < size (planned_view b) → asking k ≡ true → q.granted k ≡ false → nat_eq (r.signal (2 + bank k)) 1 ≡ grant k
       heard_so k below e not_so =
           let a = who k below e in

@@ -25,12 +25,13 @@ use Rattle.planned_block.specs.Plan.{last_state, further_states}
 use Rattle.planned_block.specs.Slot.{Slot}
 use Rattle.planned_block.specs.Advance.{any_below}
 use Rattle.planned_block.specs.Closed.{IsClosed}
+use Rattle.planned_block.proofs.Advancing.{some_tells}
 use Rattle.planned_view.specs.View.{operation_view, binary_kind, planned_view, plan_view}
 use Rattle.netlist.specs.declared.netlist.Module.{Module}
 use Rattle.verilog_meaning.specs.Readings.{Reading, width}
 use Rattle.circuit.specs.Modules.{Obeys}
 use Rattle.thread_promise.specs.Globals.{bank_total}
-use Rattle.thread_promise.specs.Promise.{IsInside}
+use Rattle.thread_promise.specs.Serving.{IsInside}
 use Rattle.block_datapath.proofs.Walking.{listed_view}
 use Rattle.thread_slots.specs.declared.shape.Shape.{Shape}
 use Rattle.thread_slots.specs.Bits.{HasBit, HaveBits}
@@ -39,7 +40,7 @@ use Rattle.thread_promise.specs.Moves.{meeting}
 use Rattle.thread_slots.specs.Numbers.{is_wait}
 use Rattle.thread_requests.specs.Needing.{takes_word, takes_at, needs_in, meets_at, needs_at, IsInPlan, IsNeedOfFirst}
 use Rattle.thread_slots.specs.Idle.{is_idle}
-use Rattle.thread_layout.specs.Thread.{inputs_of, places_of, ports_of, IsServed}
+use Rattle.thread_layout.specs.Thread.{inputs_of, places_of, IsServed}
 use Rattle.thread_requests.proofs.Needs.{idle_needs}
 use Rattle.thread_layout.proofs.Opened.{wired, earlier_wide, wants_count, want_wide, ask_wide, bit_told}
 use Rattle.thread_requests.specs.Early.{wants_of}
@@ -51,7 +52,7 @@ use Rattle.thread_layout.proofs.Sight.{knows, in_stage}
 
 -- ---- bits
 
-bit_false : (b : Bool) → bit_of b ≡ 0 → b ≡ false
+pub bit_false : (b : Bool) → bit_of b ≡ 0 → b ≡ false
 bit_false true e = absurd cc
 bit_false false e = refl
 
@@ -64,13 +65,6 @@ meets_none n l x (Some s) ne = ap (λ z. is_wait s && z) (ne_eqb x (meeting n l)
 meets_so : (n l x : ℕ) (s : Stage) (t : Bool) → is_wait s ≡ true → x ≡ meeting n l → (t || meets_at n l (Some s) x) ≡ true
 meets_so n l x s t waits here =
     ap (λ z. t || (z && nat_eq x (meeting n l))) waits ∙ ap (λ z. t || z) (eq-eqb x (meeting n l) here) ∙ or-true t
-
--- one of the first n holds, and none does
-pub some_below : (f : ℕ → Bool) (n k : ℕ) → k < n → f k ≡ true → any_below f n ≡ true
-some_below f zero k less e = absurd (omega arith)
-some_below f (suc n) k less e =
-    ⊎_elim (λ (same : k ≡ n). ap (λ b. any_below f n || b) (ap f (sym same) ∙ e) ∙ or-true (any_below f n))
-    (λ (ne : k ≢ n). ap (λ b. b || f n) (some_below f n k (omega arith) e)) (cases_eq k n)
 
 pub none_below : (f : ℕ → Bool) (n : ℕ) → ((k : ℕ) → k < n → f k ≡ false) → any_below f n ≡ false
 none_below f zero none = refl
@@ -275,7 +269,7 @@ module _ (shape : Shape) (code : ThreadCode) (plan : Planned) (m : Module) (t : 
     -- and where a stage needs one
     stage_needs : (s l : ℕ) → now ≡ l → l < length code.stages → needs_in (slice_get code.stages l) (slice_get plan.stages l) s ≡ true → at_stages s ≡ true
     stage_needs s l here below needs =
-        some_below (needs_now s) (length code.stages) l below
+        some_tells (needs_now s) (length code.stages) l below
         (or_left (nat_eq now l && needs_in (slice_get code.stages l) (slice_get plan.stages l) s) (meets_at (length code.stages) l (slice_get code.stages l) now)
         (and_from (nat_eq now l) (needs_in (slice_get code.stages l) (slice_get plan.stages l) s) (eq-eqb now l here) needs))
 
@@ -313,7 +307,7 @@ module _ (shape : Shape) (code : ThreadCode) (plan : Planned) (m : Module) (t : 
     meeting_needs l s listed waits here =
         let below = slice_get_within code.stages l s listed in
         let at : at_stages 0 ≡ true =
-        some_below (needs_now 0) (length code.stages) l below
+        some_tells (needs_now 0) (length code.stages) l below
         (ap (λ z. needs_at (length code.stages) l z (slice_get plan.stages l) 0 now) listed
         ∙ meets_so (length code.stages) l now s (nat_eq now l && needs_in (Some s) (slice_get plan.stages l) 0) waits here) in
         (at_place 0
@@ -330,7 +324,7 @@ module _ (shape : Shape) (code : ThreadCode) (plan : Planned) (m : Module) (t : 
 
     -- within a block
     module _ (q : Slot) (b : Block) (p : BlockPlan)
-        (inside : IsInside shape.globals shape.spreads code plan m (places_of (inputs_of shape) code plan) (ports_of shape m) r q b p) where
+        (inside : IsInside shape.globals shape.spreads code plan (places_of (inputs_of shape) code plan) r q b p) where
       here_now : now ≡ q.stage
       here_now = (in_stage shape code plan m t served r o q b p inside.runs inside.state inside.shown).stage
 
@@ -395,7 +389,7 @@ module _ (shape : Shape) (code : ThreadCode) (plan : Planned) (m : Module) (t : 
           and_from (takes_word (slice_get b.operations k)) (nat_eq q.state (suc (slice_index p.starts k))) takes
           (eq-eqb q.state (suc (slice_index p.starts k)) (sym last ∙ last_of_read k x kind)) in
           let at : at_stages q.state ≡ true =
-          stage_needs q.state q.stage here_now below_end (stage_need ∙ some_below (takes_at b p q.state) (length b.operations) k less hit) in
+          stage_needs q.state q.stage here_now below_end (stage_need ∙ some_tells (takes_at b p q.state) (length b.operations) k less hit) in
           (at_place q.state placed_here).shows
           ∙ ap (λ z. bit_of ((nat_eq now (length code.stages) || z) || any_below (λ k. true && asked_now k) (length asked))) at
           ∙ ap (λ z. bit_of (z || any_below (λ k. true && asked_now k) (length asked))) (or-true (nat_eq now (length code.stages)))

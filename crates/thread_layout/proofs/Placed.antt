@@ -1,5 +1,5 @@
 -- Where the parts of a module stand, and what a reading shows there.
-use Rattle.std.proofs.Common.{◌≡◌, ℕ, zero, suc, ◌+◌, ◌-◌, ◌<◌, ◌^◌, Bool, true, false, if◌then◌else◌, List, [], ◌∷◌, length, map, slice_get, Option, Some, None, pos, refl, sym}
+use Rattle.std.proofs.Common.{◌≡◌, ℕ, zero, suc, ◌+◌, ◌-◌, ◌<◌, ◌^◌, Bool, true, false, if◌then◌else◌, List, [], ◌∷◌, length, map, slice_get, Option, Some, None, refl, sym}
 use Rattle.std.proofs.Common.{ap, subst, ◌∙◌, arith, length-append, ◌++◌, ◌≤◌, take, ⊎_elim}
 use Rattle.std.proofs.lemmas.Bool.{cases_lt}
 use Rattle.std.specs.Prelude.{option_map, slice_index}
@@ -7,7 +7,7 @@ use Rattle.std.proofs.lemmas.List.{length-map}
 use Rattle.std.proofs.lemmas.Option.{slice_get_within, slice_get-map, slice_get-get_or}
 use Rattle.lists.proofs.Places.{get_there, copies_there}
 use Rattle.hls_ints.specs.Residues.{bit_of}
-use Rattle.hls_ints.specs.Types.{Width, bits_8, bits_16, bits_32, bits_64, IntegerType, HasType, width_of}
+use Rattle.hls_ints.specs.Types.{IntegerType, width_of}
 use Rattle.bank_partition.specs.declared.banks.Spread.{Spread}
 use Rattle.thread_promise.specs.Globals.{bank_total}
 use Rattle.block_ir.specs.declared.code.ThreadCode.{ThreadCode}
@@ -78,16 +78,6 @@ by_signal m r x (Some s) o e w = small (r.signal x) (subst (λ (n : ℕ). r.sign
 -- a signal of one bit is a bit
 pub wide_bit : (m : Module) (r : Reading) (x : ℕ) → Obeys m r → width m x ≡ 1 → (b : Bool) × (r.signal x ≡ bit_of b)
 wide_bit m r x o w = by_signal m r x (slice_get m.signals x) o refl w
-
-pub zero_typed : (w : Width) (s : Bool) → HasType (record { width = w; signed = s }) (pos 0)
-zero_typed bits_8 true = refl
-zero_typed bits_8 false = refl
-zero_typed bits_16 true = refl
-zero_typed bits_16 false = refl
-zero_typed bits_32 true = refl
-zero_typed bits_32 false = refl
-zero_typed bits_64 true = refl
-zero_typed bits_64 false = refl
 
 -- the ports of bank k, whose words have this width, at these places
 pub record HasBankOutputs (signals : List Signal) (at : ℕ → ℕ) (asks : List ℕ) (banks : BankRequests) (k w : ℕ) : Type 0 where

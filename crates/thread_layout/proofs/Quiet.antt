@@ -76,7 +76,7 @@ names_one main (act.BarrierDestroy barrier) call e = let same : call_of Barriers
 names_one true act.Return call e = absurd cc
 names_one false act.Return call e = let same : call_of Ids 2 [] ≡ call = cc in subst (λ (c : Call). NamesOne c.service c.operands) same tt
 
-service_kept : (s : Service) (number : ℕ) (ws : List ℕ) → (asked_with s number ws).service ≡ s
+pub service_kept : (s : Service) (number : ℕ) (ws : List ℕ) → (asked_with s number ws).service ≡ s
 service_kept Mutexes number ws = refl
 service_kept Barriers number ws = refl
 service_kept Ids number ws = refl

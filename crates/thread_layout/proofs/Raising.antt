@@ -23,9 +23,10 @@ use Rattle.circuit.specs.Modules.{Obeys}
 use Rattle.operator_wires.specs.Gives.{Grows}
 use Rattle.operator_wires.proofs.Giving.{grows_then}
 use Rattle.planned_block.proofs.Bits.{same_is, other_is}
+use Rattle.planned_block.proofs.Advancing.{any_tells, some_tells}
 use Rattle.thread_promise.specs.Types.{or_int}
 use Rattle.thread_promise.specs.Globals.{IsSmallPower, bank_total, wires_now}
-use Rattle.thread_promise.specs.Promise.{IsInside}
+use Rattle.thread_promise.specs.Serving.{IsInside}
 use Rattle.block_datapath.specs.declared.requests.BankRequests.{BankRequests}
 use Rattle.block_datapath.specs.Operations.{seen_value}
 use Rattle.block_datapath.specs.Requests.{Asked, asked_at, nothing_asked}
@@ -37,8 +38,7 @@ use Rattle.thread_slots.specs.Bits.{HasBit}
 use Rattle.thread_requests.specs.Banks.{own_bank, AreOneEach, bank_number, wanted_at}
 use Rattle.thread_requests.proofs.Asking.{one_is}
 use Rattle.thread_layout.specs.Modules.{IsModule}
-use Rattle.thread_layout.specs.Thread.{inputs_of, places_of, ports_of, IsServed}
-use Rattle.thread_layout.proofs.Meeting.{any_found, any_is}
+use Rattle.thread_layout.specs.Thread.{inputs_of, places_of, IsServed}
 use Rattle.thread_layout.proofs.Opened.{want_wide, start_many, start_less, from_open}
 use Rattle.thread_layout.proofs.Placed.{mark_held, whole_many}
 use Rattle.thread_layout.proofs.Sight.{asks_so, asks_right, in_stage, sees_slot, knows}
@@ -249,7 +249,7 @@ module _ (shape : Shape) (code : ThreadCode) (plan : Planned) (m : Module) (t : 
         ∙ wanted_nowhere own.1.count (r.signal (slice_index whole.addresses own.0)) (n - own.1.first)
 
   module _ (r : Reading) (q : Slot) (b : Block) (p : BlockPlan) (o : Obeys m r)
-      (inside : IsInside shape.globals shape.spreads code plan m (places_of (inputs_of shape) code plan) (ports_of shape m) r q b p) where
+      (inside : IsInside shape.globals shape.spreads code plan (places_of (inputs_of shape) code plan) r q b p) where
     abbrev wire : ℕ → ℤ
     wire = wires_now shape.spreads b p q
 
@@ -297,7 +297,7 @@ module _ (shape : Shape) (code : ThreadCode) (plan : Planned) (m : Module) (t : 
     whole_none x less not_so =
         whole_so x less
         ∙ asked_nobody shape.globals one_each code t.inside.slot q.stage b p q wire x nothing_asked
-        (λ k below e. absurd (let yes = any_is (laid x) (length b.operations) k below e in cc))
+        (λ k below e. absurd (let yes = some_tells (laid x) (length b.operations) k below e in cc))
 
     -- ---- what the one operation asks that reaches a bank
 
@@ -349,7 +349,7 @@ module _ (shape : Shape) (code : ThreadCode) (plan : Planned) (m : Module) (t : 
             ap (λ w. wanted_at s.count (r.signal (slice_index whole.addresses x)) w k) (ap (λ (z : Asked). z.wants) (whole_none x within e))
             ∙ wanted_nowhere s.count (r.signal (slice_index whole.addresses x)) k
         by x k s listed within at true e =
-            let h = any_found (laid x) (length b.operations) e in
+            let h = any_tells (laid x) (length b.operations) e in
             let two = and_parts (nat_eq q.state (slice_index p.starts h.0)) (reaches_in q.variables given shape.globals one_each (slice_get b.operations h.0) x) h.2 in
             let here = whole_by x h.0 within h.1 h.2 in
             let asks = laid_asks q.variables given shape.globals shape.spreads one_each are_one_each (slice_get b.operations h.0) x n s listed two.1 in
@@ -358,7 +358,7 @@ module _ (shape : Shape) (code : ThreadCode) (plan : Planned) (m : Module) (t : 
             (λ (same : r.signal (slice_index whole.addresses x) % s.count ≡ k).
             let hit : n ≡ s.first + (laid_so h.0).address % s.count = at ∙ ap (λ z. s.first + z) (sym same ∙ ap (λ i. i % s.count) index) in
             let reach = asks ∙ same_is n (s.first + (laid_so h.0).address % s.count) hit in
-            absurd (let yes = any_is (reached n) (length b.operations) h.0 h.1
+            absurd (let yes = some_tells (reached n) (length b.operations) h.0 h.1
             (and_from (nat_eq q.state (slice_index p.starts h.0)) (reaches_in q.variables given shape.globals shape.spreads (slice_get b.operations h.0) n) two.0 reach) in
             cc))
             (λ (other : r.signal (slice_index whole.addresses x) % s.count ≢ k).
@@ -371,7 +371,7 @@ module _ (shape : Shape) (code : ThreadCode) (plan : Planned) (m : Module) (t : 
       where
         by : (w : Bool) → wanted n ≡ w → r.signal (slice_index t.inside.early.requests.banks.wants n) ≡ bit_of (wanted n)
         by true e =
-            let k = any_found (reached n) (length b.operations) e in
+            let k = any_tells (reached n) (length b.operations) e in
             let two = and_parts (nat_eq q.state (slice_index p.starts k.0))
             (reaches_in q.variables (value_now (planned_view b) (plan_view b p) q wire) shape.globals shape.spreads (slice_get b.operations k.0) n) k.2 in
             ap (λ (a : Asked). a.wants) (asked_by n k.0 less k.1 k.2)

@@ -19,7 +19,8 @@ use Rattle.verilog_meaning.specs.Readings.{Reading}
 use Rattle.circuit.specs.Modules.{Obeys}
 use Rattle.thread_promise.specs.Types.{or_int}
 use Rattle.thread_promise.specs.Globals.{IsAddress, bank_total, wires_now, place_now, bank_now, written_now, IsOpen}
-use Rattle.thread_promise.specs.Promise.{is_run, AsksBank, IsInside}
+use Rattle.thread_promise.specs.Promise.{is_run, AsksBank}
+use Rattle.thread_promise.specs.Serving.{IsInside}
 use Rattle.block_datapath.specs.Operations.{seen_value, SeesSlot}
 use Rattle.block_datapath.specs.Requests.{Asked, asked_at}
 use Rattle.block_datapath.specs.Accesses.{IsAskRight, asked_now}
@@ -30,8 +31,9 @@ use Rattle.thread_slots.specs.declared.shape.Shape.{Shape}
 use Rattle.block_ir.specs.Asked.{Service}
 use Rattle.thread_slots.specs.Requests.{group}
 use Rattle.thread_slots.specs.Bits.{HasBit}
+use Rattle.thread_layout.specs.Leaf.{served_ports}
 use Rattle.thread_layout.specs.Modules.{IsModule}
-use Rattle.thread_layout.specs.Thread.{cores_of, inputs_of, places_of, port_at, ports_of, IsServed}
+use Rattle.thread_layout.specs.Thread.{cores_of, inputs_of, places_of, port_at, IsServed}
 use Rattle.thread_layout.proofs.Moving.{who, bank, own_bank, within, own_asked, none_asked}
 use Rattle.thread_layout.proofs.Placed.{HasBankOutputs, stands_copies, bank_outputs, ask_copied}
 use Rattle.thread_layout.proofs.Quiet.{block_bit}
@@ -43,7 +45,7 @@ module _ (shape : Shape) (code : ThreadCode) (plan : Planned) (m : Module) (t : 
   banks = bank_total shape.spreads
 
   module _ (r : Reading) (q : Slot) (b : Block) (p : BlockPlan) (o : Obeys m r)
-      (inside : IsInside shape.globals shape.spreads code plan m (places_of (inputs_of shape) code plan) (ports_of shape m) r q b p) where
+      (inside : IsInside shape.globals shape.spreads code plan (places_of (inputs_of shape) code plan) r q b p) where
     right : IsAskRight shape.globals code b p
     right = asks_right shape code plan m t served r o q b p inside.runs inside.state inside.shown
 
@@ -91,7 +93,7 @@ module _ (shape : Shape) (code : ThreadCode) (plan : Planned) (m : Module) (t : 
       asked_is = asked_by shape code plan m t served r q b p o inside n k less (subst (λ z. k < z) (size-view b.operations) below) own.reached
 
       asked_own : q.granted k ≡ false
-          → AsksBank r 1 ((ports_of shape m).bank n) own.spread (place_now shape.spreads b p q k own.global).index own.writes
+          → AsksBank r 1 ((served_ports shape m).bank n) own.spread (place_now shape.spreads b p q k own.global).index own.writes
           (residue_of (width_of ty) (written_now shape.spreads b p q k))
       asked_own not_so =
           let on = enabled shape code plan m t served r o in
@@ -118,7 +120,7 @@ module _ (shape : Shape) (code : ThreadCode) (plan : Planned) (m : Module) (t : 
     -- WHAT AN ACCESS ASKS that is still to be granted
     pub asks_so : (k x : ℕ) (writes : Bool) (s : Spread) (ty : IntegerType) → IsOpen shape.spreads b p q k x writes → slice_get shape.spreads x ≡ Some s →
         slice_get shape.globals x ≡ Some ty
-        → AsksBank r 1 ((ports_of shape m).bank (bank_now shape.spreads b p q k x)) s (place_now shape.spreads b p q k x).index writes
+        → AsksBank r 1 ((served_ports shape m).bank (bank_now shape.spreads b p q k x)) s (place_now shape.spreads b p q k x).index writes
         (residue_of (width_of ty) (written_now shape.spreads b p q k))
     asks_so k x writes s ty opened listed declared =
         let two = and_parts (asks (planned_view b) (plan_view b p) q k) (not (q.granted k)) opened.requested in
@@ -128,9 +130,9 @@ module _ (shape : Shape) (code : ThreadCode) (plan : Planned) (m : Module) (t : 
         let kind : a.writes ≡ writes = (let mine = a.target in let its = opened.target in cc) in
         let spread : a.spread ≡ s = (let mine = a.listed in let there : slice_get shape.spreads a.global ≡ Some s = ap (slice_get shape.spreads) global ∙ listed in cc) in
         let number : ℕ = residue_of (width_of ty) (written_now shape.spreads b p q k) in
-        subst (λ (z : Spread). AsksBank r 1 ((ports_of shape m).bank (bank_now shape.spreads b p q k x)) z (place_now shape.spreads b p q k x).index writes number) spread
-        (subst (λ (w : Bool). AsksBank r 1 ((ports_of shape m).bank (bank_now shape.spreads b p q k x)) a.spread (place_now shape.spreads b p q k x).index w number) kind
-        (subst (λ (y : ℕ). AsksBank r 1 ((ports_of shape m).bank (bank_now shape.spreads b p q k y)) a.spread (place_now shape.spreads b p q k y).index a.writes number)
+        subst (λ (z : Spread). AsksBank r 1 ((served_ports shape m).bank (bank_now shape.spreads b p q k x)) z (place_now shape.spreads b p q k x).index writes number) spread
+        (subst (λ (w : Bool). AsksBank r 1 ((served_ports shape m).bank (bank_now shape.spreads b p q k x)) a.spread (place_now shape.spreads b p q k x).index w number) kind
+        (subst (λ (y : ℕ). AsksBank r 1 ((served_ports shape m).bank (bank_now shape.spreads b p q k y)) a.spread (place_now shape.spreads b p q k y).index a.writes number)
         global
         (asked_own k opened.below two.0 ty (ap (slice_get shape.globals) global ∙ declared) not_so)))
 

@@ -30,7 +30,7 @@ none_got : (open_to grants : ℕ → Bool) (n : ℕ) → any_below (got open_to 
 none_got open_to grants zero = refl
 none_got open_to grants (suc n) = ap (λ t. t || got open_to grants false n) (none_got open_to grants n) ∙ and_none (open_to n) (grants n)
 
-one_is : (b : Bool) → bit_of b ≡ 1 → b ≡ true
+pub one_is : (b : Bool) → bit_of b ≡ 1 → b ≡ true
 one_is true e = refl
 one_is false e = absurd cc
 

@@ -6,7 +6,7 @@ use Rattle.std.proofs.lemmas.Option.{slice_get_within}
 use Rattle.planned_view.proofs.Running.{size-view}
 use Rattle.lists.proofs.Places.{get_there}
 use Rattle.hls_ints.specs.Types.{width_of}
-use Rattle.operator_words.proofs.Typed.{residue_of-zero}
+use Rattle.operator_words.proofs.Typed.{residue_of-zero, has_zero}
 use Rattle.bank_partition.specs.declared.banks.Spread.{Spread}
 use Rattle.c_program.specs.declared.tree.BinaryOperator.{BinaryOperator}
 use Rattle.c_program.specs.declared.tree.BinaryOperator.TheVariants as operator
@@ -34,7 +34,7 @@ use Rattle.thread_slots.specs.declared.shape.Shape.{Shape}
 use Rattle.thread_layout.specs.Memories.{memory_for}
 use Rattle.thread_layout.specs.Modules.{IsModule}
 use Rattle.thread_layout.specs.Thread.{inputs_of, places_of, IsServed}
-use Rattle.thread_layout.proofs.Placed.{first_stage, zero_typed, stands_agrees, stands_begins, stage_stands, state_stands, beat_stands, variable_held, kept_held, kept_within, mark_held}
+use Rattle.thread_layout.proofs.Placed.{first_stage, stands_agrees, stands_begins, stage_stands, state_stands, beat_stands, variable_held, kept_held, kept_within, mark_held}
 use Rattle.thread_layout.proofs.Sight.{memory_of}
 
 zero_word : (n i : ℕ) → or_zero (slice_get (replicate n 0) i) ≡ 0
@@ -81,11 +81,11 @@ module _ (shape : Shape) (code : ThreadCode) (plan : Planned) (m : Module) (t : 
     beat = stands_begins m (behind + 2) 1 0 (beat_stands shape code plan m t served);
     variables = λ x ty declared.
         stands_begins m (behind + 3 + x) (width_of ty) 0 (variable_held shape code plan m t served x ty declared).stands ∙ sym (residue_of-zero (width_of ty));
-    typed = λ x ty declared. zero_typed ty.width ty.signed;
+    typed = λ x ty declared. has_zero ty;
     words = λ a i array listed less.
         ap (λ (o : Option Words). initial_word o i) (memory_of shape code plan m t served a array listed) ∙ zero_word array.length i ∙ sym
         (residue_of-zero (width_of array.ty));
-    typed_words = λ a i array listed less. zero_typed array.ty.width array.ty.signed;
+    typed_words = λ a i array listed less. has_zero array.ty;
     outside = λ a array listed. refl;
     none_granted = λ none x less. stands_begins m (behind + 3 + length code.variables + plan.registers + x) 1 0 (mark_held shape code plan m t served x less).stands;
   }

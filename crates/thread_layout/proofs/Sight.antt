@@ -5,7 +5,7 @@ use Rattle.std.proofs.lemmas.Option.{slice_get_within, slice_get-get_or}
 use Rattle.hls_ints.specs.Residues.{residue_of, bit_of}
 use Rattle.hls_ints.specs.Types.{IntegerType, HasType, width_of}
 use Rattle.bank_partition.specs.declared.banks.Spread.{Spread}
-use Rattle.thread_promise.specs.Globals.{IsSmallPower, bank_of, IsAccess}
+use Rattle.thread_promise.specs.Globals.{IsSmallPower, bank_total, bank_of, IsAccess}
 use Rattle.block_ir.specs.Run.{global_read}
 use Rattle.planned_block.specs.Block.{element}
 use Rattle.block_ir.specs.declared.block.Operation.{Operation}
@@ -25,7 +25,8 @@ use Rattle.verilog_meaning.specs.Readings.{Reading, width, register_after, word_
 use Rattle.circuit.specs.Modules.{Obeys}
 use Rattle.thread_promise.specs.Types.{value_type}
 use Rattle.thread_promise.specs.Slots.{ShowsData, ShowsInBlock}
-use Rattle.thread_promise.specs.Promise.{RunsAt, HearsBanks}
+use Rattle.thread_promise.specs.Promise.{RunsAt}
+use Rattle.thread_promise.specs.Serving.{HearsBanks}
 use Rattle.block_datapath.specs.declared.registers.Held.{Held}
 use Rattle.block_datapath.specs.Operations.{SeesSlot, IsRight, HasTold}
 use Rattle.block_datapath.specs.Accesses.{IsAskRight}
@@ -51,15 +52,17 @@ use Rattle.thread_asks.specs.Asking.{AsksAt}
 use Rattle.thread_requests.specs.Early.{with_banks}
 use Rattle.thread_slots.specs.Bits.{HasBit, HaveBits}
 use Rattle.thread_states.specs.Control.{Steers}
+use Rattle.thread_layout.specs.Leaf.{served_ports}
 use Rattle.thread_layout.specs.Modules.{caller_of, IsModule}
 use Rattle.thread_states.specs.Actions.{actions_of}
-use Rattle.thread_layout.specs.Thread.{cores_of, inputs_of, places_of, ports_of, IsServed}
+use Rattle.thread_layout.specs.Thread.{cores_of, inputs_of, places_of, IsServed}
+use Rattle.thread_layout.proofs.News.{word_told}
 use Rattle.thread_layout.proofs.Edges.{edge_stores, edge_stays, edge_keeps, edge_words, stage_next, state_next, beat_next, variable_next, kept_next, granted_next}
-use Rattle.thread_layout.proofs.Placed.{no_argument, first_stage, from_rest, zero_typed, stands_wide, stands_fits, wide_bit}
+use Rattle.thread_layout.proofs.Placed.{no_argument, first_stage, from_rest, stands_wide, stands_fits, wide_bit}
 use Rattle.thread_layout.proofs.Placed.{from_control, from_inside, from_start, from_words_heard, enable_at, enable_stands, grant_at}
 use Rattle.thread_layout.proofs.Placed.{grant_stands, stage_at, stage_stands, state_at, state_stands, beat_at, beat_stands, variable_held, kept_held, kept_within, variables_at}
 use Rattle.thread_layout.proofs.Placed.{kept_at, granted_at, mark_held, word_held, opens_count}
-use Rattle.operator_words.proofs.Typed.{residue_of-zero}
+use Rattle.operator_words.proofs.Typed.{residue_of-zero, has_zero}
 
 module _ (shape : Shape) (code : ThreadCode) (plan : Planned) (m : Module) (t : IsModule shape code plan m) (served : IsServed shape code plan) where
   -- the links of all stages and of the rest
@@ -378,7 +381,7 @@ module _ (shape : Shape) (code : ThreadCode) (plan : Planned) (m : Module) (t : 
 
       -- where a core is needed what is heard is what the slot has of the words of banks
       pub told_so : r.signal t.inside.early.need ≡ 1 → (grant : ℕ → Bool) →
-          HearsBanks shape.globals shape.spreads code plan m (places_of (inputs_of shape) code plan) (ports_of shape m) r q b p grant
+          HearsBanks shape.globals shape.spreads (served_ports shape m) r q b p grant
           → HasTold shape.globals t.inside.slot m r (λ l. q.words (bank_of shape.spreads l))
       told_so needed grant hears = record {
         fits = fits_told;
@@ -389,6 +392,7 @@ module _ (shape : Shape) (code : ThreadCode) (plan : Planned) (m : Module) (t : 
             let less : k < s.count = some_banks (residue_of 64 v) s.count power in
             let w = word_held shape code plan m t served x k s ty there declared less in
             let bank : bank_of shape.spreads (element x (pos (global_read s.length v))) ≡ s.first + k = bank_read shape.spreads x s there power s.length v in
+            let within : s.first + k ≤ bank_total shape.spreads = (let upto = served.spreads.within x s there in omega arith) in
             record {
               held = w.held;
               listed = w.listed;
@@ -396,7 +400,8 @@ module _ (shape : Shape) (code : ThreadCode) (plan : Planned) (m : Module) (t : 
               wide = w.heard.wide m (from_words_heard shape code plan m t served) ∙ w.own;
               shows =
                   w.heard.shows m r (from_words_heard shape code plan m t served) o ∙ ap (λ n. if nat_eq n 0 then 0 else r.signal w.told.register) needed
-                  ∙ ap r.signal w.at ∙ hears.words x k s ty there declared less ∙ ap (λ n. residue_of (width_of ty) (q.words n)) (sym bank);
+                  ∙ ap r.signal (w.at ∙ sym (word_told shape code plan m t served (s.first + k) within)) ∙ hears.words x k s ty there declared less
+                  ∙ ap (λ n. residue_of (width_of ty) (q.words n)) (sym bank);
               typed = subst (λ n. HasType ty (q.words n)) (sym bank) (hears.typed x k s ty there declared less);
             };
       }
@@ -418,6 +423,6 @@ module _ (shape : Shape) (code : ThreadCode) (plan : Planned) (m : Module) (t : 
               shows =
                   w.heard.shows m r (from_words_heard shape code plan m t served) o ∙ ap (λ n. if nat_eq n 0 then 0 else r.signal w.told.register) none
                   ∙ sym (residue_of-zero (width_of ty));
-              typed = zero_typed ty.width ty.signed;
+              typed = has_zero ty;
             };
       }

@@ -1,5 +1,5 @@
 -- Where what stands in the module of a thread, and the codes that it serves.
-use Rattle.std.specs.Prelude.{◌≡◌, ℕ, suc, ◌+◌, ◌<◌, ◌≤◌, ◌^◌, Bool, false, nat_eq, List, [], ◌∷◌, ◌++◌, length, map, replicate, take, Option, Some, None, slice_get}
+use Rattle.std.specs.Prelude.{◌≡◌, ℕ, ◌+◌, ◌<◌, ◌≤◌, ◌^◌, Bool, false, nat_eq, List, [], ◌∷◌, ◌++◌, length, map, replicate, take, Option, Some, None, slice_get}
 use Rattle.hls_ints.specs.Types.{IntegerType, width_of}
 use Rattle.bank_partition.specs.declared.banks.Spread.{Spread}
 use Rattle.block_ir.specs.declared.block.Operation.{Operation}
@@ -17,8 +17,7 @@ use Rattle.planned_view.specs.View.{register_at}
 use Rattle.netlist.specs.declared.netlist.Module.{Module}
 use Rattle.thread_promise.specs.Slots.{Places}
 use Rattle.thread_promise.specs.Globals.{IsSmallPower, bank_total}
-use Rattle.thread_promise.specs.Promise.{Ports}
-use Rattle.block_ir.specs.Asked.{Service, Mutexes, Barriers, Ids, Prints, Numbers, printer_core, Request as Call, request_of}
+use Rattle.block_ir.specs.Asked.{Service, Mutexes, Barriers, Ids, Prints, Numbers, Request as Call, request_of}
 use Rattle.thread_slots.specs.declared.shape.Printer.{Printer}
 use Rattle.thread_slots.specs.declared.shape.Served.{Served}
 use Rattle.thread_slots.specs.declared.shape.Service.{Service as Kind}
@@ -95,33 +94,12 @@ need_at shape m = first_output shape m + length (asks_of (core_ports shape))
 abbrev pub done_at : Shape → Module → ℕ
 done_at shape m = first_output shape m + (length (asks_of (core_ports shape)) + 1)
 
-abbrev pub ports_of : Shape → Module → Ports
-ports_of shape m = record {
-  enable = 1;
-  bank = λ n. record {
-    grant = 2 + n;
-    word = 2 + cores_of shape + n;
-    ask = port_at shape m n 0;
-    writes = port_at shape m n 1;
-    address = port_at shape m n 2;
-    value = port_at shape m n 3;
-  };
-  grant = 2 + printer_core (numbers_of shape);
-  ask = port_at shape m (printer_core (numbers_of shape)) 0;
-  site = port_at shape m (printer_core (numbers_of shape)) 1;
-  value = λ j. port_at shape m (printer_core (numbers_of shape)) (suc (suc j));
-  need = need_at shape m;
-  done = done_at shape m;
-}
-
 -- ---- codes that are spoken of
 
--- a printf that the printer can print, and that leads to a stage
-pub record IsPrintable (code : ThreadCode) (printer : Printer) (site : ℕ) (values : List ActOperand) (next : ℕ) : Type 0 where
+-- a printf that the printer can print
+pub record IsPrintable (printer : Printer) (site : ℕ) (values : List ActOperand) : Type 0 where
   pub site_fits : site < 2 ^ printer.site_width
   pub few : length values ≤ printer.values
-  pub typed : (j : ℕ) (v : ActOperand) → slice_get values j ≡ Some v → IsTypedActOperand code v
-  pub leads : next ≤ length code.stages
 
 -- globals have 1, 2, 4 or 8 banks each, one global's behind another's, and at most 2 ^ 63 elements
 pub record AreRightSpreads (globals : List IntegerType) (spreads : List Spread) : Type 0 where
@@ -144,7 +122,7 @@ pub record IsServed (shape : Shape) (code : ThreadCode) (plan : Planned) : Type 
       slice_get b.operations k ≡ Some o → register_at p.registers k ≡ Some x → x < plan.registers
   pub site_low : 1 ≤ shape.served.printer.site_width
   pub site_high : shape.served.printer.site_width ≤ 64
-  pub prints : (l site next : ℕ) (values : List ActOperand) → slice_get code.stages l ≡ Some (stage.Act (Print site values) next) → IsPrintable code shape.served.printer site values next
+  pub prints : (l site next : ℕ) (values : List ActOperand) → slice_get code.stages l ≡ Some (stage.Act (Print site values) next) → IsPrintable shape.served.printer site values
   -- acts lead to stages
   pub leads : (l : ℕ) (a : Act) (next : ℕ) → slice_get code.stages l ≡ Some (stage.Act a next) → (a ≡ Return → ⊥) → next ≤ length code.stages
   -- what acts name and hand over is of the types that it says

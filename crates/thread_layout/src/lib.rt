@@ -37,7 +37,7 @@
 // All of it together is `IsModule`. The slot of a reading: `stage`, `state` and `beat` are its numbers; a variable's register
 // shows a value of its type; a register of the plan shows, in its low bits, the value of each operation that is alive there in
 // this state, and whatever it likes where none is; a memory's words show the elements of its array; and a global's bit shows
-// whether its access in this state has been granted. The proofs here read such slots; the laws of `fsm_datapath` stand on them.
+// whether its access in this state has been granted. The proofs here read such slots; those of `fsm_datapath` stand on them.
 
 pub mod layout;
 mod telling;

@@ -1,9 +1,9 @@
 // What the cores of acts tell a thread that waits.
 
-ghost use Rattle.std.specs.Prelude.{◌≡◌, ◌+◌, slice_index, length, if◌then◌else◌, IfOk};
+ghost use Rattle.std.specs.Prelude.{◌≡◌, ◌+◌, length, if◌then◌else◌, IfOk};
 ghost use Rattle.thread_layout.specs.Telling.{LaysTold, TakesFirst};
 
-use block_datapath::registers::Held;
+use block_datapath::registers::{Held, place_at};
 use operator_wires::wires::Wires;
 use sqlite_items::Items;
 use std::alloc::{AllocError, Global};
@@ -35,8 +35,8 @@ pub fn lay_told(
     let barred = any_of(wires, never, both)?;
     Ok(Told {
         barred,
-        runs: pick(served.ids, heard_at(heard, served.barriers), never),
-        argument: pick(served.ids, heard_at(heard, last), nothing),
+        runs: pick(served.ids, place_at(heard, served.barriers), never),
+        argument: pick(served.ids, place_at(heard, last), nothing),
     })
 }
 
@@ -45,15 +45,9 @@ fn first_of(alloc: Global, places: &[usize], count: usize) -> Result<Items<usize
 {
     let mut first = Items::new(alloc);
     for number in 0..count {
-        first.push(heard_at(places, number))?;
+        first.push(place_at(places, number))?;
     }
     Ok(first)
-}
-
-fn heard_at(places: &[usize], number: usize) -> usize
-    ensures { result ≡ slice_index places.now number }
-{
-    places.get(number).copied().unwrap_or(0)
 }
 
 fn one_more(count: usize) -> Result<usize, AllocError>

@@ -51,6 +51,21 @@ pub record AsksCore (r : Reading) (enable : ℕ) (ports : CorePorts) (a : Asked)
 abbrev pub IsActCore : Numbers → ℕ → Type 0
 IsActCore N k = (N.banks ≤ k) × (k < suc (printer_core N))
 
+-- the slot is within a stage's block
+pub record IsInside (globals : List IntegerType) (spreads : List Spread) (code : ThreadCode) (plan : Planned) (places : Places)
+    (r : Reading) (q : Slot) (b : Block) (p : BlockPlan) : Type 0 where
+  pub runs : RunsAt globals spreads code plan q.stage b p
+  pub state : q.state < p.states
+  pub shown : ShowsInBlock globals code places b p r q
+
+-- what reaches the thread from banks: of each access that is still to be granted whether its bank grants it, and the words that the slot has
+pub record HearsBanks (globals : List IntegerType) (spreads : List Spread) (ports : Ports)
+    (r : Reading) (q : Slot) (b : Block) (p : BlockPlan) (grant : ℕ → Bool) : Type 0 where
+  pub grants : (k x : ℕ) (writes : Bool) → IsOpen spreads b p q k x writes → r.signal (ports.bank (bank_now spreads b p q k x)).grant ≡ bit_of (grant k)
+  pub words : (x n : ℕ) (s : Spread) (ty : IntegerType) → slice_get spreads x ≡ Some s → slice_get globals x ≡ Some ty → n < s.count →
+      r.signal (ports.bank (s.first + n)).word ≡ residue_of (width_of ty) (q.words (s.first + n))
+  pub typed : (x n : ℕ) (s : Spread) (ty : IntegerType) → slice_get spreads x ≡ Some s → slice_get globals x ≡ Some ty → n < s.count → HasType ty (q.words (s.first + n))
+
 module _ (globals : List IntegerType) (spreads : List Spread) (N : Numbers) (main : Bool) (routine : ℕ) (code : ThreadCode) (plan : Planned) (m : Module)
     (places : Places) (ports : Ports) where
   abbrev pub Shows : Reading → Slot → Type 0
@@ -59,18 +74,8 @@ module _ (globals : List IntegerType) (spreads : List Spread) (N : Numbers) (mai
   abbrev pub rest : ℕ
   rest = length code.stages
 
-  -- the slot is within a stage's block
-  pub record IsInside (r : Reading) (q : Slot) (b : Block) (p : BlockPlan) : Type 0 where
-    pub runs : RunsAt globals spreads code plan q.stage b p
-    pub state : q.state < p.states
-    pub shown : ShowsInBlock globals code places b p r q
-
-  -- what reaches the thread from banks: of each access that is still to be granted whether its bank grants it, and the words that the slot has
-  pub record HearsBanks (r : Reading) (q : Slot) (b : Block) (p : BlockPlan) (grant : ℕ → Bool) : Type 0 where
-    pub grants : (k x : ℕ) (writes : Bool) → IsOpen spreads b p q k x writes → r.signal (ports.bank (bank_now spreads b p q k x)).grant ≡ bit_of (grant k)
-    pub words : (x n : ℕ) (s : Spread) (ty : IntegerType) → slice_get spreads x ≡ Some s → slice_get globals x ≡ Some ty → n < s.count →
-        r.signal (ports.bank (s.first + n)).word ≡ residue_of (width_of ty) (q.words (s.first + n))
-    pub typed : (x n : ℕ) (s : Spread) (ty : IntegerType) → slice_get spreads x ≡ Some s → slice_get globals x ≡ Some ty → n < s.count → HasType ty (q.words (s.first + n))
+  abbrev pub Inside : Reading → Slot → Block → BlockPlan → Type 0
+  Inside = IsInside globals spreads code plan places
 
   -- what the stage of the slot asks
   abbrev pub asks_now : Slot → Option Asked
@@ -88,17 +93,17 @@ module _ (globals : List IntegerType) (spreads : List Spread) (N : Numbers) (mai
     -- whoever is not enabled stays
     pub rests : (r : Reading) → Obeys m r → r.signal ports.enable ≡ 0 → Agree m r (next_reading m r)
     -- in a state of a block it asks, where it is enabled, the bank of each access that is still to be granted, and no other one
-    pub asks : (r : Reading) (q : Slot) (b : Block) (p : BlockPlan) → Obeys m r → IsInside r q b p → (k x : ℕ) (writes : Bool) (s : Spread) (ty : IntegerType) →
+    pub asks : (r : Reading) (q : Slot) (b : Block) (p : BlockPlan) → Obeys m r → Inside r q b p → (k x : ℕ) (writes : Bool) (s : Spread) (ty : IntegerType) →
         IsOpen spreads b p q k x writes → slice_get spreads x ≡ Some s → slice_get globals x ≡ Some ty →
         AsksBank r ports.enable (ports.bank (bank_now spreads b p q k x)) s (place_now spreads b p q k x).index writes (residue_of (width_of ty) (written_now spreads b p q k))
-    pub asks_none : (r : Reading) (q : Slot) (b : Block) (p : BlockPlan) (n : ℕ) → Obeys m r → IsInside r q b p → n < bank_total spreads →
+    pub asks_none : (r : Reading) (q : Slot) (b : Block) (p : BlockPlan) (n : ℕ) → Obeys m r → Inside r q b p → n < bank_total spreads →
         ((k x : ℕ) (writes : Bool) → IsOpen spreads b p q k x writes → bank_now spreads b p q k x ≡ n → ⊥) → r.signal (ports.bank n).ask ≡ 0
     -- elsewhere it asks no bank
     pub asks_outside : (r : Reading) (q : Slot) (n : ℕ) → Obeys m r → Shows r q → is_run (slice_get code.stages q.stage) ≡ false → n < bank_total spreads →
         r.signal (ports.bank n).ask ≡ 0
     -- a state of a block does what the planned block says under these grants: once all its requests are granted it is left, for the next one or
     -- for another stage; till then grants are remembered
-    pub moves : (memory : Memory ℤ) (grant : ℕ → Bool) (r : Reading) (q : Slot) (b : Block) (p : BlockPlan) → Obeys m r → IsInside r q b p → HearsBanks r q b p grant →
+    pub moves : (memory : Memory ℤ) (grant : ℕ → Bool) (r : Reading) (q : Slot) (b : Block) (p : BlockPlan) → Obeys m r → Inside r q b p → HearsBanks globals spreads ports r q b p grant →
         r.signal ports.enable ≡ 1 →
         ((is_ready (planned_view b) (plan_view b p) q grant ≡ true → suc q.state < p.states) →
         ShowsInBlock globals code places b p (next_reading m r) (advance (bank_of spreads) (planned_view b) (plan_view b p) q memory grant))

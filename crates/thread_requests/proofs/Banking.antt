@@ -1,35 +1,33 @@
 -- What each bank is asked, by what is asked of its global: lemmas of each function that adds a part.
-use Rattle.std.proofs.Common.{◌≡◌, ◌≢◌, ℕ, zero, suc, ◌+◌, ◌-◌, ◌/◌, ◌%◌, ◌^◌, ◌<◌, ◌≤◌, nat_eq, Bool, true, false, if◌then◌else◌, List, [], ◌∷◌, ◌++◌, length, take, Option}
-use Rattle.std.proofs.Common.{Some, None, slice_get, slice_index, refl, sym, ap, subst, ◌∙◌, arith, ⊎_elim, length-append, add-one}
+use Rattle.std.proofs.Common.{◌≡◌, ◌≢◌, ℕ, zero, suc, ◌+◌, ◌-◌, ◌/◌, ◌%◌, ◌^◌, ◌<◌, ◌≤◌, nat_eq, Bool, true, false, if◌then◌else◌, List, [], ◌∷◌, ◌++◌, length, take}
+use Rattle.std.proofs.Common.{Some, slice_get, slice_index, refl, sym, ap, subst, ◌∙◌, arith, ⊎_elim, length-append}
 use Rattle.std.specs.Prelude.{replicate}
-use Rattle.std.proofs.lemmas.Bool.{cases_lt, cases_eq}
+use Rattle.std.proofs.lemmas.Bool.{cases_eq}
 use Rattle.std.proofs.lemmas.Nat.{pow_pos, mod_below}
 use Rattle.std.proofs.lemmas.List.{length-replicate, get_or-replicate, get_or-append-add, get_or_append_left, get_or_push, take_all}
 use Rattle.std.proofs.lemmas.Option.{slice_get_within, get_or_from_slice_get, slice_get-get_or}
 use Rattle.lists.proofs.Places.{get_last, get_front, get_there, copies_are}
-use Rattle.planned_block.proofs.Bits.{same_is, other_is}
+use Rattle.planned_block.proofs.Bits.{same_is}
 use Rattle.hls_ints.specs.Residues.{bit_of}
 use Rattle.hls_ints.specs.Words.{word_equal}
 use Rattle.bank_partition.specs.declared.banks.Spread.{Spread}
 use Rattle.netlist.specs.declared.netlist.Value.TheVariants.{Select, Constant}
 use Rattle.netlist.specs.declared.netlist.Signal.{Signal}
-use Rattle.netlist.specs.declared.netlist.Module.{Module}
-use Rattle.verilog_meaning.specs.Readings.{Reading, width, value}
-use Rattle.circuit.specs.Modules.{Obeys}
-use Rattle.operator_wires.specs.Gives.{Grows, Gives}
-use Rattle.operator_wires.specs.Built.{Base, IsEarlier, AreWires, Adds}
+use Rattle.verilog_meaning.specs.Readings.{width, value}
+use Rattle.operator_wires.specs.Gives.{Gives}
+use Rattle.operator_wires.specs.Built.{Base, IsEarlier, Adds}
 use Rattle.operator_wires.specs.Added.{IsAdded, ConstantAdds, NumberAdds, ChoiceAdds}
 use Rattle.operator_wires.proofs.Giving.{grows_refl, grows_then, listed}
-use Rattle.operator_wires.proofs.Building.{room_of, longer, stands_after, wires_none, wires_then}
+use Rattle.operator_wires.proofs.Building.{room_of, stands_after, wires_none, wires_then}
+use Rattle.operator_wires.proofs.Bits.{chosen_by}
 use Rattle.block_datapath.specs.Globals.{IsSmallPower, bank_total}
 use Rattle.block_datapath.specs.declared.registers.Held.{Held}
 use Rattle.block_datapath.specs.declared.requests.BankRequests.{BankRequests}
 use Rattle.block_datapath.specs.Wired.{HasWidthAt, AreChains}
-use Rattle.block_datapath.specs.Requests.{AddressesBank, AreAsMany, AreBankChains, AddsBankLinks}
+use Rattle.block_datapath.specs.Requests.{AddressesBank}
 use Rattle.block_datapath.proofs.Chaining.{equal_small}
 use Rattle.block_datapath.proofs.Linking.{chains_after}
-use Rattle.thread_slots.specs.Bits.{AddsBits, AreBitsOf}
-use Rattle.thread_requests.specs.Banks.{own_bank, AreOneEach, bank_number, IsNever, wanted_at, HasBits, AreChosen, AreOwnWants, AreWants, AddsLongs, AreAddresses, AreSpread}
+use Rattle.thread_requests.specs.Banks.{own_bank, AreOneEach, bank_number, IsNever, wanted_at, AreChosen, AreOwnWants, AreWants, AreAddresses}
 use Rattle.thread_requests.specs.Banks.{SpreadsRequests}
 use Rattle.thread_requests.specs.Early.{spread_out}
 use Rattle.thread_requests.proofs.Spreading.{total_next, total_within, spread_there, spread_count, spread_at}
@@ -116,11 +114,6 @@ chosen_none a want last never bits l e = record {
   wired = λ base n one two three. record { wires = wires_none base a; stand = λ k y h. absurd (let none : slice_get [] k ≡ Some y = ap (λ z. slice_get z k) (sym e) ∙ h in cc) };
 }
 
--- what a choice shows, by the bit of a number
-choice_is : (t : Bool) (one other : ℕ) → (if nat_eq (bit_of t) 0 then other else one) ≡ (if t then one else other)
-choice_is true one other = refl
-choice_is false one other = refl
-
 pub chosen_more : (a b c d : List Signal) (want last never bits n is place : ℕ) (l after : List ℕ) → AreChosen a b want last never bits n l
     → Gives b c is 1 (λ m r. word_equal (width m last) (r.signal last) n) → NumberAdds b c bits last n is
     → Gives c d place 1 (λ m r. if nat_eq (r.signal is) 0 then r.signal never else r.signal want) → ChoiceAdds c d 1 is want never place
@@ -136,7 +129,7 @@ chosen_more a b c d want last never bits n is place l after t number number_wire
       ap r.signal (ap (λ v. slice_index v k) same ∙ ap (slice_index (l ++ place ∷ [])) (e ∙ sym t.count) ∙ get_or_push l place 0 (length l) refl)
       ∙ choice.shows m r g o
       ∙ ap (λ i. if nat_eq i 0 then r.signal never else r.signal want) bit
-      ∙ choice_is (nat_eq (r.signal last) n) (r.signal want) (r.signal never)
+      ∙ chosen_by (nat_eq (r.signal last) n) (r.signal want) (r.signal never)
       ∙ ap (λ j. if nat_eq (r.signal last) j then r.signal want else r.signal never) (sym e))
       (λ (ne : k ≢ n).
       let less' : k < n = omega arith in

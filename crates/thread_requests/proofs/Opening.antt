@@ -99,10 +99,10 @@ module _ (q : Request) (count : ℕ) (a b : List Signal) (o : Objects) (t : Open
 -- ---- all cores that acts ask
 
 -- bits of two lists stand
-bits_then : (base : Base) (a : List Signal) (xs ys : List ℕ) → AreBitsOf base a xs → AreBitsOf base a ys → AreBitsOf base a (xs ++ ys)
-bits_then base a [] ys t u k x e = u k x e
-bits_then base a (z ∷ xs) ys t u zero x e = t zero x e
-bits_then base a (z ∷ xs) ys t u (suc k) x e = bits_then base a xs ys (λ j y there. t (suc j) y there) u k x e
+pub stand_joined : (base : Base) (a : List Signal) (xs ys : List ℕ) → AreBitsOf base a xs → AreBitsOf base a ys → AreBitsOf base a (xs ++ ys)
+stand_joined base a [] ys t u k x e = u k x e
+stand_joined base a (z ∷ xs) ys t u zero x e = t zero x e
+stand_joined base a (z ∷ xs) ys t u (suc k) x e = stand_joined base a xs ys (λ j y there. t (suc j) y there) u k x e
 
 bits_one : (base : Base) (a : List Signal) (x : ℕ) → IsEarlier a base x 1 → AreBitsOf base a (x ∷ [])
 bits_one base a x t zero y e = let same : x ≡ y = cc in subst (λ z. IsEarlier a base z 1) same t
@@ -111,9 +111,6 @@ bits_one base a x t (suc k) y e = absurd cc
 bits_if : (base : Base) (a : List Signal) (ids : Bool) (x : ℕ) → IsEarlier a base x 1 → AreBitsOf base a (if_ids ids (x ∷ []))
 bits_if base a true x t = bits_one base a x t
 bits_if base a false x t = λ k y e. absurd cc
-
-pub stand_joined : (base : Base) (a : List Signal) (xs ys : List ℕ) → AreBitsOf base a xs → AreBitsOf base a ys → AreBitsOf base a (xs ++ ys)
-stand_joined base a xs ys t u = bits_then base a xs ys t u
 
 pub acts_opened : (served : Served) (requests : Requests) (a b c : List Signal) (mutexes barriers : Objects) (acts : Acts) → OpensObjects requests.mutex served.mutexes a b mutexes
     → OpensObjects requests.barrier served.barriers b c barriers
@@ -153,9 +150,9 @@ acts_opened served requests a b c mutexes barriers acts t u opens names = record
       record {
         wires = wires_then base a b c p.wires k.wires;
         opens = subst (AreBitsOf base c) (sym opens)
-            (bits_then base c mutexes.opens _ (of_bits_later base b c mutexes.opens k.wires.grows p.opens)
-            (bits_then base c barriers.opens _ k.opens
-            (bits_then base c (if_ids served.ids (requests.ids.wants ∷ [])) (requests.print.wants ∷ []) (bits_if base c served.ids requests.ids.wants (in_c Ids))
+            (stand_joined base c mutexes.opens _ (of_bits_later base b c mutexes.opens k.wires.grows p.opens)
+            (stand_joined base c barriers.opens _ k.opens
+            (stand_joined base c (if_ids served.ids (requests.ids.wants ∷ [])) (requests.print.wants ∷ []) (bits_if base c served.ids requests.ids.wants (in_c Ids))
             (bits_one base c requests.print.wants (in_c Prints)))));
         barriers = subst (AreBitsOf base c) (sym names) k.barriers;
       };

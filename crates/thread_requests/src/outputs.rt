@@ -6,7 +6,7 @@ ghost use Rattle.thread_slots.specs.Services.{service_of};
 ghost use Rattle.thread_requests.specs.Outputs.{LaysRows, LaysDone, LaysOutputs, AreNumbered};
 ghost use Rattle.thread_requests.specs.Outputs.{joined, row_of, request_row, bank_rows, rows_from, fields_from, act_rows, acts_from, rows_of};
 
-use block_datapath::registers::Held;
+use block_datapath::registers::{Held, place_at};
 use block_datapath::requests::BankRequests;
 use operator_wires::wires::{Role, Wires};
 use sqlite_items::Items;
@@ -143,13 +143,6 @@ fn add_banks(
         add_bank(rows, word.width, ask, writes, address, value)?;
     }
     Ok(())
-}
-
-/// The place of a number, or 0.
-pub fn place_at(places: &[usize], number: usize) -> usize
-    ensures { result ≡ slice_index places.now number }
-{
-    places.get(number).copied().unwrap_or(0)
 }
 
 /// Whether a bank is asked, whether it is to write, the address, and what it writes.

@@ -20,6 +20,8 @@ use Rattle.operator_wires.specs.declared.wires.Role.TheVariants.{Wire}
 use Rattle.operator_wires.specs.Built.{Base, Lays, IsEarlier, Adds}
 use Rattle.operator_wires.proofs.Giving.{grows_refl, grows_then}
 use Rattle.operator_wires.proofs.Building.{stands_after, wires_none, wires_then}
+use Rattle.operator_wires.proofs.Bits.{and_bits, or_bits}
+use Rattle.operator_wires.proofs.Typed.{complement_of_bit}
 use Rattle.planned_block.specs.Advance.{any_below}
 use Rattle.block_datapath.proofs.Chaining.{equal_small}
 use Rattle.thread_slots.specs.Slots.{StandsAt}
@@ -28,28 +30,12 @@ use Rattle.thread_slots.proofs.Laying.{stands_last, stands_grow, stands_long, st
 
 -- ---- one bit
 
-and_bits : (t u : Bool) → word_and 1 (bit_of t) (bit_of u) ≡ bit_of (t && u)
-and_bits true true = refl
-and_bits true false = refl
-and_bits false true = refl
-and_bits false false = refl
-
-or_bits : (t u : Bool) → word_inclusive_or 1 (bit_of t) (bit_of u) ≡ bit_of (t || u)
-or_bits true true = refl
-or_bits true false = refl
-or_bits false true = refl
-or_bits false false = refl
-
-not_bit : (t : Bool) → word_complement 1 (bit_of t) ≡ bit_of (not t)
-not_bit true = refl
-not_bit false = refl
-
 pub has_not : (a b : List Signal) (place of : ℕ) (t : Gives a b place 1 (λ m r. word_complement (width m of) (r.signal of))) (m : Module) (r : Reading) (x : Bool) →
     Grows b m.signals → Obeys m r
     → HasBit m r of x → HasBit m r place (not x)
 has_not a b place of t m r x g o has = record {
   wide = t.wide m g;
-  shows = t.shows m r g o ∙ ap (λ w. word_complement w (r.signal of)) has.wide ∙ ap (word_complement 1) has.shows ∙ not_bit x;
+  shows = t.shows m r g o ∙ ap (λ w. word_complement w (r.signal of)) has.wide ∙ ap (word_complement 1) has.shows ∙ complement_of_bit x;
 }
 
 pub has_both : (a b : List Signal) (place left right : ℕ) (t : Gives a b place 1 (λ m r. word_and (width m left) (r.signal left) (r.signal right))) (m : Module) (r : Reading)

@@ -1,5 +1,5 @@
 -- One more link of a chain.
-use Rattle.std.proofs.Common.{◌≡◌, ℕ, ◌<◌, ◌≤◌, Bool, true, false, ◌||◌, List, length, refl, sym, ap, ◌∙◌, arith, ⊎_elim}
+use Rattle.std.proofs.Common.{◌≡◌, ℕ, ◌<◌, ◌≤◌, List, length, sym, ap, ◌∙◌, arith, ⊎_elim}
 use Rattle.std.proofs.lemmas.List.{get_or_past}
 use Rattle.std.proofs.lemmas.Bool.{cases_lt}
 use Rattle.netlist.specs.declared.netlist.Signal.{Signal}
@@ -9,6 +9,7 @@ use Rattle.hls_ints.specs.Residues.{bit_of}
 use Rattle.hls_ints.specs.Words.{word_inclusive_or}
 use Rattle.circuit.specs.Modules.{Obeys}
 use Rattle.operator_wires.specs.Gives.{Grows, Gives}
+use Rattle.operator_wires.proofs.Bits.{or_bits}
 use Rattle.block_datapath.specs.declared.registers.Registers.{Registers}
 use Rattle.block_datapath.specs.Chains.{next_number, TellsStage}
 use Rattle.block_datapath.specs.Leave.{HasStage}
@@ -18,12 +19,6 @@ use Rattle.thread_slots.specs.Links.{AddsBit}
 use Rattle.thread_slots.specs.Slots.{KnowsStage}
 
 -- ---- bits
-
-or_bits : (t u : Bool) → word_inclusive_or 1 (bit_of t) (bit_of u) ≡ bit_of (t || u)
-or_bits true true = refl
-or_bits true false = refl
-or_bits false true = refl
-or_bits false false = refl
 
 pub bit_added : (a b : List Signal) (before after condition : ℕ) → Gives a b after 1 (λ m r. word_inclusive_or (width m before) (r.signal before) (r.signal condition))
     → AddsBit b before after condition

@@ -1,25 +1,23 @@
 -- Chains through the stages of acts: their links stand.
-use Rattle.std.proofs.Common.{◌≡◌, ℕ, ◌+◌, ◌<◌, ◌≤◌, ◌^◌, List, length, Some, sym, ap, subst, ◌∙◌, arith}
-use Rattle.std.specs.Prelude.{Result, Ok, Err, IfOk, OnOk, slice_get}
+use Rattle.std.proofs.Common.{◌≡◌, ℕ, ◌+◌, ◌<◌, ◌≤◌, ◌^◌, List, length, Option, Some, None, sym, ap, subst, ◌∙◌, arith}
+use Rattle.std.specs.Prelude.{slice_get}
 use Rattle.std.proofs.lemmas.Option.{slice_get_within}
 use Rattle.circuit.specs.Rows.{spread}
 use Rattle.circuit.proofs.Growth.{length-spread, slice_get-spread}
 use Rattle.block_ir.specs.declared.code.ThreadCode.{ThreadCode}
+use Rattle.block_ir.specs.declared.plan.BlockPlan.{BlockPlan}
+use Rattle.block_ir.specs.declared.plan.StagePlan.{StagePlan}
+use Rattle.block_ir.specs.declared.plan.StagePlan.TheVariants as planned
 use Rattle.netlist.specs.declared.netlist.Signal.{Signal}
 use Rattle.operator_wires.specs.Built.{Base, IsEarlier, Adds}
 use Rattle.block_datapath.specs.declared.registers.Held.{Held}
 use Rattle.block_datapath.specs.declared.registers.Registers.{Registers}
 use Rattle.thread_slots.specs.Wired.{field_width, AreSlots}
 
--- ---- two facts of an answer
+-- ---- no plan
 
-pub on_two : {A E : Type 0} (x : Result A E) (P Q R : Type 0) → (P → Q → R) → OnOk x P → OnOk x Q → OnOk x R
-on_two (Ok a) P Q R h p q = h p q
-on_two (Err e) P Q R h p q = tt
-
-pub of_two : {A E : Type 0} (x : Result A E) (P Q R : A → Type 0) → ((a : A) → P a → Q a → R a) → IfOk x P → IfOk x Q → IfOk x R
-of_two (Ok a) P Q R h p q = h a p q
-of_two (Err e) P Q R h p q = tt
+pub none_planned : (listed : Option StagePlan) (p : BlockPlan) → listed ≡ None → listed ≡ Some (planned.Run p) → ⊥
+none_planned listed p none some = let both : None ≡ Some (planned.Run p) = sym none ∙ some in absurd cc
 
 -- ---- what is asked of wires
 

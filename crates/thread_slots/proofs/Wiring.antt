@@ -14,7 +14,7 @@ use Rattle.operator_wires.specs.declared.wires.Role.{Role}
 use Rattle.operator_wires.specs.declared.wires.Role.TheVariants.{Clock, Enable, Need, Done, Beat, Grant, Told, Ask, Field, Stage, State, Granted, Variable, Kept, Wire}
 use Rattle.operator_wires.specs.Gives.{Grows}
 use Rattle.operator_wires.specs.Built.{is_single, name_at, Lays}
-use Rattle.operator_wires.proofs.Building.{front}
+use Rattle.operator_wires.proofs.Building.{front, only_last}
 use Rattle.netlist.specs.NetlistOf.{Name}
 use Rattle.verilog_meaning.specs.Names.{numbered}
 use Rattle.block_datapath.specs.declared.registers.Held.{Held}
@@ -70,12 +70,6 @@ name_differs Kept x j e = first_differs Kept x j 107 refl (omega arith) e
 name_differs Wire x j e = first_differs Wire x j 119 refl (omega arith) e
 
 -- ---- signals behind others
-
-only_last : (a : List Signal) (t s : Signal) (x : ℕ) → length a ≤ x → slice_get (a ++ t ∷ []) x ≡ Some s → (x ≡ length a) × (t ≡ s)
-only_last [] t s zero l e = (refl, (let same : t ≡ s = cc in same))
-only_last [] t s (suc x) l e = absurd cc
-only_last (y ∷ a) t s zero l e = absurd (omega arith)
-only_last (y ∷ a) t s (suc x) l e = let rest = only_last a t s x (omega arith) e in (ap suc rest.0, rest.1)
 
 pub laid_grows : (a b : List Signal) (role : Role) (w place : ℕ) (out : Bool) (d : Source) → Lays a b role w out d place → Grows a b
 laid_grows a b role w place out d t = record { more = t.signal ∷ []; is = t.is }

@@ -1,6 +1,5 @@
 -- The links of the rest: main stays there, another thread sets out.
 use Rattle.std.proofs.Common.{◌≡◌, ℕ, ◌<◌, Bool, true, false, not, ◌&&◌, nat_eq, if◌then◌else◌, List, length, Some, None, refl, sym, ap, subst, ◌∙◌, arith}
-use Rattle.hls_ints.specs.Residues.{bit_of}
 use Rattle.block_ir.specs.declared.code.ThreadCode.{ThreadCode}
 use Rattle.netlist.specs.declared.netlist.Signal.{Signal}
 use Rattle.netlist.specs.declared.netlist.Module.{Module}
@@ -8,6 +7,7 @@ use Rattle.verilog_meaning.specs.Readings.{width}
 use Rattle.operator_wires.specs.Gives.{Grows}
 use Rattle.operator_wires.proofs.Giving.{grows_refl, grows_then}
 use Rattle.operator_wires.proofs.Building.{stands_after, wires_none, wires_then}
+use Rattle.operator_wires.proofs.Bits.{set_bit}
 use Rattle.planned_block.proofs.Bits.{same_is, other_is}
 use Rattle.thread_promise.specs.Moves.{is_variable}
 use Rattle.block_datapath.specs.declared.registers.Registers.{Registers}
@@ -26,10 +26,6 @@ use Rattle.thread_states.proofs.Between.{chains_of, links_of}
 use Rattle.thread_states.proofs.Linking.{bits_later, same_then}
 
 -- ---- the argument
-
-set_bit : (t : Bool) → not (nat_eq (bit_of t) 0) ≡ t
-set_bit true = refl
-set_bit false = refl
 
 pub no_argument : (registers : Registers) (number argument : ℕ) (a : List Signal) (before : List ℕ) → TakesArgument registers None number argument a a before before
 no_argument registers number argument a before = record {

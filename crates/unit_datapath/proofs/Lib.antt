@@ -1,4 +1,3 @@
-pub mod Answering
 pub mod Wording
 pub mod Working
 pub mod Inputting

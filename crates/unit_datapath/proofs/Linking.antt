@@ -1,6 +1,6 @@
 -- A link of a unit for each operation: lemmas of each function that adds some.
 use Rattle.std.proofs.Common.{◌≡◌, ◌≢◌, ℕ, ◌+◌, ◌^◌, ◌<◌, ◌≤◌, nat_eq, Bool, true, false, not, ◌||◌, max, List, length, Option, Some, slice_get, slice_index, ℤ}
-use Rattle.std.proofs.Common.{refl, sym, ap, subst, ◌∙◌, arith, ⊎_elim, inl, inr, if◌then◌else◌}
+use Rattle.std.proofs.Common.{refl, sym, ap, subst, ◌∙◌, arith, ⊎_elim, inl, inr}
 use Rattle.std.proofs.lemmas.Nat.{pow_pos}
 use Rattle.std.proofs.lemmas.Option.{slice_get_within}
 use Rattle.std.proofs.lemmas.Bool.{or_parts, cases_eq}
@@ -24,7 +24,7 @@ use Rattle.block_ir.specs.declared.plan.StagePlan.TheVariants as planned
 use Rattle.block_ir.specs.declared.plan.Planned.{Planned}
 use Rattle.planned_block.specs.Block.{Operation as PlannedOperation, operand_value, operation_at, size, Uses, UsesIn}
 use Rattle.planned_block.specs.Plan.{further_states, is_simple, last_state}
-use Rattle.planned_block.specs.Slot.{Slot, value_now, operand_now, register_value}
+use Rattle.planned_block.specs.Slot.{Slot, value_now, operand_now}
 use Rattle.planned_block.proofs.Bits.{same_is, other_is}
 use Rattle.planned_view.specs.View.{operand_view, planned_view, plan_view, register_at}
 use Rattle.netlist.specs.declared.netlist.Signal.{Signal}
@@ -37,6 +37,7 @@ use Rattle.operator_wires.specs.Built.{IsEarlier}
 use Rattle.operator_wires.specs.Added.{NumberAdds}
 use Rattle.operator_wires.proofs.Giving.{grows_refl, grows_then}
 use Rattle.operator_wires.proofs.Building.{stands_after, wires_none, wires_then}
+use Rattle.operator_wires.proofs.Bits.{set_bit}
 use Rattle.block_datapath.specs.Types.{value_type, IsTypedSource, IsTypedOperand}
 use Rattle.block_datapath.specs.declared.registers.Registers.{Registers}
 use Rattle.block_datapath.specs.declared.states.Moment.{Moment}
@@ -44,8 +45,7 @@ use Rattle.block_datapath.specs.Seen.{IsKept}
 use Rattle.block_datapath.specs.Operations.{SeesSlot}
 use Rattle.block_datapath.specs.Chains.{is_set, IsMoment, TellsStage}
 use Rattle.block_datapath.specs.Leave.{IsInStage}
-use Rattle.block_datapath.proofs.Chaining.{set_bit}
-use Rattle.block_datapath.proofs.Walking.{listed_view, within_view, uses_source}
+use Rattle.block_datapath.proofs.Walking.{listed_view, within_view, uses_source, register_later}
 use Rattle.block_datapath.proofs.Wiring.{registers_after}
 use Rattle.unit_datapath.specs.declared.kinds.UnitKind.{UnitKind}
 use Rattle.unit_datapath.specs.declared.inputs.UnitInputs.{UnitInputs}
@@ -189,13 +189,6 @@ module _ (code : ThreadCode) (registers : Registers) (kind : UnitKind) (p : Bloc
 module _ (globals : List IntegerType) (code : ThreadCode) (registers : Registers) (b : Block) (p : BlockPlan) (right : IsWorkRight globals code b p) (m : Module) (r : Reading)
     (q : Slot)
     (wire : ℕ → ℤ) (sees : SeesSlot globals code registers b p m r q) where
-  register_later : (j x : ℕ) → last_state (planned_view b) (plan_view b p) j < q.state → (plan_view b p).register j ≡ Some x →
-      value_now (planned_view b) (plan_view b p) q wire j ≡ q.registers x
-  register_later j x less e =
-      ap (λ (c : Bool). if c then wire j else register_value q.registers ((plan_view b p).register j))
-      (other_is (last_state (planned_view b) (plan_view b p) j) q.state (λ same. absurd (omega arith)))
-      ∙ ap (register_value q.registers) e
-
   module _ (n : ℕ) (below : n < size (planned_view b)) (slow : is_simple (operation_at (planned_view b) n).kind ≡ false) (from : (plan_view b p).start n ≤ q.state)
       (to : q.state ≤ last_state (planned_view b) (plan_view b p) n) where
     value_held : (j : ℕ) (o : Operation) → Uses (operation_at (planned_view b) n) j → slice_get b.operations j ≡ Some o →
@@ -210,7 +203,7 @@ module _ (globals : List IntegerType) (code : ThreadCode) (registers : Registers
         let kept : IsKept m r registers (Some has.0) (value_type globals code o) (q.registers has.0) =
         sees.alive j has.0 (record { operation = o; listed = listed; register = has.1; past = before; used = alive })
         in
-        subst (λ (z : ℤ). IsKept m r registers (register_at p.registers j) (value_type globals code o) z) (sym (register_later j has.0 before has.1))
+        subst (λ (z : ℤ). IsKept m r registers (register_at p.registers j) (value_type globals code o) z) (sym (register_later b p q wire j has.0 before has.1))
         (subst (λ (z : Option ℕ). IsKept m r registers z (value_type globals code o) (q.registers has.0)) (sym has.1) kept)
 
     source_held : (source : Source) → IsTypedSource globals code b.operations source → ((j : ℕ) (ty : IntegerType) → source ≡ Value j ty →

@@ -1,5 +1,5 @@
 -- Whether an operation is at work: one state after the other.
-use Rattle.std.proofs.Common.{◌≡◌, ℕ, ◌+◌, ◌^◌, ◌<◌, nat_eq, Bool, true, false, ◌||◌, List, refl, ap, subst, ◌∙◌, arith}
+use Rattle.std.proofs.Common.{◌≡◌, ℕ, ◌+◌, ◌^◌, ◌<◌, nat_eq, true, ◌||◌, List, ap, subst, ◌∙◌, arith}
 use Rattle.hls_ints.specs.Residues.{bit_of}
 use Rattle.hls_ints.specs.Words.{word_inclusive_or}
 use Rattle.netlist.specs.declared.netlist.Signal.{Signal}
@@ -8,17 +8,12 @@ use Rattle.operator_wires.specs.Gives.{Gives}
 use Rattle.operator_wires.specs.Added.{BothAdds}
 use Rattle.operator_wires.proofs.Giving.{grows_then}
 use Rattle.operator_wires.proofs.Building.{stands_after, wires_then, adds_after}
+use Rattle.operator_wires.proofs.Bits.{or_bits}
 use Rattle.block_datapath.specs.declared.registers.Registers.{Registers}
 use Rattle.block_datapath.specs.declared.states.Moment.{Moment}
 use Rattle.block_datapath.specs.Chains.{TellsState}
 use Rattle.block_datapath.specs.Wired.{IsStateBit}
 use Rattle.unit_datapath.specs.States.{is_within, TellsWork}
-
-or_bits : (t u : Bool) → word_inclusive_or 1 (bit_of t) (bit_of u) ≡ bit_of (t || u)
-or_bits true true = refl
-or_bits true false = refl
-or_bits false true = refl
-or_bits false false = refl
 
 within_one : (start s : ℕ) → nat_eq s start ≡ is_within start 0 s
 within_one start s = grind arith

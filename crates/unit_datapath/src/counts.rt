@@ -4,9 +4,9 @@ ghost use Rattle.std.specs.Prelude.{◌≡◌, ◌≤◌, ◌⊎◌, ◌&&◌, n
 ghost use Rattle.block_datapath.specs.Units.{same_operator, same_type, unit_type, has_constant};
 ghost use Rattle.unit_datapath.specs.Counts.{IsCountOf, OperationHas, BlockHas, StageHas, CodeHas};
 
-use crate::kinds::{is_type, same_operator};
+use crate::kinds::is_type;
 use block_datapath::operations::unit_of;
-use block_datapath::units::has_constant;
+use block_datapath::units::{has_constant, same_operator};
 use block_ir::block::{Block, Operation};
 use block_ir::code::{Stage, ThreadCode};
 use block_ir::operand::Operand;

@@ -4,7 +4,7 @@ ghost use Rattle.std.specs.Prelude.{◌≡◌, ℕ, true, false, length, replica
 ghost use Rattle.unit_datapath.specs.Inputs.{is_begun, BeginsInputs, LinksUnit, LinksBegun};
 
 use block_datapath::registers::set_next;
-use block_datapath::requests::zeros;
+use block_datapath::requests::{equal_widths, zeros};
 use operator_wires::wires::Wires;
 use sqlite_items::Items;
 use std::alloc::{AllocError, Global};
@@ -33,12 +33,6 @@ impl UnitInputs {
             rights,
         })
     }
-}
-
-fn equal_widths(alloc: Global, count: usize, width: u64) -> Result<Items<u64>, AllocError>
-    ensures { IfOk result (λ widths. widths ≡ replicate count width) }
-{
-    Ok(Items::from_vec(vec![in alloc; width; count]?))
 }
 
 fn none_begun(alloc: Global, count: usize) -> Result<Items<bool>, AllocError>

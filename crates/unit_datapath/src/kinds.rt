@@ -3,7 +3,7 @@
 ghost use Rattle.std.specs.Prelude.{◌≡◌, ◌&&◌, nat_eq, not};
 ghost use Rattle.std.specs.Bool.{beq};
 ghost use Rattle.hls_ints.specs.Types.{width_of};
-ghost use Rattle.block_datapath.specs.Units.{same_operator, has_constant};
+ghost use Rattle.block_datapath.specs.Units.{has_constant};
 ghost use Rattle.unit_datapath.specs.Kinds.{is_of, is_shared, is_work};
 
 use block_datapath::units::has_constant;
@@ -61,18 +61,6 @@ pub fn is_work(kind: &UnitKind, operation: &Operation) -> bool
             left,
             right,
         } => is_shared(kind, *operator, *ty, left, right),
-        _ => false,
-    }
-}
-
-/// Whether the operators are the same, and one that has units.
-pub fn same_operator(left: BinaryOperator, right: BinaryOperator) -> bool
-    ensures { result ≡ same_operator left right }
-{
-    match (left, right) {
-        (BinaryOperator::Multiply, BinaryOperator::Multiply) => true,
-        (BinaryOperator::Divide, BinaryOperator::Divide) => true,
-        (BinaryOperator::Remainder, BinaryOperator::Remainder) => true,
         _ => false,
     }
 }

@@ -1,9 +1,10 @@
 // The operators of units.
 
-ghost use Rattle.std.specs.Prelude.{◌≡◌, ◌≤◌, length, slice_index, IfOk};
+ghost use Rattle.std.specs.Prelude.{◌≡◌, ◌≤◌, length, IfOk};
 ghost use Rattle.unit_datapath.specs.Results.{ShowsResults};
 
 use crate::inputs::UnitInputs;
+use block_datapath::registers::place_at;
 use c_program::tree::BinaryOperator;
 use hls_ints::CType;
 use operator_wires::wires::Wires;
@@ -33,10 +34,4 @@ pub fn unit_results(
         places.push(word.place)?;
     }
     Ok(places)
-}
-
-fn place_at(places: &[usize], number: usize) -> usize
-    ensures { result ≡ slice_index places.now number }
-{
-    places.get(number).copied().unwrap_or(0)
 }

@@ -1,4 +1,5 @@
 use Rattle.thread_bodies.proofs.Bodies.{laid_are_bodies, laid_main_stays}
+use Rattle.thread_bodies.proofs.Served.{codes_are_served}
 use Rattle.thread_bodies.proofs.laid_are_bodies.Goals as goal
 
 pub returns-clause-bodies : goal.returns-clause-bodies
@@ -6,3 +7,6 @@ returns-clause-bodies c = laid_are_bodies
 
 pub returns-clause-main : goal.returns-clause-main
 returns-clause-main c = laid_main_stays
+
+pub returns-clause-served : goal.returns-clause-served
+returns-clause-served c = codes_are_served

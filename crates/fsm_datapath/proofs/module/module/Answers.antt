@@ -1,7 +1,6 @@
 use Rattle.operator_wires.proofs.Making.{of_ok}
 use Rattle.thread_layout.specs.Modules.{IsModule}
-use Rattle.fsm_datapath.specs.Runs.{RunsServedCode, ServesCode}
-use Rattle.fsm_datapath.proofs.Promising.{runs_code}
+use Rattle.fsm_datapath.specs.Runs.{ServesCode}
 use Rattle.fsm_datapath.proofs.Serving.{serves_code}
 use Rattle.fsm_datapath.specs.Routine.{IsRoutineOfServedCode}
 use Rattle.fsm_datapath.specs.SoundLeaf.{IsLeafOfServedCode}
@@ -9,15 +8,10 @@ use Rattle.fsm_datapath.proofs.Standing.{routine_is}
 use Rattle.fsm_datapath.proofs.Forming.{checked_is}
 use Rattle.fsm_datapath.proofs.Leafing.{leaf_is}
 use Rattle.fsm_datapath.specs.Naming.{NamesServedVariables}
-use Rattle.fsm_datapath.proofs.Naming.{laid_out_is_named}
+use Rattle.fsm_datapath.proofs.Naming.{variables_named}
 use Rattle.fsm_datapath.specs.Steady.{IsSteadyServedCode}
 use Rattle.fsm_datapath.proofs.Steadying.{steady_is}
 use Rattle.fsm_datapath.proofs.module.module.Goals as goal
-
-pub returns-clause-runs : goal.returns-clause-runs
-returns-clause-runs c =
-    of_ok c.assembled.result (IsModule c.args.shape.now c.args.code.now c.args.planned.now) (RunsServedCode c.args.shape.now c.args.code.now c.args.planned.now)
-    (λ m t main served. runs_code c.args.shape.now c.args.code.now c.args.planned.now m t served main) c.assembled.ensures
 
 pub returns-clause-serves : goal.returns-clause-serves
 returns-clause-serves c =
@@ -39,7 +33,7 @@ returns-clause-routine c =
 pub returns-clause-named : goal.returns-clause-named
 returns-clause-named c =
     of_ok c.assembled.result (IsModule c.args.shape.now c.args.code.now c.args.planned.now) (NamesServedVariables c.args.shape.now c.args.code.now c.args.planned.now)
-    (λ m t served. laid_out_is_named c.args.shape.now c.args.code.now c.args.planned.now m t served) c.assembled.ensures
+    (λ m t served. variables_named c.args.shape.now c.args.code.now c.args.planned.now m t served) c.assembled.ensures
 
 pub returns-clause-steady : goal.returns-clause-steady
 returns-clause-steady c =

@@ -1,4 +1,4 @@
-use Rattle.std.proofs.Common.{rules, ◌≡◌, ◌∙◌, Option, Some, None, refl, sym, ap, subst}
+use Rattle.std.proofs.Common.{rules, ◌≡◌, ◌∙◌, Option, Some, refl, sym, ap, subst}
 use Rattle.std.specs.Option.{option_copied}
 use Rattle.std.specs.Prelude.{slice_get}
 use Rattle.std.proofs.lemmas.Result.{on_ok_weaker}
@@ -7,9 +7,10 @@ use Rattle.block_ir.specs.declared.code.Stage.TheVariants as stage
 use Rattle.block_ir.specs.declared.plan.BlockPlan.{BlockPlan}
 use Rattle.block_ir.specs.declared.plan.StagePlan.{StagePlan}
 use Rattle.block_ir.specs.declared.plan.StagePlan.TheVariants as planned
+use Rattle.operator_wires.proofs.Making.{on_two}
 use Rattle.block_datapath.specs.Accesses.{AsksBlock, IsAskingBlock}
 use Rattle.thread_slots.specs.declared.requests.Requests.{Requests}
-use Rattle.thread_slots.proofs.Taken.{on_two}
+use Rattle.thread_slots.proofs.Taken.{none_planned}
 use Rattle.thread_asks.specs.Asking.{AsksStage}
 use Rattle.thread_asks.proofs.Asks.{block_stage, nothing_stage}
 use Rattle.thread_asks.proofs.asking.ask_stage.Goals as goal
@@ -36,9 +37,6 @@ returns-in-Some-Run c =
     (block_stage c.args.globals.now c.args.spreads.now c.args.code.now c.args.registers.now c.args.caller c.args.number block plan c.args.wires.now.signals
     c.ask_block.new.wires.signals c.args.requests.now after refl t u)))
     c.ask_block.ensures.shows c.ask_block.ensures.wired
-
-none_planned : (listed : Option StagePlan) (p : BlockPlan) → listed ≡ None → listed ≡ Some (planned.Run p) → ⊥
-none_planned listed p none some = let both : None ≡ Some (planned.Run p) = sym none ∙ some in absurd cc
 
 pub returns-in_default : goal.returns-in_default
 returns-in_default c =

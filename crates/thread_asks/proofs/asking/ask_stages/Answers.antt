@@ -1,10 +1,10 @@
 use Rattle.std.proofs.Common.{◌≡◌, ℕ, length, ap, subst, arith}
+use Rattle.operator_wires.proofs.Making.{of_two}
 use Rattle.block_datapath.specs.Chains.{TellsStage}
 use Rattle.block_datapath.proofs.Walking.{item_is}
 use Rattle.thread_asks.specs.Asking.{AsksFirst, AsksAllWired}
 use Rattle.thread_asks.proofs.Asks.{asks_none, asks_more, asks_all}
 use Rattle.thread_slots.proofs.Taken.{Told}
-use Rattle.thread_asks.proofs.Taken.{of_two}
 use Rattle.thread_asks.proofs.asking.ask_stages.Goals as goal
 
 pub loop-number-preserved : goal.loop-number-preserved

@@ -1,8 +1,8 @@
 use Rattle.std.proofs.Common.{◌<◌, ◌^◌, ℕ, sym, subst}
+use Rattle.operator_wires.proofs.Making.{on_two}
 use Rattle.block_datapath.specs.Chains.{SetsNext}
 use Rattle.thread_asks.specs.Fields.{AsksNumber}
 use Rattle.thread_asks.proofs.FieldValues.{number_asked}
-use Rattle.thread_slots.proofs.Taken.{on_two}
 use Rattle.thread_asks.proofs.Taken.{SetsFields, number_linked}
 use Rattle.thread_asks.proofs.fields.ask_number.Goals as goal
 

@@ -1,8 +1,8 @@
 use Rattle.std.proofs.Common.{◌+◌, add-one}
+use Rattle.operator_wires.proofs.Making.{on_two}
 use Rattle.block_datapath.specs.Chains.{SetsNext}
 use Rattle.thread_asks.specs.Fields.{act_type, AsksValue}
 use Rattle.thread_asks.proofs.FieldValues.{value_asked}
-use Rattle.thread_slots.proofs.Taken.{on_two}
 use Rattle.thread_asks.proofs.Taken.{SetsFields, value_linked}
 use Rattle.thread_asks.proofs.fields.ask_value.Goals as goal
 

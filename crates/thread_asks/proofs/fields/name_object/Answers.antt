@@ -1,9 +1,9 @@
 use Rattle.operator_wires.specs.Gives.{Gives}
 use Rattle.operator_wires.specs.Added.{ChoiceAdds}
+use Rattle.operator_wires.proofs.Making.{of_two}
 use Rattle.std.proofs.Common.{nat_eq, if◌then◌else◌}
 use Rattle.thread_asks.specs.Fields.{NamesObject}
 use Rattle.thread_asks.proofs.FieldValues.{object_named}
-use Rattle.thread_asks.proofs.Taken.{of_two}
 use Rattle.thread_asks.proofs.fields.name_object.Goals as goal
 
 pub returns : goal.returns

@@ -6,4 +6,4 @@ loop-number-init c = first_none c.args.places.now c.new-first.result c.new-first
 
 pub loop-number-preserved : goal.loop-number-preserved
 loop-number-preserved c =
-    first_more c.args.places.now c.loop-number.number c.heard_at.result c.loop-number.first c.push.new.self c.loop-number.invariant c.heard_at.ensures c.in_ok-push.ensures.ok
+    first_more c.args.places.now c.loop-number.number c.place_at.result c.loop-number.first c.push.new.self c.loop-number.invariant c.place_at.ensures c.in_ok-push.ensures.ok

@@ -1,4 +1,4 @@
-use Rattle.std.proofs.Common.{rules, ◌≡◌, ◌∙◌, Option, Some, None, refl, sym, ap, subst}
+use Rattle.std.proofs.Common.{rules, ◌≡◌, ◌∙◌, Option, Some, refl, sym, ap, subst}
 use Rattle.block_ir.specs.declared.code.Stage.TheVariants as taken
 use Rattle.block_ir.specs.declared.plan.StagePlan.TheVariants as planned
 use Rattle.thread_states.proofs.Blocks.{stage_of_block, stage_of_none}
@@ -15,6 +15,7 @@ use Rattle.thread_states.specs.Stages.{TakesStage}
 use Rattle.thread_states.proofs.Stepping.{run_taken, idle_taken, act_taken}
 use Rattle.thread_states.proofs.stages.take_stage.Goals as goal
 use Rattle.thread_states.proofs.stages.take_stage.Goals.{in_default-via-in-Some+in_default, in_default-via-in_default}
+use Rattle.thread_slots.proofs.Taken.{none_planned}
 
 pub returns-in-Some-Run-clause-takes : goal.returns-in-Some-Run-clause-takes
 returns-in-Some-Run-clause-takes c =
@@ -47,9 +48,6 @@ returns-in-Some-Run-clause-stores c =
     let found : Some (planned.Run c.in-Some-Run.plan) ≡ slice_get c.args.planned.now.stages c.args.number = (let value = c.in-Some-Run.ensures.value in cc) in
     subst (λ (plan : Option StagePlan). OnOk c.run.result (StageKeepsStores c.args.code.now c.args.registers.now c.args.number plan c.args.wires.now.signals
     c.run.new.wires.signals c.args.chains.now c.args.stores.now c.run.new.stores)) found c.run.ensures.stores
-
-none_planned : (listed : Option StagePlan) (p : BlockPlan) → listed ≡ None → listed ≡ Some (planned.Run p) → ⊥
-none_planned listed p none some = let both : None ≡ Some (planned.Run p) = sym none ∙ some in absurd cc
 
 not_planned : (c : goal.After-idle) (p : BlockPlan) → slice_get c.args.planned.now.stages c.args.number ≡ Some (planned.Run p) → ⊥
 not_planned c p e =

@@ -1,9 +1,9 @@
 use Rattle.std.proofs.Common.{refl}
+use Rattle.operator_wires.proofs.Making.{on_two}
 use Rattle.block_datapath.specs.Chains.{SetsNext}
 use Rattle.block_datapath.specs.Wired.{IsLinked}
 use Rattle.unit_datapath.specs.declared.inputs.UnitInputs.{UnitInputs}
 use Rattle.unit_datapath.specs.Inputs.{LinksBegun}
-use Rattle.unit_datapath.proofs.Answering.{on_two}
 use Rattle.unit_datapath.proofs.Inputting.{unit_linked}
 use Rattle.unit_datapath.proofs.inputs.link_begun.Goals as goal
 

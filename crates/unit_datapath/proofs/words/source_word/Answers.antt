@@ -7,12 +7,11 @@ use Rattle.block_ir.specs.declared.operand.Source.{Source}
 use Rattle.block_ir.specs.declared.operand.Source.TheVariants.{Constant, Variable, Value}
 use Rattle.operator_wires.specs.Words.{Holds}
 use Rattle.operator_wires.specs.Added.{IsConstant}
-use Rattle.operator_wires.proofs.Making.{of_ok}
+use Rattle.operator_wires.proofs.Making.{of_ok, of_two}
 use Rattle.block_datapath.specs.Seen.{ShowsVariable}
 use Rattle.block_datapath.specs.Wired.{IsVariableWord}
 use Rattle.block_datapath.proofs.Seeing.{fits_typed}
 use Rattle.unit_datapath.specs.Words.{ShowsRegister, ShowsSource}
-use Rattle.unit_datapath.proofs.Answering.{of_two}
 use Rattle.unit_datapath.proofs.Wording.{constant_shown, variable_shown, value_shown}
 use Rattle.unit_datapath.proofs.words.source_word.Goals as goal
 
