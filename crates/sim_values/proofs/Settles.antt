@@ -9,9 +9,9 @@ use Rattle.netlist.specs.declared.netlist.Source.{Source}
 use Rattle.netlist.specs.declared.netlist.Source.TheVariants.{Input, Register, Assigned, Port}
 use Rattle.netlist.specs.declared.netlist.Signal.{Signal}
 use Rattle.netlist.specs.declared.netlist.Module.{Module}
-use Rattle.verilog_value.specs.Cycles.{Choice}
-use Rattle.verilog_value.specs.Threads.{operands, IsOneOf}
-use Rattle.verilog_value.proofs.Operands.{Agree, same_value}
+use Rattle.circuit.specs.Cycles.{Choice}
+use Rattle.circuit.specs.Threads.{operands, IsOneOf}
+use Rattle.circuit.proofs.Operands.{Agree, same_value}
 use Rattle.sim_values.specs.declared.value.Spot.{Spot}
 use Rattle.sim_values.specs.declared.settle.Feed.{Feed}
 use Rattle.sim_values.specs.declared.settle.Feed.TheVariants.{Zero, Enables, Preferred, Copied, Computed}

@@ -6,7 +6,7 @@ use Rattle.std.proofs.lemmas.List.{get_or_append_left}
 use Rattle.lists.proofs.Places.{get_left}
 use Rattle.netlist.specs.declared.netlist.Instance.{Instance}
 use Rattle.netlist.specs.declared.netlist.Module.{Module}
-use Rattle.verilog_value.specs.Cycles.{Path, module_at}
+use Rattle.circuit.specs.Cycles.{Path, module_at}
 use Rattle.sim_values.specs.Loops.{Before}
 use Rattle.sim_values.specs.Tree.{instances_of, kinds_of, place_in, IsInstance, IsInner, IsReached, IsGrown, IsTree}
 use Rattle.sim_values.proofs.Orders.{get_more}

@@ -6,7 +6,7 @@ use Rattle.std.proofs.lemmas.Nat.{mul-mod_first, mod_below, pow_pos}
 use Rattle.std.proofs.lemmas.List.{drop_all}
 use Rattle.hls_ints.specs.Words.{word}
 use Rattle.netlist.specs.declared.netlist.Module.{Module}
-use Rattle.verilog_value.specs.Readings.{Reading, joined, width}
+use Rattle.circuit.specs.Readings.{Reading, joined, repeated, width}
 use Rattle.sim_values.specs.Flat.{EachOf}
 
 is_small : (x v : ℕ) → x ≡ v → x < 2 ^ 64 → x ≡ word 64 v
@@ -45,3 +45,9 @@ each_next P xs i l e =
 pub joined_end : (m : Module) (r : Reading) (xs : List ℕ) (i above total : ℕ) → length xs ≤ i → total ≡ word 64 (joined m r (drop i xs) above) → above < 2 ^ 64 → above ≡ total
 joined_end m r xs i above total l e small =
     is_small above above refl small ∙ sym (e ∙ ap (λ ys. word 64 (joined m r ys above)) (drop_all i xs l))
+
+-- one copy more
+pub repeated_next : (i w n above out : ℕ) → above ≡ word 64 (repeated i w n) → out ≡ word 64 (above * 2 ^ w + n) → out ≡ word 64 (repeated (i + 1) w n)
+repeated_next i w n above out e o =
+    let next : suc i ≡ i + 1 = omega arith in
+    o ∙ word_step above (repeated i w n) (2 ^ w) n (ap (word 64) e ∙ word_word (repeated i w n)) ∙ ap (λ k. word 64 (repeated k w n)) next

@@ -10,9 +10,9 @@ use Rattle.netlist.specs.declared.netlist.Effect.{Effect}
 use Rattle.netlist.specs.declared.netlist.Effect.TheVariants.{Set, Store, Write}
 use Rattle.netlist.specs.declared.netlist.Action.{Action}
 use Rattle.netlist.specs.declared.netlist.Module.{Module}
-use Rattle.verilog_value.specs.Threads.{operands}
-use Rattle.verilog_value.specs.Readings.{Reading, width, value, is_on, memory_words, written}
-use Rattle.verilog_value.specs.Cycles.{Choice}
+use Rattle.circuit.specs.Threads.{operands}
+use Rattle.circuit.specs.Readings.{Reading, width, value, is_on, memory_words, written}
+use Rattle.circuit.specs.Cycles.{Choice}
 use Rattle.netlist.specs.declared.netlist.Argument.{Argument}
 use Rattle.netlist.specs.declared.netlist.Argument.TheVariants.{Unsigned, Signed}
 use Rattle.sim_values.specs.declared.value.Spot.{Spot}

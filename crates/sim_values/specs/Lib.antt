@@ -3,6 +3,6 @@ pub mod Order
 pub mod Stands
 pub mod Tree
 pub mod Loops
-pub use Rattle.verilog_value.specs.Modules
-pub use Rattle.verilog_value.specs.Nets
-pub use Rattle.verilog_value.specs.Rows
+pub use Rattle.circuit.specs.Modules
+pub use Rattle.circuit.specs.Nets
+pub use Rattle.circuit.specs.Rows

@@ -2,9 +2,9 @@
 use Rattle.std.specs.Prelude.{◌≡◌, ℕ, ◌<◌, ◌⊎◌, List, [], ◌∷◌, Some, slice_get}
 use Rattle.netlist.specs.declared.netlist.Signal.{Signal}
 use Rattle.netlist.specs.declared.netlist.Module.{Module}
-use Rattle.verilog_value.specs.Names.{top_of}
-use Rattle.verilog_value.specs.Cycles.{Path, IsAt}
-use Rattle.verilog_value.specs.Threads.{Place, Depends}
+use Rattle.circuit.specs.Names.{top_of}
+use Rattle.circuit.specs.Cycles.{Path, IsAt}
+use Rattle.circuit.specs.Threads.{Place, Depends}
 
 -- one instance comes before another: it lies less deep, or in an instance that comes before, or earlier in the same one
 abbrev pub Before : Path → Path → Type 0

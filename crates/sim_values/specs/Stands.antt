@@ -4,7 +4,7 @@ use Rattle.netlist.specs.declared.netlist.Source.{Source}
 use Rattle.netlist.specs.declared.netlist.Source.TheVariants.{Input, Register, Assigned, Port}
 use Rattle.netlist.specs.declared.netlist.Signal.{Signal}
 use Rattle.netlist.specs.declared.netlist.Module.{Module}
-use Rattle.verilog_value.specs.Cycles.{Path, Valuation, Choice, choice_number, module_at, instance_at, connected, IsAt}
+use Rattle.circuit.specs.Cycles.{Path, Valuation, Choice, choice_number, module_at, instance_at, connected, IsAt}
 use Rattle.sim_values.specs.declared.value.Spot.{Spot}
 use Rattle.sim_values.specs.declared.settle.Feed.{Feed}
 use Rattle.sim_values.specs.declared.settle.Feed.TheVariants.{Copied, Computed}

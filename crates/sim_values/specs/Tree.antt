@@ -2,7 +2,7 @@
 use Rattle.std.specs.Prelude.{◌≡◌, ℕ, ◌+◌, ◌<◌, ◌≤◌, List, [], ◌∷◌, length, slice_index, Option, Some, None, slice_get}
 use Rattle.netlist.specs.declared.netlist.Instance.{Instance}
 use Rattle.netlist.specs.declared.netlist.Module.{Module}
-use Rattle.verilog_value.specs.Cycles.{Path, module_at}
+use Rattle.circuit.specs.Cycles.{Path, module_at}
 
 abbrev pub instances_of : Option Module → List Instance
 instances_of None = []

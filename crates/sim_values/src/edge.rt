@@ -1,7 +1,7 @@
 // The clock edge: all statements read the numbers before it, and of several to one place the last prevails.
 
 ghost use Rattle.std.specs.Prelude.{◌≡◌, ℕ, ◌+◌, ◌∷◌, [], slice_index, slice_set, slice_get};
-ghost use Rattle.verilog_value.specs.Readings.{is_on};
+ghost use Rattle.circuit.specs.Readings.{is_on};
 ghost use Rattle.sim_values.specs.Flat.{Flat, flat_of, reading, stored_word, act_number, act_word, acted_numbers, acted_words};
 ghost use Rattle.sim_values.specs.Flat.{all_numbers, all_words, part_words, actions_of};
 ghost use Rattle.sim_values.specs.Stands.{kind_of, spot_of, spot_at};

@@ -3,6 +3,7 @@
 #![tactic(auto)]
 
 pub mod edge;
+pub mod operators;
 pub mod settle;
 pub mod tree;
 pub mod value;

@@ -2,13 +2,13 @@
 
 ghost use Rattle.std.specs.Prelude.{◌≡◌, ◌+◌, slice_index, slice_get};
 ghost use Rattle.hls_ints.specs.Words.{word};
-ghost use Rattle.verilog_value.specs.Readings.{width, value as value_of, joined, memory_words};
+ghost use Rattle.circuit.specs.Readings.{width, value as value_of, joined, memory_words};
 ghost use Rattle.sim_values.specs.Flat.{flat_of, reading, EachOf, IsWide, IsNarrow};
 
+use crate::operators::{beside, binary, divided, repeated, selected, signed_divided};
 use hls_ints::{v_not, v_sar, v_sless};
 use netlist::netlist::{Module, Value};
 use sqlite_items::at;
-use verilog_value::operators::{beside, binary, divided, repeated, selected, signed_divided};
 
 /// Where an instance stands: its signals from word `base` on, its memories from memory `memories` on.
 #[derive(Clone, Copy)]

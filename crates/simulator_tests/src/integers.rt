@@ -159,6 +159,7 @@ fn words(rt: HostRuntime) {
     expect(&rt, v_shr(4, 11, 2), 2);
     expect(&rt, v_sar(4, 8, 2), 14);
     expect(&rt, v_sar(4, 8, 100), 15);
+    expect(&rt, v_sar(8, 0x90, 1), 0xc8);
     expect(
         &rt,
         v_sar(64, 9223372036854775808, 63),

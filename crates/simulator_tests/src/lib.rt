@@ -1,4 +1,4 @@
-//! Tests of the simulator and of what it stands on: integers of C, bytes in and out, a value by the standard, three nets as Verilog texts, and journals.
+//! Tests of the simulator and of what it stands on: integers of C, bytes in and out, three nets as Verilog texts, and journals.
 //! They stand in a crate of their own, since a crate with tests is proved twice.
 #![tactic(auto)]
 
@@ -16,5 +16,3 @@ mod nets;
 mod streams;
 #[cfg(test)]
 mod tests;
-#[cfg(test)]
-mod values;

@@ -1,5 +1,5 @@
 use Rattle.std.proofs.Common.{◌≡◌, drop}
-use Rattle.verilog_value.specs.Readings.{is_on}
+use Rattle.circuit.specs.Readings.{is_on}
 use Rattle.sim_values.specs.Flat.{flat_of, reading}
 use Rattle.sim_values.proofs.edge.conditions_hold.Given as goal
 

@@ -1,6 +1,6 @@
 use Rattle.std.proofs.Common.{◌≡◌, ◌+◌, ◌*◌, ◌^◌, get_or, ap, ◌∙◌, arith}
 use Rattle.hls_ints.specs.Words.{word}
-use Rattle.verilog_value.specs.Readings.{Reading, width, joined}
+use Rattle.circuit.specs.Readings.{Reading, width, joined}
 use Rattle.sim_values.specs.Flat.{flat_of, reading, IsWide}
 use Rattle.sim_values.proofs.Words.{joined_next, joined_end, each_next}
 use Rattle.sim_values.proofs.value.joined_at.Goals as goal

@@ -1,6 +1,6 @@
 use Rattle.std.proofs.Common.{◌≡◌, ◌<◌, ◌^◌, drop}
 use Rattle.hls_ints.specs.Words.{word}
-use Rattle.verilog_value.specs.Readings.{joined}
+use Rattle.circuit.specs.Readings.{joined}
 use Rattle.sim_values.specs.Flat.{flat_of, reading, EachOf, IsWide}
 use Rattle.sim_values.proofs.value.joined_at.Given as goal
 

@@ -1,5 +1,5 @@
-use Rattle.verilog_value.proofs.Words.{repeated_next}
-use Rattle.verilog_value.proofs.operators.repeated.Goals as goal
+use Rattle.sim_values.proofs.Words.{repeated_next}
+use Rattle.sim_values.proofs.operators.repeated.Goals as goal
 
 pub loop-copy-preserved : goal.loop-copy-preserved
 loop-copy-preserved c =

@@ -1,6 +1,0 @@
-pub mod Places
-pub mod Words
-pub mod Declared
-pub mod Condition
-pub mod Below
-pub use Rattle.circuit.proofs.Operands

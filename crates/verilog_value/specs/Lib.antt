@@ -1,9 +1,0 @@
-pub mod Value
-pub mod Condition
-pub use Rattle.circuit.specs.Modules
-pub use Rattle.circuit.specs.Nets
-pub use Rattle.circuit.specs.Rows
-pub use Rattle.circuit.specs.Cycles
-pub use Rattle.circuit.specs.Names
-pub use Rattle.circuit.specs.Readings
-pub use Rattle.circuit.specs.Threads
