@@ -1,3 +1,4 @@
+pub mod Counting
 pub mod Faulting
 pub mod Placing
 pub mod Standing

@@ -15,7 +15,7 @@ use Rattle.verilog_tree.specs.Grammar as g
 use Rattle.net_check.specs.declared.fault.ModulePart.{ModulePart}
 use Rattle.net_check.specs.declared.fault.ModulePart.TheVariants as part
 use Rattle.net_check.specs.declared.fault.NetPart.TheVariants as net
-use Rattle.token_places.specs.Before.{port_and_comma, before}
+use Rattle.verilog_reader.specs.Before.{port_and_comma, before}
 use Rattle.verilog_rules.specs.Leads.{Leads}
 use Rattle.verilog_lexer.specs.declared.tokens.Lexed.{Lexed}
 use Rattle.verilog_lexer.specs.Lexed.{IsLexed}

@@ -13,7 +13,7 @@ use Rattle.net_check.specs.declared.fault.NetPart.TheVariants as net
 use Rattle.net_check.specs.Breaks.{IsFirstBroken}
 use Rattle.top_ports.specs.Top.{top}
 use Rattle.top_ports.specs.Ports.{has_ports}
-use Rattle.token_places.specs.Before.{before}
+use Rattle.verilog_reader.specs.Before.{before}
 use Rattle.verilog_lexer.specs.declared.tokens.Lexed.{Lexed}
 use Rattle.verilog_reader.specs.declared.read.ReadError.{ReadError}
 use Rattle.verilog_reader.specs.declared.read.ReadError.TheVariants as error

@@ -10,7 +10,7 @@ use Rattle.verilog_tree.specs.Reads.{Reads}
 use Rattle.verilog_tree.specs.Rules.{has_port}
 use Rattle.verilog_tree.specs.WellFormed.{IsWellFormed}
 use Rattle.top_ports.specs.Top.{top, IsWanted}
-use Rattle.token_places.specs.Before.{before_name, before_port, before_item, before}
+use Rattle.verilog_reader.specs.Before.{before_name, before_port, before_item, before}
 use Rattle.verilog_rules.specs.Leads.{LeadsTo, IsSyntaxFault}
 use Rattle.net_check.specs.declared.fault.ModulePart.{ModulePart}
 use Rattle.net_check.specs.declared.fault.ModulePart.TheVariants as part

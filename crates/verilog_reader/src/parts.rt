@@ -3,7 +3,7 @@
 ghost use Rattle.std.specs.Prelude.{◌≡◌, ◌+◌, length, take, IfOk, Some, slice_get};
 ghost use Rattle.verilog_tree.specs.Grammar as g;
 ghost use Rattle.verilog_tree.specs.declared.tree.Module as tree;
-ghost use Rattle.token_places.specs.Before.{before_name, before_port, before_item, before};
+ghost use Rattle.verilog_reader.specs.Before.{before_name, before_port, before_item, before};
 
 use crate::counts::{of_items, of_ports, sum};
 use std::alloc::AllocError;

@@ -1,5 +1,5 @@
-use Rattle.token_places.proofs.Counting.{comma_counted}
-use Rattle.token_places.proofs.counts.of_arguments.Goals as goal
+use Rattle.verilog_reader.proofs.Counting.{comma_counted}
+use Rattle.verilog_reader.proofs.counts.of_arguments.Goals as goal
 
 pub loop-argument-preserved : goal.loop-argument-preserved
 loop-argument-preserved c = comma_counted c.args.arguments.now c.loop-argument.argument-index c.argument-item.result _ _ _ c.loop-argument.invariant c.in_ok-count.ensures

@@ -1,6 +1,6 @@
 use Rattle.verilog_tree.specs.Grammar as g
-use Rattle.token_places.proofs.Counting.{counted}
-use Rattle.token_places.proofs.counts.+counts.Goals as goal
+use Rattle.verilog_reader.proofs.Counting.{counted}
+use Rattle.verilog_reader.proofs.counts.+counts.Goals as goal
 
 pub of_statements-loop-statement-preserved : goal.of_statements-loop-statement-preserved
 of_statements-loop-statement-preserved t c = counted g.statement c.args.statements.now c.loop-statement.statement-index c.statement-item.result _ _ _

@@ -25,7 +25,7 @@ use Rattle.verilog_tree.specs.declared.tree.Item.TheVariants as i
 use Rattle.verilog_tree.specs.declared.tree.Module.{Module}
 use Rattle.verilog_tree.specs.Grammar as g
 use Rattle.verilog_tree.proofs.Fold.{statement_set, statement_store, statement_if, statement_write}
-use Rattle.token_places.specs.Before.{port_and_comma, before_name, before_port, before_item, before}
+use Rattle.verilog_reader.specs.Before.{port_and_comma, before_name, before_port, before_item, before}
 
 -- ---- one phrase more
 

@@ -1,6 +1,6 @@
 use Rattle.verilog_tree.specs.Grammar as g
-use Rattle.token_places.proofs.Counting.{counted}
-use Rattle.token_places.proofs.parts.of_modules.Goals as goal
+use Rattle.verilog_reader.proofs.Counting.{counted}
+use Rattle.verilog_reader.proofs.parts.of_modules.Goals as goal
 
 pub loop-module-preserved : goal.loop-module-preserved
 loop-module-preserved c = counted g.module_tokens c.args.modules.now c.loop-module.module-index c.module-item.result _ _ _ c.loop-module.invariant c.in_ok-count.ensures

@@ -1,6 +1,6 @@
 use Rattle.verilog_tree.specs.Grammar as g
-use Rattle.token_places.proofs.Counting.{counted}
-use Rattle.token_places.proofs.counts.of_initials.Goals as goal
+use Rattle.verilog_reader.proofs.Counting.{counted}
+use Rattle.verilog_reader.proofs.counts.of_initials.Goals as goal
 
 pub loop-constant-preserved : goal.loop-constant-preserved
 loop-constant-preserved c = counted g.initial_constant c.args.constants.now c.loop-constant.constant-index c.constant-item.result _ _ _ c.loop-constant.invariant

@@ -2,7 +2,7 @@
 
 ghost use Rattle.std.specs.Prelude.{◌≡◌, ◌+◌, length, IfOk};
 ghost use Rattle.verilog_tree.specs.Grammar as g;
-ghost use Rattle.token_places.specs.Before.{port_and_comma};
+ghost use Rattle.verilog_reader.specs.Before.{port_and_comma};
 
 use std::alloc::AllocError;
 use verilog_tree::tree::{Expression, InitialConstant, Item, Port, Statement, WriteArgument};
