@@ -5,7 +5,7 @@
 mod components;
 pub mod given;
 pub mod loops;
-mod operands;
+pub mod operands;
 pub mod order;
 pub mod place;
 pub mod print;

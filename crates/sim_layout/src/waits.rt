@@ -1,6 +1,6 @@
 // The steps that wait for words. The clauses say that no wait is lost; a step that is listed beyond them costs one look more.
 
-ghost use Rattle.std.specs.Prelude.{◌≡◌, ℕ, ◌<◌, ◌≤◌, None, length, option_and_then, slice_get, slice_index_or, IfOk, OnOk};
+ghost use Rattle.std.specs.Prelude.{◌≡◌, ℕ, ◌<◌, ◌≤◌, None, Some, length, option_and_then, slice_get, slice_index_or, IfOk, OnOk};
 ghost use Rattle.sim_layout.specs.Waits.{IsWaiting, IsListed};
 
 use sqlite_items::at;
@@ -64,6 +64,7 @@ fn wait_at(chain: &[Wait], number: Option<usize>) -> Option<Wait>
 pub fn wake(waits: &Waits, word: usize, looks: &mut Vec<usize>) -> Result<(), AllocError>
     ensures woken { OnOk result ((k : ℕ) → IsWaiting waits.now.last.items waits.now.chain.items word k → IsListed (length looks.old.items) looks.new.items k) }
     ensures keeps { OnOk result ((from k : ℕ) → IsListed from looks.old.items k → IsListed from looks.new.items k) }
+    ensures behind { OnOk result ((j k : ℕ) → slice_get looks.old.items j ≡ Some k → slice_get looks.new.items j ≡ Some k) }
 {
     let mut next = last_at(waits.last.as_slice(), word);
     // A chain has no more waits than fit in memory.

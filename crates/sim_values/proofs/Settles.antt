@@ -24,12 +24,16 @@ each_one P base [] e x i = absurd i
 each_one P base (y ∷ ys) e x (inl same) = subst (λ z. P (base + z)) (sym same) e.0
 each_one P base (y ∷ ys) e x (inr i) = each_one P base ys e.1 x i
 
+pub each_from : (P : ℕ → Type 0) (xs : List ℕ) → ((x : ℕ) → IsOneOf x xs → P x) → EachOf P xs
+each_from P [] f = tt
+each_from P (x ∷ xs) f = (f x (inl refl), each_from P xs (λ y i. f y (inr i)))
+
 pub each_to : {X : Type 0} (P Q : X → Type 0) (xs : List X) → ((x : X) → P x → Q x) → EachOf P xs → EachOf Q xs
 each_to P Q [] f e = tt
 each_to P Q (x ∷ xs) f e = (f x e.0, each_to P Q xs f e.1)
 
 -- two lists of words are the same at these places
-abbrev Alike : List ℕ → List ℕ → List ℕ → Type 0
+abbrev pub Alike : List ℕ → List ℕ → List ℕ → Type 0
 Alike ns qs places = EachOf (λ k. slice_index ns k ≡ slice_index qs k) places
 
 same_source : (f : Flat) (ns qs : List ℕ) (m : Module) (spot : Spot) (source : Source) → Alike ns qs (source_reads spot.base source)
@@ -53,7 +57,7 @@ same_module f ns qs spot x None a = refl
 same_module f ns qs spot x (Some m) a = same_signal f ns qs m spot (slice_get m.signals x) a
 
 module _ (modules : List Module) (c : Choice) where
-  same_fed : (f : Flat) (ns qs : List ℕ) (feed : Feed) → Alike ns qs (reads modules feed) → fed modules c (with_numbers f ns) feed ≡ fed modules c (with_numbers f qs) feed
+  pub same_fed : (f : Flat) (ns qs : List ℕ) (feed : Feed) → Alike ns qs (reads modules feed) → fed modules c (with_numbers f ns) feed ≡ fed modules c (with_numbers f qs) feed
   same_fed f ns qs Zero a = refl
   same_fed f ns qs Enables a = refl
   same_fed f ns qs (Preferred k) a = refl
@@ -101,7 +105,7 @@ module _ (modules : List Module) where
       rank_later i s steps k (λ e. o.1 (subst known (sym e) h)) ∙ rank_known (λ j. known j ⊎ (j ≡ s.target)) (i + 1) steps k o.2 (inl h)
 
   -- a step gives what was not known
-  gives_new : (known : ℕ → Type 0) (steps : List Step) (j k : ℕ) (s : Step) → InOrder modules known steps → slice_get steps j ≡ Some s → known k → s.target ≡ k → ⊥
+  pub gives_new : (known : ℕ → Type 0) (steps : List Step) (j k : ℕ) (s : Step) → InOrder modules known steps → slice_get steps j ≡ Some s → known k → s.target ≡ k → ⊥
   gives_new known [] j k s o at h e = absurd cc
   gives_new known (t ∷ steps) zero k s o at h e = let same : t ≡ s = cc in o.1 (subst known (sym (ap (λ (u : Step). u.target) same ∙ e)) h)
   gives_new known (t ∷ steps) (suc j) k s o at h e = gives_new (λ x. known x ⊎ (x ≡ t.target)) steps j k s o.2 at (inl h) e

@@ -68,7 +68,8 @@ fn computed(modules: &[Module], number: usize, spot: Spot, now: &Now, signal: us
     }
 }
 
-fn feed_number(modules: &[Module], choice: &Choice, now: &Now, feed: Feed) -> u64
+/// The number that a feed gives, under a choice and in the words of now.
+pub fn feed_number(modules: &[Module], choice: &Choice, now: &Now, feed: Feed) -> u64
     requires { AreNarrow modules.now }
     ensures { result ≡ fed modules.now (record { mask = choice.now.en; prefs = choice.now.prefs }) (flat_of now.now) feed }
 {

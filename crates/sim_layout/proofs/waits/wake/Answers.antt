@@ -1,5 +1,6 @@
-use Rattle.std.proofs.Common.{◌≡◌, None, ◌∷◌, ◌++◌, [], ap, sym, ◌∙◌, arith, length, option_and_then, slice_get, slice_index_or}
+use Rattle.std.proofs.Common.{◌≡◌, None, Some, ◌∷◌, ◌++◌, [], ap, sym, ◌∙◌, subst, arith, length, option_and_then, slice_get, slice_index_or}
 use Rattle.std.proofs.lemmas.List.{length-append}
+use Rattle.sim_values.proofs.Orders.{get_more}
 use Rattle.sim_layout.proofs.Waiting.{passed_more, passed_all, kept_more}
 use Rattle.sim_layout.proofs.waits.wake.Goals as goal
 
@@ -23,6 +24,7 @@ loop-turn-preserved c =
     let before = c.loop-turn.invariant.more in
     record {
       more = omega (arith, longer, before);
+      behind = λ j k e. subst (λ l. slice_get l j ≡ Some k) (sym made) (get_more looks (w.step ∷ []) j k (c.loop-turn.invariant.behind j k e));
       keeps = kept_more c.args.looks.now.items looks new w.step made c.loop-turn.invariant.keeps;
       passed = passed_more chain w (length c.args.looks.now.items) looks new first c.loop-turn.next before some made c.loop-turn.invariant.passed;
     }
