@@ -1,0 +1,6 @@
+pub mod Marks
+pub mod Touched
+pub mod Memoryless
+pub mod Settled
+pub mod Settling
+pub mod Taking
