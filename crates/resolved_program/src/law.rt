@@ -1,6 +1,7 @@
-// The laws of programs that trees spell. The functions take and answer nothing: their contracts are the laws.
+// The laws of programs that trees spell, and of accepted texts. The functions take and answer nothing: their contracts are the laws.
 
 ghost use Rattle.resolved_program.specs.Laws.{ValueIsExpression, FormatIsPieces, BodyIsInOrder, GatheredIsResolved, SpelledIsResolved};
+ghost use Rattle.resolved_program.specs.AcceptedLaws.{TreeHasValidLeaves, TreeIsNumbered, AcceptedIsResolved};
 
 /// In a scope that is in order, a value without a fault is an expression of the program.
 pub fn value_is_expression()
@@ -28,4 +29,20 @@ pub fn gathered_is_resolved()
 /// 32 bits.
 pub fn spelled_is_resolved()
     ensures { SpelledIsResolved }
+{}
+
+/// Each constant of an accepted text's tree is a value of its type, each string literal is printable, and the name of each
+/// function and global is a letter with letters and digits.
+pub fn accepted_has_valid_leaves()
+    ensures { TreeHasValidLeaves }
+{}
+
+/// A text of at most 16384 tokens declares so few functions, locals, globals and objects that each has a number of 32 bits.
+pub fn accepted_is_numbered()
+    ensures { TreeIsNumbered }
+{}
+
+/// The program of an accepted text is resolved.
+pub fn accepted_is_resolved()
+    ensures { AcceptedIsResolved }
 {}

@@ -19,8 +19,8 @@ use Rattle.c_rules.specs.Walks.{pure, finds, finds_if, ◌>>=◌, ◌>>◌}
 use Rattle.c_resolution.specs.States.{State, Goes, finding, scoping}
 use Rattle.c_resolution.specs.Locals.{new_local, refused_local, declare}
 use Rattle.c_resolution.specs.Functions as y
-use Rattle.accepted_program.proofs.Growing.{Grows, grows_more, grows_pure, grows_finding, grows_scoping, grows_through, new_local_grows, declare_grows, opened_same, locals_behind}
-use Rattle.accepted_program.proofs.Parts.{in_turn}
+use Rattle.resolved_program.proofs.LocalCounts.{Grows, grows_more, grows_pure, grows_finding, grows_scoping, grows_through, new_local_grows, declare_grows, opened_same, locals_behind}
+use Rattle.resolved_program.proofs.StatementCounts.{in_turn}
 
 -- ---- the name
 

@@ -13,7 +13,7 @@ use Rattle.c_resolution.specs.Simple.{check_jump}
 use Rattle.c_resolution.specs.Locals.{declaration}
 use Rattle.c_resolution.specs.States.{Goes, finding, scoping}
 use Rattle.c_resolution.specs.Statements as y
-use Rattle.accepted_program.proofs.Growing.{Grows, grows_more, grows_then, grows_pure, grows_finding, grows_scoping, opened_same, closed_same, declaration_grows}
+use Rattle.resolved_program.proofs.LocalCounts.{Grows, grows_more, grows_then, grows_pure, grows_finding, grows_scoping, opened_same, closed_same, declaration_grows}
 
 pub in_turn : {A B : Type 0} (k m n : ℕ) (p : Goes A) (q : A → Goes B) → m + n ≤ k → Grows m p → ((a : A) → Grows n (q a)) → Grows k (p >>= q)
 in_turn k m n p q le hp hq = grows_more (m + n) k (p >>= q) le (grows_then m n p q hp hq)

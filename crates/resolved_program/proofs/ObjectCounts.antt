@@ -17,9 +17,9 @@ use Rattle.c_resolution.specs.States.{finding}
 use Rattle.c_resolution.specs.Files.{Tables, Declares, going, tabling}
 use Rattle.c_resolution.specs.Locals.{optional_length, declare}
 use Rattle.c_resolution.specs.Globals as y
-use Rattle.accepted_program.proofs.Growing.{Grows, grows_finding, declare_grows}
-use Rattle.accepted_program.proofs.Parts.{in_turn}
-use Rattle.accepted_program.proofs.Files.{IsTabled, tabled_more, Does, small_more, does_then, does_pure, does_quiet, does_tabling, does_each, one_longer}
+use Rattle.resolved_program.proofs.LocalCounts.{Grows, grows_finding, declare_grows}
+use Rattle.resolved_program.proofs.StatementCounts.{in_turn}
+use Rattle.resolved_program.proofs.FileCounts.{IsTabled, tabled_more, Does, small_more, does_then, does_pure, does_quiet, does_tabling, does_each, one_longer}
 
 variable_tabled : (m : ℕ) (d : GlobalDeclarator) (v : Variable) (values : List ℤ) (t : Tables) → IsTabled m t → IsTabled (m + 1) (y.with_variable d.name v values t)
 variable_tabled m d v values t h =

@@ -23,8 +23,8 @@ use Rattle.c_tree.specs.declared.expression.Argument.TheFolds.{fold-roll-Choice,
 use Rattle.c_tree.specs.Trees as tree
 use Rattle.resolved_program.specs.Leaves.{Leaves, IsValidConstant, AreValid, all_of, argument_layer, form_layer, call_layer, choice_layer, expression_layer, place_layer, pointer_layer, term_layer}
 use Rattle.resolved_program.specs.Leaves.{argument_leaves, form_leaves, call_leaves, choice_leaves, expression_leaves, place_leaves, pointer_leaves, term_leaves, IsValidLeaf}
-use Rattle.accepted_program.proofs.Lists.{all_both}
-use Rattle.accepted_program.proofs.Tokens.{IsText}
+use Rattle.resolved_program.proofs.Lists.{all_both}
+use Rattle.resolved_program.proofs.Tokens.{IsText}
 
 abbrev pub IsExpression : Expression → Type 0
 IsExpression e = AreValid (expression_leaves e)

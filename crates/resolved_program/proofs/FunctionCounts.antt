@@ -12,9 +12,9 @@ use Rattle.c_resolution.specs.States.{scoping}
 use Rattle.c_resolution.specs.Files.{going}
 use Rattle.c_resolution.specs.Functions as y
 use Rattle.c_resolution.specs.Statements.{items}
-use Rattle.accepted_program.proofs.Growing.{Grows, grows_scoping, closed_same}
-use Rattle.accepted_program.proofs.Parameters.{head_grows}
-use Rattle.accepted_program.proofs.Files.{Does, small_more, does_then, does_going, does_quiet, with_function_tabled}
+use Rattle.resolved_program.proofs.LocalCounts.{Grows, grows_scoping, closed_same}
+use Rattle.resolved_program.proofs.ParameterCounts.{head_grows}
+use Rattle.resolved_program.proofs.FileCounts.{Does, small_more, does_then, does_going, does_quiet, with_function_tabled}
 
 finished_does : (m k n : ℕ) (f : FunctionTree) (returns : ReturnType) (body : Block) (count : ℕ) (b : Statement) → m + 1 ≤ n → k ≤ n → Does m k n k (y.finished f returns body count b)
 finished_does m k n f returns body count b le le' x h =

@@ -17,12 +17,12 @@ use Rattle.c_tree.specs.Expressions.{Phrase}
 use Rattle.c_tree.specs.Statements as h
 use Rattle.c_program.specs.Resolved.{IsName}
 use Rattle.resolved_program.specs.Leaves.{Leaves, AreValid, IsValidLeaf, of_any, of_each, expression_leaves, place_leaves, declarator_leaves, declaration_leaves, simple_leaves, returned_leaves}
-use Rattle.accepted_program.proofs.Lists.{all_both}
-use Rattle.accepted_program.proofs.Rules.{Gives, gives_as, gives_pure, gives_one, gives_then, gives_either, gives_many, gives_optional}
-use Rattle.accepted_program.proofs.Tokens.{IsValidToken, name_valid}
-use Rattle.accepted_program.proofs.Trees as t
-use Rattle.accepted_program.proofs.Trees.{IsExpression, IfAny}
-use Rattle.accepted_program.proofs.Expressions.{Good, sign_gives, name_gives, any_gives, specifiers_gives, optional_index_gives, place_gives, arguments_gives, null_gives, converted_pointer_gives}
+use Rattle.resolved_program.proofs.Lists.{all_both}
+use Rattle.resolved_program.proofs.ValidSentences.{Gives, gives_as, gives_pure, gives_one, gives_then, gives_either, gives_many, gives_optional}
+use Rattle.resolved_program.proofs.Tokens.{IsValidToken, name_valid}
+use Rattle.resolved_program.proofs.ExpressionGrammar as t
+use Rattle.resolved_program.proofs.ExpressionGrammar.{IsExpression, IfAny}
+use Rattle.resolved_program.proofs.ExpressionLeaves.{Good, sign_gives, name_gives, any_gives, specifiers_gives, optional_index_gives, place_gives, arguments_gives, null_gives, converted_pointer_gives}
 
 pub any_part : {A : Type 0} (leaves : A → Leaves) (o : Option A) → IfAny (λ a. AreValid (leaves a)) o → AreValid (of_any leaves o)
 any_part leaves None is = tt

@@ -24,11 +24,11 @@ use Rattle.c_resolution.specs.States.{State, Goes, finding}
 use Rattle.c_resolution.specs.Statements as y
 use Rattle.c_resolution.specs.Statements.{Adds, item_step, statement_step, block_step, item, statement, items}
 use Rattle.resolved_program.specs.Leaves.{Leaves, AreValid, IsValidLeaf, of_any, expression_leaves, simple_leaves, start_leaves, item_layer, statement_layer, block_layer, block_leaves}
-use Rattle.accepted_program.proofs.Lists.{all_both}
-use Rattle.accepted_program.proofs.Trees.{IsExpression, IfAny, all_parts}
-use Rattle.accepted_program.proofs.Growing.{Grows, grows_more, grows_pure, grows_finding, declaration_grows, locals_behind}
-use Rattle.accepted_program.proofs.Parts as w
-use Rattle.accepted_program.proofs.Simple.{any_part, IsSimple, IsReturned, IsDeclaration}
+use Rattle.resolved_program.proofs.Lists.{all_both}
+use Rattle.resolved_program.proofs.ExpressionGrammar.{IsExpression, IfAny, all_parts}
+use Rattle.resolved_program.proofs.LocalCounts.{Grows, grows_more, grows_pure, grows_finding, declaration_grows, locals_behind}
+use Rattle.resolved_program.proofs.StatementCounts as w
+use Rattle.resolved_program.proofs.SimpleLeaves.{any_part, IsSimple, IsReturned, IsDeclaration}
 
 abbrev pub item_leaves : BlockItemTree → Leaves
 item_leaves = fold-BlockItem Leaves Leaves Leaves item_layer statement_layer block_layer

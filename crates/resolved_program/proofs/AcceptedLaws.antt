@@ -3,9 +3,9 @@ use Rattle.c_token.specs.Spelling.{Bytes}
 use Rattle.c_tree.specs.declared.declaration.TranslationUnit.{TranslationUnit}
 use Rattle.c_accepted.specs.Profile.{IsTreeOf}
 use Rattle.resolved_program.proofs.SpelledLaw.{spelled_law}
-use Rattle.accepted_program.specs.Laws.{TreeHasValidLeaves, TreeIsNumbered, AcceptedIsResolved}
-use Rattle.accepted_program.proofs.Texts.{tokens_of}
-use Rattle.accepted_program.proofs.Premises.{IsFewTokens, of_sentence, valid_leaves, numbered}
+use Rattle.resolved_program.specs.AcceptedLaws.{TreeHasValidLeaves, TreeIsNumbered, AcceptedIsResolved}
+use Rattle.resolved_program.proofs.Texts.{tokens_of}
+use Rattle.resolved_program.proofs.Premises.{IsFewTokens, of_sentence, valid_leaves, numbered}
 
 few_tokens : (text : Bytes) (tree : TranslationUnit) → IsTreeOf text tree → IsFewTokens tree
 few_tokens text tree is = of_sentence is.tokens tree (tokens_of text is.tokens is.lexed) is.sentence

@@ -19,11 +19,11 @@ use Rattle.c_tree.specs.Trees as tree
 use Rattle.c_tree.specs.Expressions as g
 use Rattle.c_tree.specs.Expressions.{Phrase}
 use Rattle.c_program.specs.Resolved.{IsName}
-use Rattle.accepted_program.proofs.Lists.{all_both, all_reverse}
-use Rattle.accepted_program.proofs.Rules.{Gives, gives_none, gives_pure, gives_one, gives_then, gives_either, gives_nested, gives_each, gives_optional}
-use Rattle.accepted_program.proofs.Tokens.{IsValidToken, name_valid, constant_valid, text_valid}
-use Rattle.accepted_program.proofs.Trees as t
-use Rattle.accepted_program.proofs.Trees.{IsExpression, IsTerm, IsChoice, IsPlace, IsCall, IsArgument, IsPointer, IfAny}
+use Rattle.resolved_program.proofs.Lists.{all_both, all_reverse}
+use Rattle.resolved_program.proofs.ValidSentences.{Gives, gives_none, gives_pure, gives_one, gives_then, gives_either, gives_nested, gives_each, gives_optional}
+use Rattle.resolved_program.proofs.Tokens.{IsValidToken, name_valid, constant_valid, text_valid}
+use Rattle.resolved_program.proofs.ExpressionGrammar as t
+use Rattle.resolved_program.proofs.ExpressionGrammar.{IsExpression, IsTerm, IsChoice, IsPlace, IsCall, IsArgument, IsPointer, IfAny}
 
 -- what each sentence of a rule spells, whatever the number of its tokens
 abbrev pub Good : {A : Type 0} → (A → Type 0) → Phrase A → Type 0

@@ -20,11 +20,11 @@ use Rattle.c_resolution.specs.Routines as y
 use Rattle.c_resolution.specs.Resolving.{Spells, before, behind, program_at}
 use Rattle.resolved_program.specs.Leaves.{HasValidLeaves}
 use Rattle.resolved_program.specs.Laws.{IsNumbered}
-use Rattle.accepted_program.proofs.Rules.{AreValid}
-use Rattle.accepted_program.proofs.Tokens.{IsValidToken}
-use Rattle.accepted_program.proofs.Texts.{AreTokens, AreFew}
-use Rattle.accepted_program.proofs.Files.{IsSmall}
-use Rattle.accepted_program.proofs.Declarations.{IsUnit, unit_gives}
+use Rattle.resolved_program.proofs.ValidSentences.{AreValid}
+use Rattle.resolved_program.proofs.Tokens.{IsValidToken}
+use Rattle.resolved_program.proofs.Texts.{AreTokens, AreFew}
+use Rattle.resolved_program.proofs.FileCounts.{IsSmall}
+use Rattle.resolved_program.proofs.DeclarationLeaves.{IsUnit, unit_gives}
 
 -- ---- the tokens with their nesting
 

@@ -25,9 +25,9 @@ use Rattle.c_lexer.specs.Lexemes.{is_printable, is_text_body}
 use Rattle.c_lexer.specs.Meaning.{State, is_defined, defined, is_reserved, word_kind, text_kind, token_of, only, gives}
 use Rattle.c_lexer.specs.Meaning.{in_line, at_line_start, directive_word, definition_name, in_directive, by_mode, effect_of}
 use Rattle.resolved_program.specs.Leaves.{IsValidConstant}
-use Rattle.accepted_program.proofs.Trees.{IfAny}
-use Rattle.accepted_program.proofs.Tokens.{IsText, IsValidKind}
-use Rattle.accepted_program.proofs.Constants.{integer_is, character_is}
+use Rattle.resolved_program.proofs.ExpressionGrammar.{IfAny}
+use Rattle.resolved_program.proofs.Tokens.{IsText, IsValidKind}
+use Rattle.resolved_program.proofs.Constants.{integer_is, character_is}
 
 -- what a lexeme's bytes are
 abbrev pub IsBetweenQuotes : Bytes → Type 0

@@ -7,8 +7,8 @@ use Rattle.c_rules.specs.Walks.{Outcome, pure, and_then, ◌>>=◌}
 use Rattle.c_resolution.specs.States.{State, Goes, state}
 use Rattle.c_resolution.specs.Files.{File, Tables, Declares, in_file, going, tabling, with_function}
 use Rattle.c_resolution.specs.Resolving.{after}
-use Rattle.accepted_program.proofs.Growing.{Grows, locals_behind}
-use Rattle.accepted_program.proofs.Lists.{all_both}
+use Rattle.resolved_program.proofs.LocalCounts.{Grows, locals_behind}
+use Rattle.resolved_program.proofs.Lists.{all_both}
 
 -- so many at most, and each function has so many locals at most
 pub record IsTabled (m : ℕ) (t : Tables) : Type 0 where

@@ -28,17 +28,17 @@ use Rattle.c_resolution.specs.Files.{File}
 use Rattle.c_resolution.specs.Texts.{declaration}
 use Rattle.c_resolution.specs.Resolving.{after}
 use Rattle.resolved_program.specs.Leaves.{AreValid, IsValidLeaf, HasValidLeaves, of_any, expression_leaves, block_leaves, initializer_leaves, global_leaves, external_leaves}
-use Rattle.accepted_program.proofs.Lists.{all_both}
-use Rattle.accepted_program.proofs.Rules.{Gives, gives_as, gives_pure, gives_one, gives_then, gives_either, gives_nested, gives_many, gives_each, gives_optional}
-use Rattle.accepted_program.proofs.Tokens.{IsValidToken}
-use Rattle.accepted_program.proofs.Trees.{IsExpression, IfAny}
-use Rattle.accepted_program.proofs.Expressions.{Good, Any, sign_gives, any_gives, specifiers_gives, optional_index_gives, cast_gives, expr_gives}
-use Rattle.accepted_program.proofs.Simple.{any_part, each_part, one_name}
-use Rattle.accepted_program.proofs.Statements.{IsStatement}
-use Rattle.accepted_program.proofs.Blocks.{block_gives, statement_gives}
-use Rattle.accepted_program.proofs.Files.{IsSmall, Does, small_more}
-use Rattle.accepted_program.proofs.Functions.{BodyGrows, function_does}
-use Rattle.accepted_program.proofs.Objects.{objects_does}
+use Rattle.resolved_program.proofs.Lists.{all_both}
+use Rattle.resolved_program.proofs.ValidSentences.{Gives, gives_as, gives_pure, gives_one, gives_then, gives_either, gives_nested, gives_many, gives_each, gives_optional}
+use Rattle.resolved_program.proofs.Tokens.{IsValidToken}
+use Rattle.resolved_program.proofs.ExpressionGrammar.{IsExpression, IfAny}
+use Rattle.resolved_program.proofs.ExpressionLeaves.{Good, Any, sign_gives, any_gives, specifiers_gives, optional_index_gives, cast_gives, expr_gives}
+use Rattle.resolved_program.proofs.SimpleLeaves.{any_part, each_part, one_name}
+use Rattle.resolved_program.proofs.StatementLeaves.{IsStatement}
+use Rattle.resolved_program.proofs.BlockLeaves.{block_gives, statement_gives}
+use Rattle.resolved_program.proofs.FileCounts.{IsSmall, Does, small_more}
+use Rattle.resolved_program.proofs.FunctionCounts.{BodyGrows, function_does}
+use Rattle.resolved_program.proofs.ObjectCounts.{objects_does}
 
 -- ---- parameters
 

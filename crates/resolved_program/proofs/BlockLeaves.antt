@@ -14,15 +14,15 @@ use Rattle.c_tree.specs.Trees as tree
 use Rattle.c_tree.specs.Expressions as g
 use Rattle.c_tree.specs.Expressions.{Phrase}
 use Rattle.c_tree.specs.Statements as h
-use Rattle.accepted_program.proofs.Rules.{Gives, gives_as, gives_none, gives_pure, gives_then, gives_either, gives_nested, gives_many, gives_optional}
-use Rattle.accepted_program.proofs.Tokens.{IsValidToken}
-use Rattle.accepted_program.proofs.Trees.{IsExpression, IfAny}
-use Rattle.accepted_program.proofs.Expressions.{Good, sign_gives, cast_gives, expr_gives}
-use Rattle.accepted_program.proofs.Growing.{grows_more, grows_pure, grows_finding}
-use Rattle.accepted_program.proofs.Parts.{declared_start_grows}
-use Rattle.accepted_program.proofs.Simple.{IsSimple, simple_gives, returned_gives, declaration_gives}
-use Rattle.accepted_program.proofs.Statements.{IsStatement, IsItem, IsBlock, IsStart, AreItems, IsElse, item_grows, block_is, declaration_item, statement_item}
-use Rattle.accepted_program.proofs.Statements.{empty_is, simple_is, break_is, continue_is, return_is, block_statement_is, if_is, while_is, do_is, for_is}
+use Rattle.resolved_program.proofs.ValidSentences.{Gives, gives_as, gives_none, gives_pure, gives_then, gives_either, gives_nested, gives_many, gives_optional}
+use Rattle.resolved_program.proofs.Tokens.{IsValidToken}
+use Rattle.resolved_program.proofs.ExpressionGrammar.{IsExpression, IfAny}
+use Rattle.resolved_program.proofs.ExpressionLeaves.{Good, sign_gives, cast_gives, expr_gives}
+use Rattle.resolved_program.proofs.LocalCounts.{grows_more, grows_pure, grows_finding}
+use Rattle.resolved_program.proofs.StatementCounts.{declared_start_grows}
+use Rattle.resolved_program.proofs.SimpleLeaves.{IsSimple, simple_gives, returned_gives, declaration_gives}
+use Rattle.resolved_program.proofs.StatementLeaves.{IsStatement, IsItem, IsBlock, IsStart, AreItems, IsElse, item_grows, block_is, declaration_item, statement_item}
+use Rattle.resolved_program.proofs.StatementLeaves.{empty_is, simple_is, break_is, continue_is, return_is, block_statement_is, if_is, while_is, do_is, for_is}
 use Rattle.c_program.specs.Tree.{Statement as Step}
 use Rattle.c_rules.specs.Walks as walk
 use Rattle.c_resolution.specs.Simple as simply

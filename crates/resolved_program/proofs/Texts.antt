@@ -12,11 +12,11 @@ use Rattle.c_lexer.specs.declared.meaning.Action.{Action}
 use Rattle.c_lexer.specs.declared.meaning.Action.TheVariants as action
 use Rattle.c_lexer.specs.Meaning.{State, start, awaits_header, after, after_action}
 use Rattle.c_lexer.specs.Texts.{Piece, Splits, with_token, tokens, max_tokens, limit_by, IsWithin, LexesAs, Passed}
-use Rattle.accepted_program.proofs.Lists.{all_both}
-use Rattle.accepted_program.proofs.Trees.{IfAny}
-use Rattle.accepted_program.proofs.Tokens.{IsValidToken}
-use Rattle.accepted_program.proofs.Meanings.{AreConstants, IsAction, IsEffect, effect_is}
-use Rattle.accepted_program.proofs.Lexemes.{facts}
+use Rattle.resolved_program.proofs.Lists.{all_both}
+use Rattle.resolved_program.proofs.ExpressionGrammar.{IfAny}
+use Rattle.resolved_program.proofs.Tokens.{IsValidToken}
+use Rattle.resolved_program.proofs.Meanings.{AreConstants, IsAction, IsEffect, effect_is}
+use Rattle.resolved_program.proofs.Lexemes.{facts}
 use Rattle.resolved_program.specs.Leaves.{IsValidConstant}
 
 abbrev pub AreTokens : List Token → Type 0

@@ -11,7 +11,7 @@ use Rattle.c_lexer.specs.declared.lexeme.Class.{Class}
 use Rattle.c_lexer.specs.declared.lexeme.Class.TheVariants as c
 use Rattle.c_lexer.specs.declared.lexeme.Run.TheVariants as r
 use Rattle.c_lexer.specs.Lexemes.{is_blank, is_letter, goes_on, class_at, comment_or_mark, header_or_mark, header_or_text, GoesOver, IsLexeme}
-use Rattle.accepted_program.proofs.Meanings.{Facts}
+use Rattle.resolved_program.proofs.Meanings.{Facts}
 
 -- a test chooses this class, which is a word's, or the rest does
 either : {G : Type 0} (x : Bool) (o rest : Option Class) → (x ≡ true → o ≡ Some c.Word → G) → (rest ≡ Some c.Word → G) → cond x o rest ≡ Some c.Word → G
