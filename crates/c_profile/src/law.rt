@@ -1,23 +1,12 @@
-// The laws of the profile. The functions take and answer nothing: their contracts are the laws.
+// The law of the profile. The function takes and answers nothing: its contract is the law.
 
 ghost use Rattle.c_profile.specs.Laws.{AcceptedOnce, EachHasAnswer, NeverBoth, RefusedOnce};
 
-/// A text is accepted as one program, with one weight.
-pub fn accepted_once()
-    ensures { AcceptedOnce }
-{}
-
-/// A text is refused for one reason, at one place.
-pub fn refused_once()
-    ensures { RefusedOnce }
-{}
-
-/// No text is both accepted and refused.
-pub fn never_both()
-    ensures { NeverBoth }
-{}
-
-/// Each text is accepted or refused.
-pub fn has_answer()
-    ensures { EachHasAnswer }
+/// Each text has one answer: it is accepted or refused, and not both; it is accepted as one program, with one weight, and refused for
+/// one reason, at one place.
+pub fn has_one_answer()
+    ensures has_answer { EachHasAnswer }
+    ensures never_both { NeverBoth }
+    ensures accepted_once { AcceptedOnce }
+    ensures refused_once { RefusedOnce }
 {}
