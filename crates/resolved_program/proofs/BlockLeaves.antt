@@ -3,7 +3,7 @@ use Rattle.std.proofs.Common.{ℕ, zero, suc, Bool, true, false, length, Option,
 use Rattle.std.specs.Prelude.{◌+◌}
 use Rattle.c_token.specs.declared.keyword.Keyword.TheVariants as k
 use Rattle.c_token.specs.declared.punctuator.Punctuator.TheVariants as p
-use Rattle.grammar.specs.Rules.{pure, ◌>>=◌, ◌>>◌, many, optional}
+use Rattle.grammar.specs.Rules.{pure, many, optional, ◌>>=◌, ◌>>◌}
 use Rattle.c_tree.specs.declared.sign.Sign.TheVariants.{Word, Mark}
 use Rattle.c_tree.specs.declared.expression.Expression.{Expression}
 use Rattle.c_tree.specs.declared.statement.SimpleStatement.{SimpleStatement}
@@ -16,7 +16,7 @@ use Rattle.c_tree.specs.Expressions.{Phrase}
 use Rattle.c_tree.specs.Statements as h
 use Rattle.resolved_program.proofs.ValidSentences.{Gives, gives_as, gives_none, gives_pure, gives_then, gives_either, gives_nested, gives_many, gives_optional}
 use Rattle.resolved_program.proofs.Tokens.{IsValidToken}
-use Rattle.resolved_program.proofs.ExpressionGrammar.{IsExpression, IfAny}
+use Rattle.resolved_program.proofs.ExpressionGrammar.{IsExpression}
 use Rattle.resolved_program.proofs.ExpressionLeaves.{Good, sign_gives, cast_gives, expr_gives}
 use Rattle.resolved_program.proofs.LocalCounts.{grows_more, grows_pure, grows_finding}
 use Rattle.resolved_program.proofs.StatementCounts.{declared_start_grows}
@@ -28,6 +28,7 @@ use Rattle.c_rules.specs.Walks as walk
 use Rattle.c_resolution.specs.Simple as simply
 use Rattle.c_resolution.specs.States.{finding}
 use Rattle.c_resolution.specs.Statements as y
+use Rattle.resolved_program.proofs.Walks.{IfAny}
 
 module _ (cast expr : Phrase Expression) (of_cast : Good IsExpression cast) (of_expr : Good IsExpression expr) where
   -- ---- statements with no statement in them

@@ -14,7 +14,7 @@ use Rattle.c_token.specs.Spelling.{Bytes}
 use Rattle.c_token.specs.Constants as t
 use Rattle.c_rules.specs.Constants.{constant_type}
 use Rattle.resolved_program.specs.Leaves.{IsValidConstant}
-use Rattle.resolved_program.proofs.ExpressionGrammar.{IfAny}
+use Rattle.resolved_program.proofs.Walks.{IfAny}
 
 pub below : (n m k : ℕ) → m + 1 ≡ k → nat_le n m ≡ true → nat_lt n k ≡ true
 below n m k e h = grind (arith, nat_tests)

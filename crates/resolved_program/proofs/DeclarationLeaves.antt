@@ -4,7 +4,7 @@ use Rattle.std.specs.Prelude.{◌+◌, fold}
 use Rattle.std.specs.List.{AllByRecursion}
 use Rattle.c_token.specs.declared.keyword.Keyword.TheVariants as k
 use Rattle.c_token.specs.declared.punctuator.Punctuator.TheVariants as p
-use Rattle.grammar.specs.Rules.{pure, one, ◌>>=◌, ◌>>◌, ◌<|>◌, many, optional}
+use Rattle.grammar.specs.Rules.{pure, one, ◌>>◌, ◌<|>◌, many, optional, ◌>>=◌}
 use Rattle.c_tree.specs.declared.sign.Sign.TheVariants.{Word, Mark, End}
 use Rattle.c_tree.specs.declared.expression.Name.{Name}
 use Rattle.c_tree.specs.declared.expression.Specifiers.{Specifiers}
@@ -31,7 +31,7 @@ use Rattle.resolved_program.specs.Leaves.{AreValid, IsValidLeaf, HasValidLeaves,
 use Rattle.resolved_program.proofs.Lists.{all_both}
 use Rattle.resolved_program.proofs.ValidSentences.{Gives, gives_as, gives_pure, gives_one, gives_then, gives_either, gives_nested, gives_many, gives_each, gives_optional}
 use Rattle.resolved_program.proofs.Tokens.{IsValidToken}
-use Rattle.resolved_program.proofs.ExpressionGrammar.{IsExpression, IfAny}
+use Rattle.resolved_program.proofs.ExpressionGrammar.{IsExpression}
 use Rattle.resolved_program.proofs.ExpressionLeaves.{Good, Any, sign_gives, any_gives, specifiers_gives, optional_index_gives, cast_gives, expr_gives}
 use Rattle.resolved_program.proofs.SimpleLeaves.{any_part, each_part, one_name}
 use Rattle.resolved_program.proofs.StatementLeaves.{IsStatement}
@@ -39,6 +39,7 @@ use Rattle.resolved_program.proofs.BlockLeaves.{block_gives, statement_gives}
 use Rattle.resolved_program.proofs.FileCounts.{IsSmall, Does, small_more}
 use Rattle.resolved_program.proofs.FunctionCounts.{BodyGrows, function_does}
 use Rattle.resolved_program.proofs.ObjectCounts.{objects_does}
+use Rattle.resolved_program.proofs.Walks.{IfAny}
 
 -- ---- parameters
 

@@ -1,6 +1,6 @@
 -- A definition of a function is in order.
 use Rattle.std.proofs.Common.{◌≡◌, refl, sym, ap, subst, ◌∙◌, ℕ, zero, suc, ◌<◌, ◌≤◌, true, false, List, []}
-use Rattle.std.proofs.Common.{◌∷◌, ◌++◌, map, length, Some, append-nil, length-append, le_trans, arith}
+use Rattle.std.proofs.Common.{◌∷◌, ◌++◌, map, length, Some, append-nil, le_trans, arith}
 use Rattle.std.specs.Prelude.{◌^◌, slice_get, is_some, unwrap_or}
 use Rattle.std.specs.List.{AllByRecursion}
 use Rattle.std.proofs.lemmas.Bool.{and_parts}
@@ -20,10 +20,11 @@ use Rattle.c_resolution.specs.Statements.{items}
 use Rattle.c_resolution.specs.Functions as y
 use Rattle.resolved_program.specs.Leaves.{AreValid, block_leaves}
 use Rattle.resolved_program.specs.Orders.{left, given, IsFront, AreMeant, IsHeader, IsGiven, IsPartOf, IsAhead, Holds, IsInOrder, GivesRoutines}
-use Rattle.resolved_program.proofs.Steps.{all_more}
 use Rattle.resolved_program.proofs.Parameters.{parameters_add}
 use Rattle.resolved_program.proofs.Statements.{block_claim}
 use Rattle.resolved_program.proofs.Functions.{moving_parameters, given_is, alone, before_body}
+use Rattle.resolved_program.proofs.Walks.{all_more}
+use Rattle.resolved_program.proofs.Steps.{front_le}
 
 -- a local among the first of a list is one of its front
 in_front : {A : Type 0} (Is : A → Type 0) (xs list : List A) (k : ℕ) (a : A) → IsFront xs list → AllByRecursion Is xs → k < length xs → slice_get list k ≡ Some a → Is a
@@ -33,9 +34,6 @@ in_front Is xs list k a front all lt at = by xs k front.0 all lt (ap (λ l. slic
     by [] k more all lt at = absurd (omega arith)
     by (x ∷ xs) zero more all lt at = subst Is (ap (λ o. unwrap_or o x) at) all.0
     by (x ∷ xs) (suc k) more all lt at = by xs k more all.1 (omega arith) at
-
-front_le : {A : Type 0} (xs list : List A) → IsFront xs list → length xs ≤ length list
-front_le xs list h = let e = length-append xs h.0 in let f = ap length h.1 in omega arith
 
 positive_all : (list : List LocalVariable) → AllByRecursion (λ (l : LocalVariable). l.length ≡ 1) list → AllByRecursion (λ (l : LocalVariable). 0 < l.length) list
 positive_all [] all = tt

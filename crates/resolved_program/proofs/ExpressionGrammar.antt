@@ -1,6 +1,5 @@
 -- The leaves of expressions as the grammar puts them together.
 use Rattle.std.proofs.Common.{sym, ap, subst, ◌∙◌, ℕ, List, [], ◌∷◌, map, Option, Some, None}
-use Rattle.std.specs.Prelude.{⊤}
 use Rattle.std.specs.List.{AllByRecursion}
 use Rattle.c_token.specs.declared.constant.Constant.{Constant}
 use Rattle.c_tree.specs.declared.expression.Name.{Name}
@@ -24,7 +23,8 @@ use Rattle.c_tree.specs.Trees as tree
 use Rattle.resolved_program.specs.Leaves.{Leaves, IsValidConstant, AreValid, all_of, argument_layer, form_layer, call_layer, choice_layer, expression_layer, place_layer, pointer_layer, term_layer}
 use Rattle.resolved_program.specs.Leaves.{argument_leaves, form_leaves, call_leaves, choice_leaves, expression_leaves, place_leaves, pointer_leaves, term_leaves, IsValidLeaf}
 use Rattle.resolved_program.proofs.Lists.{all_both}
-use Rattle.resolved_program.proofs.Tokens.{IsText}
+use Rattle.resolved_program.proofs.Walks.{IfAny}
+use Rattle.resolved_program.proofs.Pieces.{AreText}
 
 abbrev pub IsExpression : Expression → Type 0
 IsExpression e = AreValid (expression_leaves e)
@@ -49,10 +49,6 @@ IsArgument e = AreValid (argument_leaves e)
 
 abbrev pub IsPointer : Pointer → Type 0
 IsPointer e = AreValid (pointer_leaves e)
-
-abbrev pub IfAny : {A : Type 0} → (A → Type 0) → Option A → Type 0
-IfAny Is None = ⊤
-IfAny Is (Some a) = Is a
 
 pub all_parts : {A : Type 0} (leaves : A → Leaves) (list : List A) → AllByRecursion (λ a. AreValid (leaves a)) list → AreValid (all_of (map leaves list))
 all_parts leaves [] all = tt
@@ -185,7 +181,7 @@ value_argument_is e is =
     (sym (ap argument_leaves (sym (argument_of.rolls-Value e)) ∙ fold-roll-Argument Leaves Leaves Leaves Leaves Leaves Leaves Leaves Leaves
     argument_layer form_layer call_layer choice_layer expression_layer place_layer pointer_layer term_layer (Argument-F.Value e))) is
 
-pub text_argument_is : (bytes : List ℕ) (at : ℕ) → IsText bytes → IsArgument (argument_of.Text bytes at)
+pub text_argument_is : (bytes : List ℕ) (at : ℕ) → AreText bytes → IsArgument (argument_of.Text bytes at)
 text_argument_is bytes at is =
     subst AreValid
     (sym (ap argument_leaves (sym (argument_of.rolls-Text bytes at)) ∙ fold-roll-Argument Leaves Leaves Leaves Leaves Leaves Leaves Leaves Leaves

@@ -5,7 +5,7 @@ use Rattle.std.specs.List.{AllByRecursion}
 use Rattle.c_token.specs.declared.keyword.Keyword.TheVariants as k
 use Rattle.c_token.specs.declared.punctuator.Punctuator.TheVariants as p
 use Rattle.c_token.specs.declared.token.Token.{Token}
-use Rattle.grammar.specs.Rules.{pure, one, ◌>>=◌, ◌>>◌, ◌<|>◌, optional}
+use Rattle.grammar.specs.Rules.{pure, one, ◌<|>◌, optional, ◌>>=◌, ◌>>◌}
 use Rattle.c_tree.specs.declared.sign.Sign.{Sign}
 use Rattle.c_tree.specs.declared.sign.Sign.TheVariants.{Word, Mark}
 use Rattle.c_tree.specs.declared.expression.Name.{Name}
@@ -23,7 +23,8 @@ use Rattle.resolved_program.proofs.Lists.{all_both, all_reverse}
 use Rattle.resolved_program.proofs.ValidSentences.{Gives, gives_none, gives_pure, gives_one, gives_then, gives_either, gives_nested, gives_each, gives_optional}
 use Rattle.resolved_program.proofs.Tokens.{IsValidToken, name_valid, constant_valid, text_valid}
 use Rattle.resolved_program.proofs.ExpressionGrammar as t
-use Rattle.resolved_program.proofs.ExpressionGrammar.{IsExpression, IsTerm, IsChoice, IsPlace, IsCall, IsArgument, IsPointer, IfAny}
+use Rattle.resolved_program.proofs.ExpressionGrammar.{IsExpression, IsTerm, IsChoice, IsPlace, IsArgument, IsPointer}
+use Rattle.resolved_program.proofs.Walks.{IfAny}
 
 -- what each sentence of a rule spells, whatever the number of its tokens
 abbrev pub Good : {A : Type 0} → (A → Type 0) → Phrase A → Type 0

@@ -1,5 +1,5 @@
 -- What a function at file scope leaves: the scope behind its name, and one function more where it has a body.
-use Rattle.std.proofs.Common.{◌≡◌, refl, sym, ap, subst, ◌∙◌, ℕ, ◌≤◌, false, List, [], ◌∷◌, ◌++◌, length, Option, Some, None, append-nil, length-append, arith}
+use Rattle.std.proofs.Common.{◌≡◌, refl, sym, ap, subst, ◌∙◌, ℕ, ◌≤◌, false, List, [], ◌∷◌, ◌++◌, length, Option, Some, None, append-nil, arith}
 use Rattle.std.specs.Prelude.{◌^◌, ◌-◌, is_some, slice_get}
 use Rattle.std.proofs.lemmas.Option.{same_Some, none-some}
 use Rattle.std.proofs.Math.Nat.{le_refl}
@@ -18,13 +18,15 @@ use Rattle.c_resolution.specs.Statements.{items}
 use Rattle.c_resolution.specs.Files.{File, Declares, file, going, with_function}
 use Rattle.c_resolution.specs.Functions as y
 use Rattle.resolved_program.specs.Leaves.{AreValid, block_leaves, of_any}
-use Rattle.resolved_program.specs.Orders.{left, IsFront, IsPartOf, IsAhead, GivesRoutines}
+use Rattle.resolved_program.specs.Orders.{left, IsPartOf, IsAhead, GivesRoutines}
 use Rattle.resolved_program.proofs.Walks.{turn}
 use Rattle.resolved_program.proofs.Moving as m
 use Rattle.resolved_program.proofs.Statements.{block_claim}
 use Rattle.resolved_program.proofs.Parameters.{parameters_add}
 use Rattle.resolved_program.proofs.Functions.{in_file_is, named, inside, head_is, before_body, defined_at, definition_is, moving_parameters}
 use Rattle.resolved_program.proofs.Filed.{headed, function_left}
+use Rattle.resolved_program.proofs.LocalCounts.{opened_locals}
+use Rattle.resolved_program.proofs.Steps.{front_le}
 
 -- ---- scopes
 
@@ -76,10 +78,6 @@ opened_headers s = refl
 opened_definitions : (s : Scope) → (opened s).definitions ≡ s.definitions
 unfolding opened
 opened_definitions s = refl
-
-opened_locals : (s : Scope) → (opened s).locals ≡ s.locals
-unfolding opened
-opened_locals s = refl
 
 -- behind parts in a scope of their own
 moved_keeps : (s t : Scope) → m.Moves (opened s) t → Keeps s (closed (y.without_locals t))
@@ -133,9 +131,6 @@ pub record IsFunctionLeft (whole : Findings) (f : FunctionTree) (h : Header) (x 
   pub count : length more ≡ length (y.written f)
   pub fits : (body : Block) → f.body ≡ Some body → length (headed f h x).scope.locals ≤ length (defined_at f (y.return_type h) body (headed f h x)).locals
   pub tables : IsTabled f h f.body x z
-
-front_le : {A : Type 0} (xs list : List A) → IsFront xs list → length xs ≤ length list
-front_le xs list h = let e = length-append xs h.0 in let f = ap length h.1 in omega arith
 
 -- a function of no locals
 abbrev pub nobody : Function

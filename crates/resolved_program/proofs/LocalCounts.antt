@@ -62,9 +62,9 @@ grows_through step a items h x = through_from step items (Outcome.Gives a x) h
 
 -- ---- scopes
 
-pub opened_same : (s : Scope) → (opened s).locals ≡ s.locals
+pub opened_locals : (s : Scope) → (opened s).locals ≡ s.locals
 unfolding opened
-opened_same s = refl
+opened_locals s = refl
 
 closed_to_same : (level : Option Names) (s : Scope) → (closed_to level s).locals ≡ s.locals
 closed_to_same None s = refl
@@ -76,20 +76,20 @@ closed_same s = closed_to_same (slice_get s.outer (length s.outer - 1)) s
 
 -- ---- declarations
 
-by_grows : {A : Type 0} (b : Bool) (v w : Goes A) (n : ℕ) (x : State) → Grows n v → Grows n w → locals_behind (if b then v x else w x) ≤ length x.scope.locals + n
+pub by_grows : {A : Type 0} (b : Bool) (v w : Goes A) (n : ℕ) (x : State) → Grows n v → Grows n w → locals_behind (if b then v x else w x) ≤ length x.scope.locals + n
 by_grows true v w n x h k = h x
 by_grows false v w n x h k = k x
 
-declaring_same : (name : List ℕ) (m : Meaning) (s : Scope) → (declaring name m s).locals ≡ s.locals
+pub declared_locals : (name : List ℕ) (m : Meaning) (s : Scope) → (declaring name m s).locals ≡ s.locals
 unfolding declaring
-declaring_same name m s = refl
+declared_locals name m s = refl
 
 pub declare_grows : (name : Name) (m : Meaning) → Grows 0 (y.declare name m)
 unfolding y.declare
 declare_grows name m x =
     let v : Goes (Unit {0}) = finding (λ s. finds rule.Twice name.offset) in
     let w : Goes (Unit {0}) = scoping (declaring name.bytes m) in
-    by_grows (is_taken x.scope name.bytes) v w 0 x (grows_finding (λ s. finds rule.Twice name.offset)) (grows_scoping (declaring name.bytes m) (declaring_same name.bytes m))
+    by_grows (is_taken x.scope name.bytes) v w 0 x (grows_finding (λ s. finds rule.Twice name.offset)) (grows_scoping (declaring name.bytes m) (declared_locals name.bytes m))
 
 pub new_local_grows : (words : Spelled) (size : Option ℕ) (ty : BasicType) → Grows 1 (y.new_local words size ty)
 unfolding y.new_local

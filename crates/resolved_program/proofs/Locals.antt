@@ -32,11 +32,11 @@ use Rattle.c_resolution.specs.States.{finding}
 use Rattle.c_resolution.specs.Locals as y
 use Rattle.resolved_program.specs.Leaves.{AreValid, expression_leaves, declarator_leaves, declaration_leaves, of_any, of_each}
 use Rattle.resolved_program.specs.Orders.{IsMeant, IsOrderly, IsInOrder, GivesRoutines}
-use Rattle.resolved_program.proofs.Walks.{Shows, shows_pure, shows_then, shows_as, shows_broken, shows_if, IfAny}
+use Rattle.resolved_program.proofs.Walks.{Shows, shows_pure, shows_then, shows_as, shows_broken, shows_if, IfAny, all_more}
 use Rattle.resolved_program.proofs.Calls as k
 use Rattle.resolved_program.proofs.Trees.{value_shows, all_left}
 use Rattle.resolved_program.proofs.Simple as z
-use Rattle.resolved_program.proofs.Steps.{Does, does_pure, does_then, does_as, does_finding, declare_does, does_through, all_more, next_in, front_before, front_length}
+use Rattle.resolved_program.proofs.Steps.{Does, does_pure, does_then, does_as, does_finding, declare_does, does_through, next_in, front_before, front_length}
 
 -- ---- lengths
 

@@ -25,9 +25,10 @@ use Rattle.c_lexer.specs.Lexemes.{is_printable, is_text_body}
 use Rattle.c_lexer.specs.Meaning.{State, is_defined, defined, is_reserved, word_kind, text_kind, token_of, only, gives}
 use Rattle.c_lexer.specs.Meaning.{in_line, at_line_start, directive_word, definition_name, in_directive, by_mode, effect_of}
 use Rattle.resolved_program.specs.Leaves.{IsValidConstant}
-use Rattle.resolved_program.proofs.ExpressionGrammar.{IfAny}
-use Rattle.resolved_program.proofs.Tokens.{IsText, IsValidKind}
+use Rattle.resolved_program.proofs.Tokens.{IsValidKind}
 use Rattle.resolved_program.proofs.Constants.{integer_is, character_is}
+use Rattle.resolved_program.proofs.Walks.{IfAny}
+use Rattle.resolved_program.proofs.Pieces.{AreText}
 
 -- what a lexeme's bytes are
 abbrev pub IsBetweenQuotes : Bytes → Type 0
@@ -81,7 +82,7 @@ constant_is (Some constant) is = is
 printable_is : (b : ℕ) → is_printable b ≡ true → IsTrue (is_text_byte b)
 printable_is b h = or_right (b == 9 || b == 10) (is_printable b) h
 
-body_is : (escaped : Bool) (z : Bytes) → is_text_body escaped z ≡ true → IsText z
+body_is : (escaped : Bool) (z : Bytes) → is_text_body escaped z ≡ true → AreText z
 unfolding is_text_body
 body_is escaped [] h = tt
 body_is true (b ∷ z) h = (printable_is b (and_parts (is_printable b) (is_text_body false z) h).0, body_is false z (and_parts (is_printable b) (is_text_body false z) h).1)
@@ -96,7 +97,7 @@ within_quotes inside =
 
 text_is : (word : Bytes) → IsBetweenQuotes word → IsValidKind (text_kind word)
 text_is word h =
-    subst (λ w. IsText (take (length w - 2) (drop 1 w))) (sym h.1) (subst IsText (sym (within_quotes h.0)) (body_is false h.0 h.2))
+    subst (λ w. AreText (take (length w - 2) (drop 1 w))) (sym h.1) (subst AreText (sym (within_quotes h.0)) (body_is false h.0 h.2))
 
 token_is : (s : State) (class : Class) (word : Bytes) → Facts class word → AreConstants s.values → IfAny IsValidKind (token_of s class word)
 unfolding token_of

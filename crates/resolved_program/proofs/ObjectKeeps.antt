@@ -33,6 +33,7 @@ use Rattle.resolved_program.proofs.Coded.{AreCodes, codes_on}
 use Rattle.resolved_program.proofs.Lengths.{given_lengths, given_count}
 use Rattle.resolved_program.proofs.Declaring.{count_of, IsVariableLeft, IsObjectLeft, IsGlobalLeft}
 use Rattle.resolved_program.proofs.FileHolds.{FileHolds}
+use Rattle.resolved_program.proofs.LocalCounts.{declared_locals}
 
 -- ---- a new name in a scope
 
@@ -51,10 +52,6 @@ declared_definitions name m s = refl
 declared_outer : (name : List ℕ) (m : Meaning) (s : Scope) → (declaring name m s).outer ≡ s.outer
 unfolding declaring
 declared_outer name m s = refl
-
-declared_locals : (name : List ℕ) (m : Meaning) (s : Scope) → (declaring name m s).locals ≡ s.locals
-unfolding declaring
-declared_locals name m s = refl
 
 module _ (P : Program) (D : List (List ℕ × ℕ)) (done : List ExternalDeclaration) (x z : File) (name : List ℕ) (m : Meaning) (new : named_in x.scope.inner name ≡ None)
     (scope : z.scope ≡ declaring name m x.scope) (other : (n : ℕ) → m ≡ meaning.Function n → ⊥) where

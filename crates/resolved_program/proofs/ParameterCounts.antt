@@ -1,6 +1,6 @@
 -- How many locals the head of a function declares at most: one for each parameter.
 use Rattle.std.proofs.Common.{refl, ℕ, ◌≤◌, Bool, true, false, List, [], length, Option, Some, None, arith}
-use Rattle.std.specs.Prelude.{◌+◌, is_some, not, if◌then◌else◌}
+use Rattle.std.specs.Prelude.{is_some, not, if◌then◌else◌}
 use Rattle.c_tree.specs.declared.expression.Name.{Name}
 use Rattle.c_tree.specs.declared.declaration.Function.{Function as FunctionTree}
 use Rattle.c_tree.specs.declared.declaration.Parameter.{Parameter}
@@ -16,10 +16,10 @@ use Rattle.c_rules.specs.Library.{function_named}
 use Rattle.c_rules.specs.Names.{is_start_routine, opened}
 use Rattle.c_rules.specs.Specifiers.{plain, spelled_by}
 use Rattle.c_rules.specs.Walks.{pure, finds, finds_if, ◌>>=◌, ◌>>◌}
-use Rattle.c_resolution.specs.States.{State, Goes, finding, scoping}
+use Rattle.c_resolution.specs.States.{Goes, finding, scoping}
 use Rattle.c_resolution.specs.Locals.{new_local, refused_local, declare}
 use Rattle.c_resolution.specs.Functions as y
-use Rattle.resolved_program.proofs.LocalCounts.{Grows, grows_more, grows_pure, grows_finding, grows_scoping, grows_through, new_local_grows, declare_grows, opened_same, locals_behind}
+use Rattle.resolved_program.proofs.LocalCounts.{Grows, grows_more, grows_pure, grows_finding, grows_scoping, grows_through, new_local_grows, declare_grows, opened_locals, by_grows}
 use Rattle.resolved_program.proofs.StatementCounts.{in_turn}
 
 -- ---- the name
@@ -31,10 +31,6 @@ over_grows h name second (Some meaning.Argument) = grows_finding (λ s. finds ru
 over_grows h name second (Some meaning.Unusable) = grows_finding (λ s. finds rule.Twice name.offset)
 over_grows h name second (Some (meaning.Variable v)) = grows_finding (λ s. finds rule.Twice name.offset)
 over_grows h name second (Some (meaning.Object o)) = grows_finding (λ s. finds rule.Twice name.offset)
-
-by_grows : {A : Type 0} (b : Bool) (v w : Goes A) (n : ℕ) (x : State) → Grows n v → Grows n w → locals_behind (if b then v x else w x) ≤ length x.scope.locals + n
-by_grows true v w n x h k = h x
-by_grows false v w n x h k = k x
 
 function_name_grows : (h : Header) (name : Name) (second : Bool) → Grows 0 (y.declare_function h name second)
 unfolding y.declare_function
@@ -97,6 +93,6 @@ head_grows f h count =
     (λ _. in_turn n 0 n (finding (λ s. finds_if (y.is_unlisted (y.gives_of h)) rule.Kind f.name.offset)) second (omega arith)
     (grows_finding (λ s. finds_if (y.is_unlisted (y.gives_of h)) rule.Kind f.name.offset))
     (λ _. in_turn n 0 n (y.declare_function h f.name (y.is_second f h count)) third (omega arith) (function_name_grows h f.name (y.is_second f h count))
-    (λ _. in_turn n 0 n (scoping opened) last (omega arith) (grows_scoping opened opened_same)
+    (λ _. in_turn n 0 n (scoping opened) last (omega arith) (grows_scoping opened opened_locals)
     (λ _. grows_more (length (y.written f)) n (y.parameters (is_start_routine h) (is_some f.body) (y.written f)) (fewer (y.is_no_parameter f.parameters) f.parameters)
     (parameters_grow (is_start_routine h) (is_some f.body) (y.written f))))))

@@ -11,7 +11,7 @@ use Rattle.c_rules.specs.declared.findings.Findings.{Findings}
 use Rattle.c_resolution.specs.Statements as y
 use Rattle.resolved_program.specs.Orders.{IsInOrder, IsFoundCall, IsFoundCreation, IsPointerAt}
 use Rattle.resolved_program.proofs.Calls as k
-use Rattle.resolved_program.proofs.Steps.{all_more}
+use Rattle.resolved_program.proofs.Walks.{all_more}
 
 -- ---- statements that are made of statements
 

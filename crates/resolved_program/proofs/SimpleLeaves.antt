@@ -21,8 +21,9 @@ use Rattle.resolved_program.proofs.Lists.{all_both}
 use Rattle.resolved_program.proofs.ValidSentences.{Gives, gives_as, gives_pure, gives_one, gives_then, gives_either, gives_many, gives_optional}
 use Rattle.resolved_program.proofs.Tokens.{IsValidToken, name_valid}
 use Rattle.resolved_program.proofs.ExpressionGrammar as t
-use Rattle.resolved_program.proofs.ExpressionGrammar.{IsExpression, IfAny}
+use Rattle.resolved_program.proofs.ExpressionGrammar.{IsExpression}
 use Rattle.resolved_program.proofs.ExpressionLeaves.{Good, sign_gives, name_gives, any_gives, specifiers_gives, optional_index_gives, place_gives, arguments_gives, null_gives, converted_pointer_gives}
+use Rattle.resolved_program.proofs.Walks.{IfAny}
 
 pub any_part : {A : Type 0} (leaves : A → Leaves) (o : Option A) → IfAny (λ a. AreValid (leaves a)) o → AreValid (of_any leaves o)
 any_part leaves None is = tt

@@ -13,7 +13,7 @@ use Rattle.c_resolution.specs.Simple.{check_jump}
 use Rattle.c_resolution.specs.Locals.{declaration}
 use Rattle.c_resolution.specs.States.{Goes, finding, scoping}
 use Rattle.c_resolution.specs.Statements as y
-use Rattle.resolved_program.proofs.LocalCounts.{Grows, grows_more, grows_then, grows_pure, grows_finding, grows_scoping, opened_same, closed_same, declaration_grows}
+use Rattle.resolved_program.proofs.LocalCounts.{Grows, grows_more, grows_then, grows_pure, grows_finding, grows_scoping, opened_locals, closed_same, declaration_grows}
 
 pub in_turn : {A B : Type 0} (k m n : ℕ) (p : Goes A) (q : A → Goes B) → m + n ≤ k → Grows m p → ((a : A) → Grows n (q a)) → Grows k (p >>= q)
 in_turn k m n p q le hp hq = grows_more (m + n) k (p >>= q) le (grows_then m n p q hp hq)
@@ -46,7 +46,7 @@ unfolding y.for_loop
 for_loop_grows n m k begin test step body le first h =
     let out = λ (head : y.Head) (x : Statement). scoping closed >> pure (y.for_of head x) in
     let next = λ (head : y.Head). y.loop_body body >>= out head in
-    in_turn n 0 n (scoping opened) (λ _. y.for_head begin test step >>= next) (omega arith) (grows_scoping opened opened_same)
+    in_turn n 0 n (scoping opened) (λ _. y.for_head begin test step >>= next) (omega arith) (grows_scoping opened opened_locals)
     (λ _. in_turn n m k (y.for_head begin test step) next le (for_head_grows m begin test step first)
     (λ head. in_turn k k 0 (y.loop_body body) (out head) (omega arith) (loop_body_grows k body h)
     (λ x. in_turn 0 0 0 (scoping closed) (λ _. pure (y.for_of head x)) (omega arith) (grows_scoping closed closed_same) (λ _. grows_pure (y.for_of head x)))))
@@ -54,7 +54,7 @@ for_loop_grows n m k begin test step body le first h =
 pub block_statement_grows : (n : ℕ) (items : Goes Statement) → Grows n items → Grows n (y.block_statement items)
 block_statement_grows n items h =
     let out = λ (body : Statement). scoping closed >> pure (y.block_of body) in
-    in_turn n 0 n (scoping opened) (λ _. items >>= out) (omega arith) (grows_scoping opened opened_same)
+    in_turn n 0 n (scoping opened) (λ _. items >>= out) (omega arith) (grows_scoping opened opened_locals)
     (λ _. in_turn n n 0 items out (omega arith) h
     (λ body. in_turn 0 0 0 (scoping closed) (λ _. pure (y.block_of body)) (omega arith) (grows_scoping closed closed_same) (λ _. grows_pure (y.block_of body))))
 

@@ -14,7 +14,7 @@ use Rattle.c_tree.specs.declared.statement.BlockItem.TheVariants as block_item
 use Rattle.c_tree.specs.declared.statement.Statement.{Statement as StatementTree, roll-Statement}
 use Rattle.c_tree.specs.declared.statement.Statement.TheVariants as st
 use Rattle.c_tree.specs.declared.statement.BlockItem.TheOpen.{BlockItem-F, Statement-F}
-use Rattle.c_tree.specs.declared.statement.BlockItem.TheFolds.{map-Statement, fold-BlockItem, fold-Statement, fold-roll-BlockItem, fold-roll-Statement, fold-roll-Block}
+use Rattle.c_tree.specs.declared.statement.BlockItem.TheFolds.{map-Statement, fold-roll-BlockItem, fold-roll-Statement, fold-roll-Block}
 use Rattle.c_tree.specs.Trees as tree
 use Rattle.c_program.specs.Tree.{Statement}
 use Rattle.c_rules.specs.Walks.{Outcome, and_then, pure as nothing}
@@ -25,16 +25,12 @@ use Rattle.c_resolution.specs.Statements as y
 use Rattle.c_resolution.specs.Statements.{Adds, item_step, statement_step, block_step, item, statement, items}
 use Rattle.resolved_program.specs.Leaves.{Leaves, AreValid, IsValidLeaf, of_any, expression_leaves, simple_leaves, start_leaves, item_layer, statement_layer, block_layer, block_leaves}
 use Rattle.resolved_program.proofs.Lists.{all_both}
-use Rattle.resolved_program.proofs.ExpressionGrammar.{IsExpression, IfAny, all_parts}
+use Rattle.resolved_program.proofs.Walks.{IfAny}
+use Rattle.resolved_program.proofs.Statements.{item_leaves, statement_leaves}
+use Rattle.resolved_program.proofs.ExpressionGrammar.{IsExpression, all_parts}
 use Rattle.resolved_program.proofs.LocalCounts.{Grows, grows_more, grows_pure, grows_finding, declaration_grows, locals_behind}
 use Rattle.resolved_program.proofs.StatementCounts as w
 use Rattle.resolved_program.proofs.SimpleLeaves.{any_part, IsSimple, IsReturned, IsDeclaration}
-
-abbrev pub item_leaves : BlockItemTree → Leaves
-item_leaves = fold-BlockItem Leaves Leaves Leaves item_layer statement_layer block_layer
-
-abbrev pub statement_leaves : StatementTree → Leaves
-statement_leaves = fold-Statement Leaves Leaves Leaves item_layer statement_layer block_layer
 
 abbrev pub IsStatement : ℕ → StatementTree → Type 0
 IsStatement n x = AreValid (statement_leaves x) × Grows n (statement x)

@@ -31,20 +31,20 @@ use Rattle.c_resolution.specs.Statements.{Adds, item_step, statement_step, block
 use Rattle.resolved_program.specs.Leaves.{Leaves, AreValid, all_of, of_any, expression_leaves, simple_leaves, start_leaves}
 use Rattle.resolved_program.specs.Leaves.{item_layer, statement_layer, block_layer, block_leaves}
 use Rattle.resolved_program.specs.Orders.{left, given, IsInOrder, IsAhead, Holds, GivesRoutines}
-use Rattle.resolved_program.proofs.Walks.{shows_pure, shows_as, shows_if, turn}
+use Rattle.resolved_program.proofs.Walks.{shows_pure, shows_as, shows_if, turn, all_more}
 use Rattle.resolved_program.proofs.Calls as k
 use Rattle.resolved_program.proofs.Trees.{condition_shows, all_left}
 use Rattle.resolved_program.proofs.Simple.{simple_shows, returned_shows}
-use Rattle.resolved_program.proofs.Steps.{Does, does_pure, does_then, does_as, does_finding, does_finding_in, does_opened, does_closed, does_through, all_more}
+use Rattle.resolved_program.proofs.Steps.{Does, does_pure, does_then, does_as, does_finding, does_finding_in, does_opened, does_closed, does_through}
 use Rattle.resolved_program.proofs.Locals.{declaration_does}
 use Rattle.resolved_program.proofs.Moving as m
 use Rattle.resolved_program.proofs.Sequences as q
 
 -- leaves by their layers
-abbrev item_leaves : BlockItemTree → Leaves
+abbrev pub item_leaves : BlockItemTree → Leaves
 item_leaves = fold-BlockItem Leaves Leaves Leaves item_layer statement_layer block_layer
 
-abbrev statement_leaves : StatementTree → Leaves
+abbrev pub statement_leaves : StatementTree → Leaves
 statement_leaves = fold-Statement Leaves Leaves Leaves item_layer statement_layer block_layer
 
 -- no break and no continue stands outside of a loop

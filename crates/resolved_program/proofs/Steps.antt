@@ -1,5 +1,5 @@
 -- What walks that change the names in scope give within a function, where no rule is broken in the whole text.
-use Rattle.std.proofs.Common.{◌≡◌, refl, sym, ap, subst, ◌∙◌, ℕ, zero, suc, ◌<◌, Bool, true, false, List, [], ◌∷◌, ◌++◌, length, Option, Some, None, append_assoc}
+use Rattle.std.proofs.Common.{◌≡◌, refl, sym, ap, subst, ◌∙◌, ℕ, zero, suc, ◌<◌, ◌≤◌, Bool, true, false, List, [], ◌∷◌, ◌++◌, length, Option, Some, None, append_assoc, arith}
 use Rattle.std.specs.Prelude.{◌-◌, fold, slice_get, remove, if◌then◌else◌, ⊤}
 use Rattle.std.specs.List.{AllByRecursion}
 use Rattle.std.specs.Str.{bytes_eq}
@@ -14,8 +14,9 @@ use Rattle.c_rules.specs.Names.{Names, is_taken, declaring, opened, closed, clos
 use Rattle.c_rules.specs.Walks.{Outcome, Finds, pure, and_then, through, finds, ◌>>=◌}
 use Rattle.c_resolution.specs.States.{State, state, Goes, in_scope, finding, scoping}
 use Rattle.c_resolution.specs.Locals.{declare}
+use Rattle.std.proofs.lemmas.List.{length-append}
 use Rattle.resolved_program.specs.Orders.{left, given, IsMeant, AreMeant, IsOrderly, IsFront, IsAhead, Holds}
-use Rattle.resolved_program.proofs.Walks.{Shows, shows_broken, outcome, turn, IfAny}
+use Rattle.resolved_program.proofs.Walks.{Shows, shows_broken, outcome, turn, IfAny, all_more}
 use Rattle.std.proofs.lemmas.Option.{slice_get_within}
 use Rattle.lists.proofs.Places.{get_middle}
 use Rattle.resolved_program.proofs.Arguments.{element_is}
@@ -30,6 +31,9 @@ next_in xs a list h = sym (ap (λ l. slice_get l (length xs)) (sym (append_assoc
 
 pub front_length : {A : Type 0} (xs : List A) (a : A) (list : List A) → IsFront (xs ++ a ∷ []) list → length xs < length list
 front_length xs a list h = slice_get_within list (length xs) a (next_in xs a list h)
+
+pub front_le : {A : Type 0} (xs list : List A) → IsFront xs list → length xs ≤ length list
+front_le xs list h = let e = length-append xs h.0 in let f = ap length h.1 in omega arith
 
 -- ---- what holds between two parts within a function
 
@@ -58,10 +62,6 @@ pub inserted_is : {A : Type 0} (Is : A → Type 0) (names : List (List ℕ × A)
     AllByRecursion (λ (d : List ℕ × A). Is d.1) (inserted names name a)
 inserted_is Is [] name a all is = (is, tt)
 inserted_is Is (d ∷ more) name a all is = inserted_by Is (bytes_eq name d.0) d more name a all is (inserted_is Is more name a all.1 is)
-
-pub all_more : {A : Type 0} (Is : A → Type 0) (xs : List A) (a : A) → AllByRecursion Is xs → Is a → AllByRecursion Is (xs ++ a ∷ [])
-all_more Is [] a all is = (is, tt)
-all_more Is (x ∷ xs) a all is = (all.0, all_more Is xs a all.1 is)
 
 removed_is : {A : Type 0} (Is : A → Type 0) (xs : List A) (k : ℕ) → AllByRecursion Is xs → AllByRecursion Is (remove xs k)
 removed_is Is [] zero all = tt

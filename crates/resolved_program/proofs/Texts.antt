@@ -13,11 +13,11 @@ use Rattle.c_lexer.specs.declared.meaning.Action.TheVariants as action
 use Rattle.c_lexer.specs.Meaning.{State, start, awaits_header, after, after_action}
 use Rattle.c_lexer.specs.Texts.{Piece, Splits, with_token, tokens, max_tokens, limit_by, IsWithin, LexesAs, Passed}
 use Rattle.resolved_program.proofs.Lists.{all_both}
-use Rattle.resolved_program.proofs.ExpressionGrammar.{IfAny}
 use Rattle.resolved_program.proofs.Tokens.{IsValidToken}
 use Rattle.resolved_program.proofs.Meanings.{AreConstants, IsAction, IsEffect, effect_is}
 use Rattle.resolved_program.proofs.Lexemes.{facts}
 use Rattle.resolved_program.specs.Leaves.{IsValidConstant}
+use Rattle.resolved_program.proofs.Walks.{IfAny}
 
 abbrev pub AreTokens : List Token → Type 0
 AreTokens ts = AllByRecursion IsValidToken ts

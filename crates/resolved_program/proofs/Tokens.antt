@@ -1,22 +1,19 @@
 -- Tokens as the lexer makes them.
 use Rattle.std.proofs.Common.{◌≡◌, subst, ℕ, List, Some}
-use Rattle.std.specs.Prelude.{IsTrue, ⊤}
-use Rattle.std.specs.List.{AllByRecursion}
+use Rattle.std.specs.Prelude.{⊤}
 use Rattle.c_token.specs.declared.constant.Constant.{Constant}
 use Rattle.c_token.specs.declared.token.Kind.{Kind}
 use Rattle.c_token.specs.declared.token.Kind.TheVariants as kind
 use Rattle.c_token.specs.declared.token.Token.{Token}
 use Rattle.c_tree.specs.declared.expression.Name.{Name}
 use Rattle.c_tree.specs.Tokens.{name_of, name_at, constant_of, constant_at, text_of, text_at, with_place}
-use Rattle.c_program.specs.Resolved.{IsName, is_text_byte}
+use Rattle.c_program.specs.Resolved.{IsName}
 use Rattle.resolved_program.specs.Leaves.{IsValidConstant}
-
-abbrev pub IsText : List ℕ → Type 0
-IsText bytes = AllByRecursion (λ byte. IsTrue (is_text_byte byte)) bytes
+use Rattle.resolved_program.proofs.Pieces.{AreText}
 
 abbrev pub IsValidKind : Kind → Type 0
 IsValidKind (kind.Constant c) = IsValidConstant c
-IsValidKind (kind.StringLiteral bytes) = IsText bytes
+IsValidKind (kind.StringLiteral bytes) = AreText bytes
 IsValidKind (kind.Name bytes) = IsName bytes
 IsValidKind (kind.Keyword k) = ⊤
 IsValidKind (kind.Punctuator p) = ⊤
@@ -53,16 +50,16 @@ constant_kind kind.End at x valid e = cc
 pub constant_valid : (t : Token) (x : Constant × ℕ) → IsValidToken t → constant_at t ≡ Some x → IsValidConstant x.0
 constant_valid t x valid e = constant_kind t.kind t.offset x valid e
 
-text_kind : (k : Kind) (at : ℕ) (x : List ℕ × ℕ) → IsValidKind k → with_place at (text_of k) ≡ Some x → IsText x.0
+text_kind : (k : Kind) (at : ℕ) (x : List ℕ × ℕ) → IsValidKind k → with_place at (text_of k) ≡ Some x → AreText x.0
 text_kind (kind.StringLiteral bytes) at x valid e =
     let here : List ℕ × ℕ = (bytes, at) in
     let same : here ≡ x = cc (e) in
-    subst (λ (n : List ℕ × ℕ). IsText n.0) same valid
+    subst (λ (n : List ℕ × ℕ). AreText n.0) same valid
 text_kind (kind.Name bytes) at x valid e = cc
 text_kind (kind.Constant c) at x valid e = cc
 text_kind (kind.Keyword k) at x valid e = cc
 text_kind (kind.Punctuator p) at x valid e = cc
 text_kind kind.End at x valid e = cc
 
-pub text_valid : (t : Token) (x : List ℕ × ℕ) → IsValidToken t → text_at t ≡ Some x → IsText x.0
+pub text_valid : (t : Token) (x : List ℕ × ℕ) → IsValidToken t → text_at t ≡ Some x → AreText x.0
 text_valid t x valid e = text_kind t.kind t.offset x valid e
