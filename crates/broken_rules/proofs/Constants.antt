@@ -1,11 +1,9 @@
 -- Constants out of range: the parts of a text that break the rule, and its first fault.
-use Rattle.std.proofs.Common.{◌≡◌, refl, sym, subst, ap, ◌∙◌, inl, inr, ℕ, zero, suc, ◌<◌, ◌≤◌, true, List, [], ◌∷◌, Some, arith}
+use Rattle.std.proofs.Common.{◌≡◌, refl, sym, subst, ap, ◌∙◌, ℕ, zero, suc, ◌<◌, ◌≤◌, true, List, [], ◌∷◌, Some, arith}
 use Rattle.std.proofs.lemmas.Bool.{leb-true, le-leb}
-use Rattle.std.specs.Prelude.{◌⊎◌, nat_le, ℤ, pos, negsuc, ◌≤ℤ◌, min, Contains}
+use Rattle.std.specs.Prelude.{nat_le, ℤ, pos, negsuc, ◌≤ℤ◌, min, Contains}
 use Rattle.std.proofs.lemmas.Int.{ints}
-use Rattle.std.proofs.lemmas.List.Elements.{Contains-append_left, Contains-append_right, Contains-append_cases, Contains-push_cases}
 use Rattle.std.proofs.Math.IntN.{pos-ne-negsuc}
-use Rattle.lists.proofs.Places.{in_none}
 use Rattle.c_token.specs.declared.constant.Constant.TheVariants as constant
 use Rattle.c_tree.specs.declared.expression.Name.{Name}
 use Rattle.c_tree.specs.declared.expression.Expression.{Expression as ExpressionTree, out-Expression}
@@ -23,30 +21,11 @@ use Rattle.c_resolution.specs.Locals.{positive}
 use Rattle.broken_rules.specs.Parts.{Part, parts}
 use Rattle.broken_rules.specs.Breaks.{Breaks, IsLength}
 use Rattle.broken_rules.specs.Laws.{FaultsAreBroken, BrokenAreFaults}
-use Rattle.broken_rules.proofs.Ledgers.{Any, Entered}
 use Rattle.broken_rules.proofs.Events.{length_given, length_by}
-use Rattle.broken_rules.proofs.Plain.{plain_ledger, BreaksAt, PrintBreaks, fault_at, IsNoLength, IsNone, IsBeyond}
-use Rattle.broken_rules.proofs.PlainScope.{first_is_part, part_is_reached}
-
--- ---- elements of lists
-
-module _ {A : Type 0} (Is : A → Type 0) where
-  pub any_contains : (xs : List A) → Any Is xs → (x : A) × Contains xs x × Is x
-  any_contains [] h = absurd h
-  any_contains (x ∷ xs) (inl h) = (x, Contains-append_left (x ∷ []) xs x (0, omega arith, refl), h)
-  any_contains (x ∷ xs) (inr h) = let m = any_contains xs h in (m.0, Contains-append_right (x ∷ []) xs m.0 m.1, m.2)
-
-  pushed : (y x : A) → Contains {X = A} [] x ⊎ (y ≡ x) → y ≡ x
-  pushed y x (inl c) = absurd (in_none x c)
-  pushed y x (inr e) = e
-
-  there : (y x : A) (xs : List A) → (Contains xs x → Any Is xs) → Is x → Contains (y ∷ []) x ⊎ Contains xs x → Any Is (y ∷ xs)
-  there y x xs rest h (inl c) = inl (subst Is (sym (pushed y x (Contains-push_cases [] y x c))) h)
-  there y x xs rest h (inr c) = inr (rest c)
-
-  pub contains_any : (xs : List A) (x : A) → Contains xs x → Is x → Any Is xs
-  contains_any [] x c h = absurd (in_none x c)
-  contains_any (y ∷ xs) x c h = there y x xs (λ k. contains_any xs x k h) h (Contains-append_cases (y ∷ []) xs x c)
+use Rattle.broken_rules.proofs.Plain.{IsJudged, BreaksAt, PrintBreaks, IsNoLength, IsNone, IsBeyond}
+use Rattle.broken_rules.proofs.PlainScope.{text_writes}
+use Rattle.broken_rules.proofs.FaultLedgers.{fault_of}
+use Rattle.broken_rules.proofs.JudgedParts.{IsPart, first_part, part_reached, at_place, not_behind}
 
 -- ---- lengths
 
@@ -136,85 +115,42 @@ too_many_for_one size index none le = ap (λ k. nat_le k index) (one_given size 
 different : rule.Constant ≡ rule.Format → ⊥
 different h = cc
 
-constant_format : (at there : ℕ) → fault_at rule.Constant at ≡ fault_at rule.Format there → ⊥
+constant_format : (at there : ℕ) → fault_of rule.Constant at ≡ fault_of rule.Format there → ⊥
 constant_format at there h = different (ap (λ (f : Fault). f.rule) h)
 
-same_place : (r : Rule) (at there : ℕ) → fault_at r at ≡ fault_at r there → there ≡ at
-same_place r at there h = sym (ap (λ (f : Fault). f.offset) h)
-
-at_place : (tree : TranslationUnit) (at there : ℕ) → fault_at rule.Constant at ≡ fault_at rule.Constant there → Breaks tree rule.Constant there → Breaks tree rule.Constant at
-at_place tree at there e b = subst (λ k. Breaks tree rule.Constant k) (same_place rule.Constant at there e) b
-
-print_none : (name : Name) (arguments : List Argument) (at : ℕ) → PrintBreaks name arguments (fault_at rule.Constant at) → ⊥
+print_none : (name : Name) (arguments : List Argument) (at : ℕ) → PrintBreaks name arguments (fault_of rule.Constant at) → ⊥
 print_none name [] at h = constant_format at name.offset h
 print_none name (first ∷ values) at h = constant_format at (a.argument_offset first) h.1
 
-part_breaks : (tree : TranslationUnit) (at : ℕ) (part : Part) → Contains (parts tree) part → BreaksAt part (fault_at rule.Constant at) → Breaks tree rule.Constant at
+part_breaks : (tree : TranslationUnit) (at : ℕ) (part : Part) → Contains (parts tree) part → BreaksAt part (fault_of rule.Constant at) → Breaks tree rule.Constant at
 part_breaks tree at (Part.Constant value there) c h =
-    at_place tree at there h.1 (Breaks.ConstantTooLarge there (subst (λ v. Contains (parts tree) (Part.Constant v there)) h.0 c))
-part_breaks tree at (Part.Length v) c h = at_place tree at (Place v) h.1 (length_breaks tree v (constancy v) refl c h.0)
-part_breaks tree at (Part.Initial v) c h = at_place tree at (Place v) h.1 (Breaks.InitialNotConstant v c h.0)
-part_breaks tree at (Part.Listed size index v) c h = at_place tree at (Place v) h.1 (listed_breaks tree size v index (constancy size) refl c h.0)
+    at_place tree rule.Constant at there h.1 (Breaks.ConstantTooLarge there (subst (λ v. Contains (parts tree) (Part.Constant v there)) h.0 c))
+part_breaks tree at (Part.Length v) c h = at_place tree rule.Constant at (Place v) h.1 (length_breaks tree v (constancy v) refl c h.0)
+part_breaks tree at (Part.Initial v) c h = at_place tree rule.Constant at (Place v) h.1 (Breaks.InitialNotConstant v c h.0)
+part_breaks tree at (Part.Listed size index v) c h = at_place tree rule.Constant at (Place v) h.1 (listed_breaks tree size v index (constancy size) refl c h.0)
 part_breaks tree at (Part.Print name arguments) c h = absurd (print_none name arguments at h)
-part_breaks tree at (Part.Use w name) c h = absurd h
-part_breaks tree at (Part.Read w name) c h = absurd h
-part_breaks tree at (Part.Call w name) c h = absurd h
-part_breaks tree at (Part.Routine w name) c h = absurd h
-part_breaks tree at (Part.Creation w thread name) c h = absurd h
-part_breaks tree at (Part.Declares w name d) c h = absurd h
-part_breaks tree at (Part.Local words there) c h = absurd h
+part_breaks tree at other c h = absurd h
 
 pub constants_sound : FaultsAreBroken rule.Constant
 constants_sound tree at h =
-    let m = any_contains (λ part. BreaksAt part (fault_at rule.Constant at)) (parts tree) (first_is_part tree (fault_at rule.Constant at) tt tt h) in
-    part_breaks tree at m.0 m.1 m.2
+    let p = first_part IsJudged BreaksAt tree (text_writes tree) (fault_of rule.Constant at) tt tt h in
+    part_breaks tree at p.0 p.1 p.2
 
--- a part that breaks the rule is entered
-entered : (tree : TranslationUnit) (part : Part) (at : ℕ) → Contains (parts tree) part → BreaksAt part (fault_at rule.Constant at) → Entered plain_ledger (parts tree)
-    (fault_at rule.Constant at)
-entered tree part at c h = contains_any (λ part. BreaksAt part (fault_at rule.Constant at)) (parts tree) part c h
+-- what breaks the rule is a part
+abbrev Broken : TranslationUnit → Rule → ℕ → Type 0
+Broken tree rule.Constant at = IsPart BreaksAt tree (fault_of rule.Constant at)
+Broken tree r at = Unit {0}
 
-unknown_not : rule.Unknown ≡ rule.Constant → ⊥
-unknown_not e = cc
-
-twice_not : rule.Twice ≡ rule.Constant → ⊥
-twice_not e = cc
-
-recursive_not : rule.Recursive ≡ rule.Constant → ⊥
-recursive_not e = cc
-
-threads_not : rule.Threads ≡ rule.Constant → ⊥
-threads_not e = cc
-
-format_not : rule.Format ≡ rule.Constant → ⊥
-format_not e = cc
-
-broken_entered : (tree : TranslationUnit) (r : Rule) (at : ℕ) → Breaks tree r at → r ≡ rule.Constant → Entered plain_ledger (parts tree) (fault_at rule.Constant at)
-broken_entered tree r at (Breaks.ConstantTooLarge place c) e = entered tree (Part.Constant constant.TooLarge place) place c (refl, refl)
-broken_entered tree r at (Breaks.LengthNotConstant v c k) e = entered tree (Part.Length v) (Place v) c (subst IsNoLength (sym k) tt, refl)
-broken_entered tree r at (Breaks.LengthBelowOne v x c value below) e =
-    entered tree (Part.Length v) (Place v) c (subst IsNoLength (sym value) (none_at_most x.number below), refl)
-broken_entered tree r at (Breaks.InitialNotConstant v c k) e = entered tree (Part.Initial v) (Place v) c (k, refl)
-broken_entered tree r at (Breaks.TooMany size n index v c l le) e = entered tree (Part.Listed size index v) (Place v) c (too_many size n index l le, refl)
-broken_entered tree r at (Breaks.TooManyForOne size index v c none le) e = entered tree (Part.Listed size index v) (Place v) c (too_many_for_one size index none le, refl)
-broken_entered tree r at (Breaks.UnknownName w name c u) e = absurd (unknown_not e)
-broken_entered tree r at (Breaks.UnknownCall w name c u) e = absurd (unknown_not e)
-broken_entered tree r at (Breaks.UndefinedCall w name f c m n) e = absurd (unknown_not e)
-broken_entered tree r at (Breaks.UndefinedRoutine w name f c m n) e = absurd (unknown_not e)
-broken_entered tree r at (Breaks.KnownDeclared w name d c k) e = absurd (twice_not e)
-broken_entered tree r at (Breaks.DeclaredAgain w name d x c f n) e = absurd (twice_not e)
-broken_entered tree r at (Breaks.SecondBody w name f g x c k l b d a) e = absurd (twice_not e)
-broken_entered tree r at (Breaks.Recursion f g place c b) e = absurd (recursive_not e)
-broken_entered tree r at (Breaks.LocalObject words place c o) e = absurd (threads_not e)
-broken_entered tree r at (Breaks.SecondRoutine i j object q s k place o f x b d) e = absurd (threads_not e)
-broken_entered tree r at (Breaks.MainCalled w name f c m k) e = absurd (threads_not e)
-broken_entered tree r at (Breaks.RoutineCalled w name f c m k) e = absurd (threads_not e)
-broken_entered tree r at (Breaks.ParameterRead w name q c m k) e = absurd (threads_not e)
-broken_entered tree r at (Breaks.ExitElsewhere w name c x k) e = absurd (threads_not e)
-broken_entered tree r at (Breaks.BadFormat name first values c b) e = absurd (format_not e)
-broken_entered tree r at (Breaks.NoFormat name c) e = absurd (format_not e)
+broken_part : (tree : TranslationUnit) (r : Rule) (at : ℕ) → Breaks tree r at → Broken tree r at
+broken_part tree r at (Breaks.ConstantTooLarge place c) = (Part.Constant constant.TooLarge place, c, (refl, refl))
+broken_part tree r at (Breaks.LengthNotConstant v c k) = (Part.Length v, c, (subst IsNoLength (sym k) tt, refl))
+broken_part tree r at (Breaks.LengthBelowOne v x c value below) = (Part.Length v, c, (subst IsNoLength (sym value) (none_at_most x.number below), refl))
+broken_part tree r at (Breaks.InitialNotConstant v c k) = (Part.Initial v, c, (k, refl))
+broken_part tree r at (Breaks.TooMany size n index v c l le) = (Part.Listed size index v, c, (too_many size n index l le, refl))
+broken_part tree r at (Breaks.TooManyForOne size index v c none le) = (Part.Listed size index v, c, (too_many_for_one size index none le, refl))
+broken_part tree r at other = tt
 
 pub constants_complete : BrokenAreFaults rule.Constant
 constants_complete tree fault at h b =
-    let r = part_is_reached tree fault (fault_at rule.Constant at) h (broken_entered tree rule.Constant at b refl) in
-    record { f = r.f; is = r.is; least = r.least }
+    not_behind fault rule.Constant at
+    (part_reached IsJudged BreaksAt tree (text_writes tree) fault (fault_of rule.Constant at) h (broken_part tree rule.Constant at b))

@@ -47,7 +47,7 @@ use Rattle.c_resolution.specs.Texts as t
 use Rattle.broken_rules.specs.Sight.{Declared, Names, Where, behind, with_names}
 use Rattle.broken_rules.specs.Breaks.{innermost}
 use Rattle.broken_rules.specs.Parts.{Part, parts, at_first, names_of, number_behind, object_names}
-use Rattle.broken_rules.proofs.Ledgers.{Ledger, Writes, given, left, after_one, writes_with}
+use Rattle.broken_rules.proofs.Ledgers.{Ledger, Writes, given, left, after_one, writes_with, quiet}
 use Rattle.broken_rules.proofs.Events.{Events}
 use Rattle.broken_rules.proofs.Walks.{Scoping, IsUsual, IsParameter, Adds, is_thread, is_thread_base}
 use Rattle.broken_rules.proofs.Functions.{text_is, declaration_is, declaration_holds}
@@ -281,33 +281,39 @@ module _ (D : List (List ℕ × ℕ)) (T : List (List ℕ)) where
   pub events : (s : Scope) (w : Where) → Events (create_ledger D T) s w
   events s w =
       let L = create_ledger D T in
-      let b = c.broken D T in
+      let o = c.others D T in
+      let unknown = c.broken D T rule.Unknown in
+      let threads = c.broken D T rule.Threads in
+      let constants = c.broken D T rule.Constant in
+      let formats = c.broken D T rule.Format in
       record {
-        other = q.other L b;
-        constant = λ v at. c.quiet D T (Part.Constant v at) (λ x h. h.1) (q.constant_is L b v at);
-        used = λ name index. c.quiet D T (Part.Use w name) (λ x h. h.1) (q.named_value L b (look_up s name.bytes) name.offset (Some index));
-        read = λ name. c.quiet D T (Part.Use w name) (λ x h. h.1)
-            (c.quiet D T (Part.Read w name) (λ x h. h.1) (q.named_value L b (look_up s name.bytes) name.offset None));
-        converted = λ name h. c.quiet D T (Part.Use w name) (λ x h. h.1) (q.named_value L b (look_up s name.bytes) name.offset None);
+        other = o;
+        constant = λ v at. quiet L (Part.Constant v at) (λ x h. h.1) (q.constant_is L constants v at);
+        used = λ name index. quiet L (Part.Use w name) (λ x h. h.1) (q.named_value L o (look_up s name.bytes) name.offset (Some index) (λ _. unknown) (λ _ _. threads));
+        read = λ name. quiet L (Part.Use w name) (λ x h. h.1)
+            (quiet L (Part.Read w name) (λ x h. h.1) (q.named_value L o (look_up s name.bytes) name.offset None (λ _. unknown) (λ _ _. threads)));
+        converted = λ name h. quiet L (Part.Use w name) (λ x h. h.1) (q.named_value L o (look_up s name.bytes) name.offset None (λ _. unknown) (λ _ _. threads));
         argument = λ name h x k. k.1;
-        target = λ name indexed. c.quiet D T (Part.Use w name) (λ x h. h.1) (q.target_quiet L b (look_up s name.bytes) indexed name.offset);
-        object = λ kind name at index. c.quiet D T (Part.Use w name) (λ x h. h.1) (q.object_named L b kind (look_up s name.bytes) name.offset at index);
-        routine = λ name h at is. c.quiet D T (Part.Routine w name) (λ x h. h.1)
-            (c.quiet D T (Part.Use w name) (λ x h. h.1) (c.quiet D T (Part.Read w name) (λ x h. h.1) (q.routine_is L b h name.offset at)));
+        target = λ name indexed. quiet L (Part.Use w name) (λ x h. h.1) (q.target_quiet L o (look_up s name.bytes) indexed name.offset (λ _. unknown));
+        object = λ kind name at index. quiet L (Part.Use w name) (λ x h. h.1) (q.object_named L o kind (look_up s name.bytes) name.offset at index (λ _. unknown));
+        routine = λ name h at is. quiet L (Part.Routine w name) (λ x h. h.1)
+            (quiet L (Part.Use w name) (λ x h. h.1) (quiet L (Part.Read w name) (λ x h. h.1) (q.routine_quiet L o unknown h name.offset at)));
         no_routine = λ name is x k. k.1;
-        misplaced = λ name count. c.quiet D T (Part.Call w name) (λ x h. h.1) (c.misplaced_name D T s (look_up s name.bytes) count name.offset);
-        library = λ name function count is. c.quiet D T (Part.Call w name) (λ x h. h.1) (q.library_name L b s function count name.offset);
-        function = λ name number count is_value is. c.quiet D T (Part.Call w name) (λ x h. h.1) (c.function_name D T s number count is_value name.offset);
-        no_function = λ name none own. c.quiet D T (Part.Call w name) (λ x h. h.1)
-            (q.broken_if L b (a.is_unknown (look_up s name.bytes)) rule.Unknown name.offset tt);
-        print = λ name first values. c.quiet D T (Part.Print name (first ∷ values)) (λ x h. h.1)
-            (q.broken_if L b (not (k.takes (k.format first) (length values))) rule.Format (a.argument_offset first) tt);
-        no_print = λ name. c.quiet D T (Part.Print name []) (λ x h. h.1) (b rule.Format name.offset tt);
-        length = λ v. c.quiet D T (Part.Length v) (λ x h. h.1) (q.length_is L b (constancy v) (out-Expression v).offset);
-        local = λ words at is. c.quiet D T (Part.Local words at) (λ x h. h.1) (q.local_is L b words at);
+        misplaced = λ name count. quiet L (Part.Call w name) (λ x h. h.1)
+            (q.misplaced_quiet L o unknown threads (c.calls_quiet D T) s (look_up s name.bytes) count name.offset);
+        library = λ name function count is. quiet L (Part.Call w name) (λ x h. h.1) (q.library_quiet L o unknown threads s function count name.offset);
+        function = λ name number count is_value is. quiet L (Part.Call w name) (λ x h. h.1)
+            (q.function_quiet L o unknown threads (c.calls_quiet D T) s number count is_value name.offset);
+        no_function = λ name none own. quiet L (Part.Call w name) (λ x h. h.1)
+            (q.broken_if L (a.is_unknown (look_up s name.bytes)) rule.Unknown name.offset unknown);
+        print = λ name first values. quiet L (Part.Print name (first ∷ values)) (λ x h. h.1)
+            (q.broken_if L (not (k.takes (k.format first) (length values))) rule.Format (a.argument_offset first) formats);
+        no_print = λ name. quiet L (Part.Print name []) (λ x h. h.1) (formats name.offset);
+        length = λ v. quiet L (Part.Length v) (λ x h. h.1) (q.length_is L constants (constancy v) (out-Expression v).offset);
+        local = λ words at is. quiet L (Part.Local words at) (λ x h. h.1) (q.local_quiet L o threads words at);
         no_local = λ words at ty is x k. k.1;
-        initial = λ ty v. c.quiet D T (Part.Initial v) (λ x h. h.1) (q.initial_is L b ty (constancy v) (out-Expression v).offset);
-        listed = λ size v n index is. c.quiet D T (Part.Listed size index v) (λ x h. h.1) (q.broken_if L b _ rule.Constant (out-Expression v).offset tt);
+        initial = λ ty v. quiet L (Part.Initial v) (λ x h. h.1) (q.initial_is L constants ty (constancy v) (out-Expression v).offset);
+        listed = λ size v n index is. quiet L (Part.Listed size index v) (λ x h. h.1) (q.broken_if L _ rule.Constant (out-Expression v).offset constants);
       }
 
   module _ (few : length T < cap) (all : Names) (is : threads_of all ≡ T) where
@@ -315,7 +321,7 @@ module _ (D : List (List ℕ × ℕ)) (T : List (List ℕ)) where
     unfolding n.scoping_named
     scoping_creates =
         let L = create_ledger D T in
-        let b = c.broken D T in
+        let twice = c.broken D T rule.Twice in
         let N = n.scoping_named D in
         record {
           Agrees = Stands D T;
@@ -329,7 +335,7 @@ module _ (D : List (List ℕ × ℕ)) (T : List (List ℕ)) where
           loops = λ s w count h. record { names = N.loops s w count h.names; numbers = record { inner = h.numbers.inner; outer = h.numbers.outer } };
           local = λ s w v h. record { names = N.local s w v h.names; numbers = record { inner = h.numbers.inner; outer = h.numbers.outer } };
           declares = λ x w name d o h means.
-              let still = q.declare_is L b name o x in
+              let still = q.declare_is L (c.others D T) twice name o x in
               record {
                 writes = writes_with L (Part.Declares w name d) (λ x k. k.1) still.writes;
                 agrees = record {
@@ -355,7 +361,7 @@ module _ (D : List (List ℕ × ℕ)) (T : List (List ℕ)) where
             numbers = record { inner = h.numbers.inner; outer = h.numbers.outer };
           };
           declares_function = λ x w count f h rest here stands is_header.
-              let still = q.function_is L b h f.name (y.is_second f h count) x in
+              let still = q.function_is L (c.others D T) twice h f.name (y.is_second f h count) x in
               record {
                 writes = writes_with L (Part.Declares w f.name (Declared.OfFunction f)) (λ x k. k.1) still.writes;
                 agrees = record {

@@ -1,7 +1,7 @@
 -- Creates: what a walk notes of them, in the order of the text.
 use Rattle.std.proofs.Common.{◌≡◌, refl, sym, subst, ap, ◌∙◌, inl, inr, ℕ, ◌<◌, Bool, true, false, List, [], ◌∷◌, ◌++◌, length, Option, Some, None}
 use Rattle.std.proofs.Common.{append_assoc, append-nil, arith}
-use Rattle.std.specs.Prelude.{fold, not, is_none, nat_eq, if◌then◌else◌, option_map, slice_get}
+use Rattle.std.specs.Prelude.{fold, not, is_none, nat_eq, if◌then◌else◌, option_map}
 use Rattle.std.proofs.lemmas.Bool.Decides.{nat_tests}
 use Rattle.std.proofs.lemmas.Option.{same_Some, none-some}
 use Rattle.std.proofs.lemmas.Bool.{eq-eqb, false≢true}
@@ -29,7 +29,7 @@ use Rattle.c_rules.specs.Levels.{named_in}
 use Rattle.c_rules.specs.Library.{function_named}
 use Rattle.c_rules.specs.Names as n
 use Rattle.c_rules.specs.Names.{or_else, look_up, declared, declared_outside, known_by, same_kind}
-use Rattle.c_rules.specs.Walks.{Outcome, Finds, pure, finds, finds_if, calls, creates, place_in_tree, ◌>>=◌, ◌>>◌}
+use Rattle.c_rules.specs.Walks.{Outcome, Finds, pure, finds, finds_if, creates, place_in_tree, ◌>>=◌, ◌>>◌}
 use Rattle.c_expressions.specs.Callees as c
 use Rattle.c_expressions.specs.Expressions as e
 use Rattle.c_calls.specs.Arguments as a
@@ -37,13 +37,12 @@ use Rattle.c_calls.specs.Calls as k
 use Rattle.broken_rules.specs.Sight.{Declared, Where, declaration_in}
 use Rattle.broken_rules.specs.Parts as p
 use Rattle.broken_rules.specs.Parts.{Part, Parts}
-use Rattle.broken_rules.proofs.Ledgers.{Ledger, Entered, Good, Writes, given, left, turn, good_pure, good_then, good_before, good_with, nothing_new, writes_both}
+use Rattle.broken_rules.proofs.Ledgers.{Ledger, Entered, Good, Writes, given, left, turn, good_pure, good_then, good_before, nothing_new, writes_both, quiet}
 use Rattle.broken_rules.proofs.Events.{Events, Creates}
 use Rattle.broken_rules.proofs.Arguments.{address_argument, null_argument, routine_argument, pointer_argument, argument_place}
 use Rattle.broken_rules.proofs.Walks.{IsParameter, IsUsual, is_thread}
-use Rattle.broken_rules.proofs.Sights.{Agrees, Sees, sees, MeansIn}
-use Rattle.broken_rules.proofs.Quiets as q
-use Rattle.broken_rules.proofs.Quiets.{IsFound}
+use Rattle.broken_rules.proofs.Sights.{Agrees, Sees, sees, MeansIn, not_library, not_nothing, same_meaning}
+use Rattle.broken_rules.proofs.Quiets.{IsQuiet, OthersAreQuiet, CallsAreQuiet}
 use Rattle.broken_rules.proofs.Numbering.{first_index}
 
 -- the number that stands for a misused object
@@ -154,44 +153,18 @@ module _ (D : List (List ℕ × ℕ)) (T : List (List ℕ)) where
     order = ap real same ∙ sym (append-nil (real x.creations));
   }
 
-  pub broken : (r : Rule) (at : ℕ) → IsFound r → Good L (finds r at) []
+  pub broken : (r : Rule) → IsQuiet L r
   unfolding findings.broken
-  broken r at h = record { writes = λ found. quiet_writes found (findings.broken r at found) refl }
+  broken r at = record { writes = λ found. quiet_writes found (findings.broken r at found) refl }
 
-  pub quiet : {A : Type 0} {w : Finds A} {ps : Parts} (part : Part) → ((x : Part) → (part ≡ x) × Has (site_of part) → ⊥) → Good L w ps → Good L w (part ∷ ps)
-  quiet {ps = ps} part none h = good_with L part ps none h
+  pub others : OthersAreQuiet L
+  others r at h = broken r at
 
   -- ---- names that are called
 
-  call_quiet : (caller : Option ℕ) (callee at : ℕ) → Good L (calls caller callee at) []
-  call_quiet (Some caller) callee at = record { writes = λ found. quiet_writes found (findings.called (Some caller) callee at found) refl }
-  call_quiet None callee at = record { writes = λ found. nothing_new L found }
-
-  called : (s : Scope) (at : ℕ) (d : Option ℕ) → Good L (c.called s at d) []
-  unfolding c.called
-  called s at None = good_pure L None
-  called s at (Some callee) =
-      good_then L (calls s.function callee at) (λ _. pure (Some callee)) [] [] (call_quiet s.function callee at) (λ _. good_pure L (Some callee))
-
-  header_call : (s : Scope) (count : ℕ) (is_value : Bool) (at : ℕ) (h : Option Header) → Good L (c.header_call s count is_value at h) []
-  header_call s count is_value at None = good_pure L None
-  header_call s count is_value at (Some h) =
-      good_before L (c.header_rules h count is_value at) (λ _. c.called s at h.definition) [] (q.header_rules L broken h count is_value at) (λ _. called s at h.definition)
-
-  pub function_name : (s : Scope) (header count : ℕ) (is_value : Bool) (at : ℕ) → Good L (c.function_name s header count is_value at) []
-  unfolding c.function_name
-  function_name s header count is_value at = header_call s count is_value at (slice_get s.headers header)
-
-  pub misplaced_name : (s : Scope) (x : Known) (count at : ℕ) → Good L (c.misplaced_name s x count at) []
-  unfolding c.misplaced_name
-  misplaced_name s (known.Library function) count at = q.library_name L broken s function count at
-  misplaced_name s (known.Declared (meaning.Function header)) count at =
-      good_before L (c.function_name s header count true at) (λ _. pure tt) [] (function_name s header count true at) (λ _. good_pure L tt)
-  misplaced_name s (known.Declared meaning.Unusable) count at = good_pure L tt
-  misplaced_name s (known.Declared (meaning.Variable v)) count at = broken rule.Kind at tt
-  misplaced_name s (known.Declared meaning.Argument) count at = broken rule.Kind at tt
-  misplaced_name s (known.Declared (meaning.Object o)) count at = broken rule.Kind at tt
-  misplaced_name s known.Unknown count at = broken rule.Unknown at tt
+  pub calls_quiet : CallsAreQuiet L
+  calls_quiet (Some caller) callee at = record { writes = λ found. quiet_writes found (findings.called (Some caller) callee at found) refl }
+  calls_quiet None callee at = record { writes = λ found. nothing_new L found }
 
   -- ---- numbers of thread objects in scopes
 
@@ -227,15 +200,6 @@ module _ (D : List (List ℕ × ℕ)) (T : List (List ℕ)) where
   num_declared : (s : Scope) (key : List ℕ) → Numbered s → Num (declared s key) key
   num_declared s key h =
       num_or (named_in s.inner key) (declared_outside s.outer key) key (h.inner.numbers key) (num_outside s.outer None key h.outer (num_none key))
-
-  not_library : (f : LibraryFunction) (m : Meaning) → known.Library f ≡ known.Declared m → ⊥
-  not_library f m h = cc
-
-  not_nothing : (m : Meaning) → known.Unknown ≡ known.Declared m → ⊥
-  not_nothing m h = cc
-
-  same_meaning : (m o : Meaning) → known.Declared m ≡ known.Declared o → m ≡ o
-  same_meaning m o h = cc
 
   declared_by : (f : Option LibraryFunction) (x : Option Meaning) (m : Meaning) → known_by f x ≡ known.Declared m → x ≡ Some m
   declared_by (Some f) x m h = absurd (not_library f m h)
@@ -544,10 +508,10 @@ module _ (D : List (List ℕ × ℕ)) (T : List (List ℕ)) where
         routine_number w name ≡ m → Numbers (object_of o) t → (Has (made t m name.offset) → first_index T thread.bytes < length T) → r ≡ numbered_at name.offset m →
         Good L (k.created at o v r) (Part.Creation w thread name ∷ [])
     both_named at o v r w thread name t None e f numbers below given_is =
-        quiet (Part.Creation w thread name)
+        quiet L (Part.Creation w thread name)
         (λ x h. no_made t name.offset (subst (λ m. Has (made t m name.offset)) f (subst (λ t. Has (made t (routine_number w name) name.offset)) e h.1))) (unnoted at o v r given_is)
     both_named at o v r w thread name None (Some m) e f numbers below given_is =
-        quiet (Part.Creation w thread name) (λ x h. subst (λ t. Has (made t (routine_number w name) name.offset)) e h.1) (phantom_create at o v r numbers)
+        quiet L (Part.Creation w thread name) (λ x h. subst (λ t. Has (made t (routine_number w name) name.offset)) e h.1) (phantom_create at o v r numbers)
     both_named at o v r w thread name (Some t) (Some m) e f numbers below given_is =
         subst (λ r. Good L (k.created at o v r) (Part.Creation w thread name ∷ [])) (sym given_is)
         (noted at o v (m, name.offset)

@@ -1,8 +1,10 @@
 -- What the walk over a part of a text writes into a ledger, as the faults or the calls that are found, by the parts of the text.
-use Rattle.std.proofs.Common.{◌≡◌, refl, sym, subst, ap, inl, inr, Bool, true, false, List, [], ◌∷◌, ◌++◌, map, Option, Some, None}
-use Rattle.std.specs.Prelude.{◌⊎◌, fold, if◌then◌else◌}
+use Rattle.std.proofs.Common.{◌≡◌, refl, sym, subst, ap, inl, inr, Bool, true, false, List, [], ◌∷◌, ◌++◌, map, Option, Some, None, arith}
+use Rattle.std.specs.Prelude.{◌⊎◌, fold, Contains, if◌then◌else◌}
 use Rattle.std.specs.List.{AllByRecursion}
 use Rattle.std.proofs.lemmas.List.{append-nil}
+use Rattle.std.proofs.lemmas.List.Elements.{Contains-append_left, Contains-append_right, Contains-append_cases, Contains-push_cases}
+use Rattle.lists.proofs.Places.{in_none}
 use Rattle.c_rules.specs.declared.findings.Findings.{Findings}
 use Rattle.c_rules.specs.Walks.{Outcome, Walk, Finds, pure, and_then, optional, through, each, visited, ◌>>=◌}
 use Rattle.broken_rules.specs.Parts.{Part, Parts, all_of, if_any, of_each}
@@ -48,6 +50,25 @@ module _ {A : Type 0} (Is : A → Type 0) where
   any_split [] ys h = inr h
   any_split (x ∷ xs) ys (inl h) = inl (inl h)
   any_split (x ∷ xs) ys (inr h) = later x xs ys (any_split xs ys h)
+
+  -- one of the elements
+
+  pub any_contains : (xs : List A) → Any Is xs → (x : A) × Contains xs x × Is x
+  any_contains [] h = absurd h
+  any_contains (x ∷ xs) (inl h) = (x, Contains-append_left (x ∷ []) xs x (0, omega arith, refl), h)
+  any_contains (x ∷ xs) (inr h) = let m = any_contains xs h in (m.0, Contains-append_right (x ∷ []) xs m.0 m.1, m.2)
+
+  pushed : (y x : A) → Contains {X = A} [] x ⊎ (y ≡ x) → y ≡ x
+  pushed y x (inl c) = absurd (in_none x c)
+  pushed y x (inr e) = e
+
+  there : (y x : A) (xs : List A) → (Contains xs x → Any Is xs) → Is x → Contains (y ∷ []) x ⊎ Contains xs x → Any Is (y ∷ xs)
+  there y x xs rest h (inl c) = inl (subst Is (sym (pushed y x (Contains-push_cases [] y x c))) h)
+  there y x xs rest h (inr c) = inr (rest c)
+
+  pub contains_any : (xs : List A) (x : A) → Contains xs x → Is x → Any Is xs
+  contains_any [] x c h = absurd (in_none x c)
+  contains_any (y ∷ xs) x c h = there y x xs (λ k. contains_any xs x k h) h (Contains-append_cases (y ∷ []) xs x c)
 
 -- ---- ledgers
 
@@ -183,6 +204,9 @@ module _ (L : Ledger) where
 
   pub good_with : {A : Type 0} {w : Finds A} (part : Part) (ps : Parts) → ((x : L.Entry) → L.At part x → ⊥) → Good w ps → Good w (part ∷ ps)
   good_with part ps none h = good_as (record { to = λ x k. inr k; back = λ x k. skipped part ps x (none x) k }) (λ a b. L.order_with a b part ps none) h
+
+  pub quiet : {A : Type 0} {w : Finds A} {ps : Parts} (part : Part) → ((x : L.Entry) → L.At part x → ⊥) → Good w ps → Good w (part ∷ ps)
+  quiet {ps = ps} part none h = good_with part ps none h
 
   no_last : (part : Part) (ps : Parts) (x : L.Entry) → (L.At part x → ⊥) → Entered ps x ⊎ Entered (part ∷ []) x → Entered ps x
   no_last part ps x none (inl h) = h

@@ -12,6 +12,9 @@ pub mod Statements
 pub mod Globals
 pub mod Functions
 pub mod Firsts
+pub mod Quiets
+pub mod FaultLedgers
+pub mod JudgedParts
 pub mod Plain
 pub mod PlainScope
 pub mod Constants
@@ -26,7 +29,6 @@ pub mod Twice
 pub mod Numbers
 pub mod TwiceScope
 pub mod TwiceText
-pub mod Quiets
 pub mod Sites
 pub mod SiteScope
 pub mod Defined

@@ -1,46 +1,40 @@
 -- Unknown names in a whole text.
 use Rattle.std.proofs.Common.{◌≡◌, refl, sym, subst, ap, ◌∙◌, ℕ, Bool, true, false, List, [], ◌∷◌, ◌++◌, length, Option, Some, None, append-nil}
 use Rattle.std.proofs.lemmas.Bool.{false≢true, or_parts}
-use Rattle.std.specs.Prelude.{pos, ◌||◌, ◌&&◌, is_some, not, if◌then◌else◌, slice_get}
+use Rattle.std.specs.Prelude.{◌||◌, ◌&&◌, is_some, not, if◌then◌else◌}
 use Rattle.lists.proofs.Places.{get_last, none_of}
-use Rattle.hls_ints.specs.Types.{IntegerType, wrapped}
 use Rattle.c_token.specs.declared.constant.Constant.{Constant}
-use Rattle.c_token.specs.declared.constant.Constant.TheVariants as constant
 use Rattle.c_tree.specs.declared.expression.Name.{Name}
 use Rattle.c_tree.specs.declared.expression.Specifiers.{Specifiers}
 use Rattle.c_tree.specs.declared.expression.Expression.{out-Expression}
 use Rattle.c_tree.specs.declared.declaration.Function.{Function}
 use Rattle.c_tree.specs.declared.declaration.TranslationUnit.{TranslationUnit}
-use Rattle.c_rules.specs.declared.fault.Rule.{Rule}
 use Rattle.c_rules.specs.declared.fault.Rule.TheVariants as rule
-use Rattle.c_rules.specs.declared.findings.Findings.{Findings}
-use Rattle.c_rules.specs.declared.constants.Constancy.{Constancy}
 use Rattle.c_rules.specs.declared.constants.Constancy.TheVariants as is
 use Rattle.c_rules.specs.declared.names.Meaning.{Meaning}
 use Rattle.c_rules.specs.declared.names.Meaning.TheVariants as meaning
 use Rattle.c_rules.specs.declared.names.Header.{Header}
 use Rattle.c_rules.specs.declared.names.Scope.{Scope}
-use Rattle.c_rules.specs.Constants.{constancy, constant_value}
+use Rattle.c_rules.specs.Constants.{constancy}
 use Rattle.c_rules.specs.Findings.{nothing}
 use Rattle.c_rules.specs.Levels.{named_in}
 use Rattle.c_rules.specs.Library.{function_named}
 use Rattle.c_rules.specs.Names.{look_up, is_taken, declaring}
 use Rattle.c_rules.specs.Specifiers.{base_of, spelled_by}
-use Rattle.c_rules.specs.Walks.{Outcome, Finds, pure, finds, finds_if, ◌>>◌}
-use Rattle.c_expressions.specs.Expressions as e
+use Rattle.c_rules.specs.Walks.{finds}
 use Rattle.c_calls.specs.Arguments as a
 use Rattle.c_calls.specs.Calls as k
-use Rattle.c_resolution.specs.States.{State, finding, scoping, in_scope}
+use Rattle.c_resolution.specs.States.{State, finding, scoping}
 use Rattle.c_resolution.specs.Locals as l
 use Rattle.c_resolution.specs.Globals as g
 use Rattle.c_resolution.specs.Functions as y
-use Rattle.c_resolution.specs.Resolving.{before, scope_with}
+use Rattle.c_resolution.specs.Resolving.{before}
 use Rattle.c_resolution.specs.Resolving as resolving
 use Rattle.c_resolution.specs.Texts as t
 use Rattle.broken_rules.specs.Sight.{Declared, Where, behind, with_names}
 use Rattle.broken_rules.specs.Parts.{Part, parts, function_names, at_first}
-use Rattle.broken_rules.proofs.Ledgers.{Ledger, Good, Writes, left, good_pure, good_then, good_before, nothing_new, writes_with}
-use Rattle.broken_rules.proofs.Events.{Events, IsOther}
+use Rattle.broken_rules.proofs.Ledgers.{Ledger, Writes, left, nothing_new, quiet, writes_with}
+use Rattle.broken_rules.proofs.Events.{Events}
 use Rattle.broken_rules.proofs.Walks.{Scoping, Right, IsUsual, IsParameter, IsGlobal, IsOpen, is_thread_base, is_thread, is_thread_object}
 use Rattle.broken_rules.proofs.Calls.{no_creates}
 use Rattle.c_resolution.specs.Files.{Tables}
@@ -50,66 +44,32 @@ use Rattle.c_rules.specs.declared.specifiers.BaseType.TheVariants as base
 use Rattle.c_tree.specs.declared.declaration.GlobalDeclarator.{GlobalDeclarator}
 use Rattle.broken_rules.proofs.Functions.{text_is}
 use Rattle.broken_rules.proofs.Sights.{Agrees, MeansIn, Scopes, Level, header_in, opened_agrees, closed_agrees, new_scopes, old_scopes, scopes_more}
-use Rattle.broken_rules.proofs.Names as q
-use Rattle.broken_rules.proofs.Names.{BreaksAt, name_ledger}
+use Rattle.broken_rules.proofs.Quiets as q
+use Rattle.broken_rules.proofs.Quiets.{IsQuiet, Kept}
+use Rattle.broken_rules.proofs.Names as u
+use Rattle.broken_rules.proofs.Names.{name_ledger}
 use Rattle.broken_rules.proofs.Naming as m
 
 module _ (D : List (List ℕ × ℕ)) where
   abbrev L : Ledger
   L = name_ledger D
 
-  others : (r : Rule) (at : ℕ) → IsOther r → Good L (finds r at) []
-  others rule.Kind at h = q.other D rule.Kind at (λ j. j)
-  others rule.Arguments at h = q.other D rule.Arguments at (λ j. j)
-  others rule.Place at h = q.other D rule.Place at (λ j. j)
-  others rule.Unknown at h = absurd h
-  others rule.Twice at h = absurd h
-  others rule.Recursive at h = absurd h
-  others rule.Threads at h = absurd h
-  others rule.Constant at h = absurd h
-  others rule.Format at h = absurd h
+  threads : IsQuiet L rule.Threads
+  threads = u.other D rule.Threads (λ j. j)
 
-  constant_quiet : (v : Constant) (at : ℕ) → Good L (e.constant_from (constant_value v) at) []
-  constant_quiet (constant.Typed value ty) at = good_pure L _
-  constant_quiet constant.TooLarge at = good_before L (finds rule.Constant at) (λ _. pure e.nothing) [] (q.other D rule.Constant at (λ j. j)) (λ _. good_pure L e.nothing)
+  constants : IsQuiet L rule.Constant
+  constants = u.other D rule.Constant (λ j. j)
 
-  constant_is : (v : Constant) (at : ℕ) → Good L (e.constant v at) (Part.Constant v at ∷ [])
-  unfolding e.constant
-  constant_is v at = q.quiet D (Part.Constant v at) (λ x k. k) (constant_quiet v at)
+  twice : IsQuiet L rule.Twice
+  twice = u.other D rule.Twice (λ j. j)
 
-  number_is : (o : Option ℕ) (at : ℕ) → Good L (l.length_of_number o at) []
-  number_is (Some n) at = good_pure L n
-  number_is None at = good_before L (finds rule.Constant at) (λ _. pure 1) [] (q.other D rule.Constant at (λ j. j)) (λ _. good_pure L 1)
-
-  length_is : (x : Constancy) (at : ℕ) → Good L (l.length_from x at) []
-  unfolding l.length_from
-  length_is (is.Constant x) at = number_is (l.positive x.number) at
-  length_is is.Unknown at = good_pure L 1
-  length_is is.NotConstant at = number_is None at
-
-  initial_is : (ty : IntegerType) (x : Constancy) (at : ℕ) → Good L (g.initial_from ty x at) []
-  unfolding g.initial_from
-  initial_is ty (is.Constant x) at = good_pure L (wrapped ty x.number)
-  initial_is ty is.Unknown at = good_pure L (pos 0)
-  initial_is ty is.NotConstant at = good_before L (finds rule.Constant at) (λ _. pure (pos 0)) [] (q.other D rule.Constant at (λ j. j)) (λ _. good_pure L (pos 0))
-
-  local_by : (words : Specifiers) (at : ℕ) (b : Bool) →
-      Good L (if b then finds_if (spelled_by words).is_static rule.Kind at >> (finds rule.Threads at >> pure meaning.Unusable) else finds rule.Kind at >> pure meaning.Unusable) []
-  local_by words at true =
-      good_then L (finds_if (spelled_by words).is_static rule.Kind at) (λ _. finds rule.Threads at >> pure meaning.Unusable) [] []
-      (q.other_if D (spelled_by words).is_static rule.Kind at (λ j. j))
-      (λ _. good_before L (finds rule.Threads at) (λ _. pure meaning.Unusable) [] (q.other D rule.Threads at (λ j. j)) (λ _. good_pure L meaning.Unusable))
-  local_by words at false =
-      good_before L (finds rule.Kind at) (λ _. pure meaning.Unusable) [] (q.other D rule.Kind at (λ j. j)) (λ _. good_pure L meaning.Unusable)
-
-  local_is : (words : Specifiers) (at : ℕ) → Good L (l.refused_local (spelled_by words) at) []
-  unfolding l.refused_local
-  local_is words at = local_by words at (l.is_object_type (spelled_by words).base)
+  formats : IsQuiet L rule.Format
+  formats = u.other D rule.Format (λ j. j)
 
   pub events : (s : Scope) (w : Where) → Agrees D s w → Events L s w
   events s w agrees = record {
-    other = others;
-    constant = constant_is;
+    other = u.others D;
+    constant = λ v at. quiet L (Part.Constant v at) (λ x k. k) (q.constant_is L constants v at);
     used = λ name index. m.value_is D s w name (Some index) agrees;
     read = λ name. m.read_part D w name (Part.Use w name ∷ []) (m.value_is D s w name None agrees);
     converted = λ name h. m.value_is D s w name None agrees;
@@ -122,14 +82,14 @@ module _ (D : List (List ℕ × ℕ)) where
     library = λ name function count is. m.library_call D s w name function count agrees is;
     function = λ name number count is_value is. m.function_is D s w name number count is_value agrees is;
     no_function = λ name none own. m.no_function_by D s w name agrees (look_up s name.bytes) refl none;
-    print = λ name first values. q.quiet D (Part.Print name (first ∷ values)) (λ x k. k)
-        (q.other_if D (not (k.takes (k.format first) (length values))) rule.Format (a.argument_offset first) (λ j. j));
-    no_print = λ name. q.quiet D (Part.Print name []) (λ x k. k) (q.other D rule.Format name.offset (λ j. j));
-    length = λ v. q.quiet D (Part.Length v) (λ x k. k) (length_is (constancy v) (out-Expression v).offset);
-    local = λ words at is. q.quiet D (Part.Local words at) (λ x k. k) (local_is words at);
+    print = λ name first values. quiet L (Part.Print name (first ∷ values)) (λ x k. k)
+        (q.broken_if L (not (k.takes (k.format first) (length values))) rule.Format (a.argument_offset first) formats);
+    no_print = λ name. quiet L (Part.Print name []) (λ x k. k) (formats name.offset);
+    length = λ v. quiet L (Part.Length v) (λ x k. k) (q.length_is L constants (constancy v) (out-Expression v).offset);
+    local = λ words at is. quiet L (Part.Local words at) (λ x k. k) (q.local_quiet L (u.others D) threads words at);
     no_local = λ words at ty is x k. k;
-    initial = λ ty v. q.quiet D (Part.Initial v) (λ x k. k) (initial_is ty (constancy v) (out-Expression v).offset);
-    listed = λ size v n index is. q.quiet D (Part.Listed size index v) (λ x k. k) (q.other_if D _ rule.Constant (out-Expression v).offset (λ j. j));
+    initial = λ ty v. quiet L (Part.Initial v) (λ x k. k) (q.initial_is L constants ty (constancy v) (out-Expression v).offset);
+    listed = λ size v n index is. quiet L (Part.Listed size index v) (λ x k. k) (q.broken_if L _ rule.Constant (out-Expression v).offset constants);
   }
 
   -- ---- declarations
@@ -161,20 +121,8 @@ module _ (D : List (List ℕ × ℕ)) where
       IsMeant (Declared.OfObject words pointer d) (g.global_meaning t (spelled_by words) pointer size)
   global_is t words pointer d size = global_by t (spelled_by words) size pointer (base_of words.words)
 
-  in_scope_same : {A : Type 0} (scope : Scope) (found : Findings) (o : Outcome Findings A) → Writes L found (left o) [] →
-      Writes L found (left (in_scope scope o)).found [] × ((left (in_scope scope o)).scope ≡ scope)
-  in_scope_same scope found (Outcome.Gives x after) h = (h, refl)
-
-  -- a walk that finds what is no unknown name, and leaves the scope as it is
-  record IsStill (x z : State) : Type 0 where
-    pub writes : Writes L x.found z.found []
-    pub same : z.scope ≡ x.scope
-
-  finding_still : {A : Type 0} (walk : Scope → Finds A) (x : State) → Good L (walk x.scope) [] → IsStill x (left (finding walk x))
-  finding_still walk x h = let r = in_scope_same x.scope x.found (walk x.scope x.found) (h.writes x.found) in record { writes = r.0; same = r.1 }
-
-  twice_still : (x : State) (name : Name) → IsStill x (left (y.twice name x))
-  twice_still x name = finding_still (λ s. finds rule.Twice name.offset) x (q.other D rule.Twice name.offset (λ j. j))
+  twice_kept : (x : State) (name : Name) → Kept L x (left (y.twice name x)) []
+  twice_kept x name = q.finding_kept L (λ s. finds rule.Twice name.offset) x [] (twice name.offset)
 
   some_or : (b c : Bool) → (b || c) ≡ true → b ≡ false → c ≡ true
   some_or true c h e = absurd (false≢true (sym e))
@@ -194,7 +142,7 @@ module _ (D : List (List ℕ × ℕ)) where
       (behind ((name.bytes, d) ∷ []) w)
   unfolding is_taken declaring
   declared_by x w name d o agrees means true taken =
-      let still = twice_still x name in
+      let still = twice_kept x name in
       record {
         writes = writes_with L (Part.Declares w name d) (λ x k. k) still.writes;
         agrees = old_agrees x (left (y.twice name x)) w name.bytes d still.same
@@ -219,17 +167,7 @@ module _ (D : List (List ℕ × ℕ)) where
 
   -- ---- functions
 
-  again : (h : Header) (name : Name) (second : Bool) (o : Option Header) → Good L (y.again h name second o) []
-  again h name second None = good_pure L tt
-  again h name second (Some k) =
-      good_then L (finds_if second rule.Twice name.offset) (λ _. finds_if (not (y.is_same_function k h)) rule.Kind name.offset) [] []
-      (q.other_if D second rule.Twice name.offset (λ j. j)) (λ _. q.other_if D (not (y.is_same_function k h)) rule.Kind name.offset (λ j. j))
-
-  declare_again : (s : Scope) (number : ℕ) (h : Header) (name : Name) (second : Bool) → Good L (y.declare_again s number h name second) []
-  unfolding y.declare_again
-  declare_again s number h name second = again h name second (slice_get s.headers number)
-
-  old_function : (x z : State) (w : Where) (f : Function) → IsStill x z → (function_named f.name.bytes ≡ None → is_some (named_in x.scope.inner f.name.bytes) ≡ true) →
+  old_function : (x z : State) (w : Where) (f : Function) → Kept L x z [] → (function_named f.name.bytes ≡ None → is_some (named_in x.scope.inner f.name.bytes) ≡ true) →
       Agrees D x.scope w →
       Writes L x.found z.found (Part.Declares w f.name (Declared.OfFunction f) ∷ []) × Agrees D z.scope (behind (function_names f) w)
   old_function x z w f still taken agrees = (
@@ -250,18 +188,15 @@ module _ (D : List (List ℕ × ℕ)) where
     },
   )
   over_is x w f h second agrees is (Some (meaning.Function n)) e =
-      old_function x _ w f (finding_still (λ s. y.declare_again s n h f.name second) x (declare_again x.scope n h f.name second)) (λ own. ap is_some e) agrees
-  over_is x w f h second agrees is (Some meaning.Argument) e = old_function x _ w f (twice_still x f.name) (λ own. ap is_some e) agrees
-  over_is x w f h second agrees is (Some meaning.Unusable) e = old_function x _ w f (twice_still x f.name) (λ own. ap is_some e) agrees
-  over_is x w f h second agrees is (Some (meaning.Variable v)) e = old_function x _ w f (twice_still x f.name) (λ own. ap is_some e) agrees
-  over_is x w f h second agrees is (Some (meaning.Object o)) e = old_function x _ w f (twice_still x f.name) (λ own. ap is_some e) agrees
+      old_function x _ w f (q.finding_kept L (λ s. y.declare_again s n h f.name second) x [] (q.declare_again L (u.others D) twice x.scope n h f.name second)) (λ own. ap is_some e) agrees
+  over_is x w f h second agrees is (Some m) e = old_function x _ w f (twice_kept x f.name) (λ own. ap is_some e) agrees
 
   function_by : (x : State) (w : Where) (f : Function) (h : Header) (second : Bool) → Agrees D x.scope w → h ≡ header_in D f → (b : Bool) → is_some (function_named
       f.name.bytes) ≡ b →
       Right L (Agrees D) x (if b then y.twice f.name x else y.declare_over h f.name second (named_in x.scope.inner f.name.bytes) x) (λ _. Unit {0})
       (Part.Declares w f.name (Declared.OfFunction f) ∷ []) (behind (function_names f) w)
   function_by x w f h second agrees is true e =
-      let r = old_function x (left (y.twice f.name x)) w f (twice_still x f.name) (λ own. absurd (false≢true (sym (none_some (function_named f.name.bytes) own) ∙ e))) agrees in
+      let r = old_function x (left (y.twice f.name x)) w f (twice_kept x f.name) (λ own. absurd (false≢true (sym (none_some (function_named f.name.bytes) own) ∙ e))) agrees in
       record { writes = r.0; agrees = r.1; value = tt }
   function_by x w f h second agrees is false e =
       let r = over_is x w f h second agrees is (named_in x.scope.inner f.name.bytes) refl in
@@ -286,7 +221,7 @@ module _ (D : List (List ℕ × ℕ)) where
     Agrees = Agrees D;
     Means = λ w name. IsMeant;
     events = events;
-    creates = λ s w agrees. no_creates L s w (events s w agrees) (q.creation_quiet D) (λ thread name x k. k);
+    creates = λ s w agrees. no_creates L s w (events s w agrees) (u.creation_quiet D) (λ thread name x k. k);
     opened = opened_agrees D;
     is_open = λ s w h. opening s.headers s w w.scopes refl h.scopes;
     closed = closed_agrees D;

@@ -21,11 +21,11 @@ use Rattle.broken_rules.specs.Parts.{Part, parts}
 use Rattle.broken_rules.specs.Formats.{IsFormat}
 use Rattle.broken_rules.specs.Breaks.{Breaks, IsPrint}
 use Rattle.broken_rules.specs.Laws.{FaultsAreBroken, BrokenAreFaults}
-use Rattle.broken_rules.proofs.Ledgers.{Entered}
-use Rattle.broken_rules.proofs.Plain.{plain_ledger, BreaksAt, PrintBreaks, fault_at}
-use Rattle.broken_rules.proofs.PlainScope.{first_is_part, part_is_reached}
-use Rattle.broken_rules.proofs.Constants.{any_contains, contains_any}
+use Rattle.broken_rules.proofs.Plain.{IsJudged, BreaksAt, PrintBreaks}
+use Rattle.broken_rules.proofs.PlainScope.{text_writes}
 use Rattle.broken_rules.proofs.Formats.{read, is_read}
+use Rattle.broken_rules.proofs.FaultLedgers.{fault_of}
+use Rattle.broken_rules.proofs.JudgedParts.{IsPart, first_part, part_reached, at_place, not_behind}
 
 -- ---- what a printf takes
 
@@ -89,82 +89,40 @@ is_taken first values h =
 different : rule.Format ≡ rule.Constant → ⊥
 different h = cc
 
-unknown_not : rule.Unknown ≡ rule.Format → ⊥
-unknown_not e = cc
-
-twice_not : rule.Twice ≡ rule.Format → ⊥
-twice_not e = cc
-
-recursive_not : rule.Recursive ≡ rule.Format → ⊥
-recursive_not e = cc
-
-threads_not : rule.Threads ≡ rule.Format → ⊥
-threads_not e = cc
-
-constant_not : rule.Constant ≡ rule.Format → ⊥
-constant_not e = cc
-
-constant_format : (at there : ℕ) → fault_at rule.Format at ≡ fault_at rule.Constant there → ⊥
+constant_format : (at there : ℕ) → fault_of rule.Format at ≡ fault_of rule.Constant there → ⊥
 constant_format at there h = different (ap (λ (f : Fault). f.rule) h)
 
-at_place : (tree : TranslationUnit) (at there : ℕ) → fault_at rule.Format at ≡ fault_at rule.Format there → Breaks tree rule.Format there → Breaks tree rule.Format at
-at_place tree at there e b = subst (λ k. Breaks tree rule.Format k) (sym (ap (λ (f : Fault). f.offset) e)) b
-
 print_breaks : (tree : TranslationUnit) (at : ℕ) (name : Name) (arguments : List Argument) → Contains (parts tree) (Part.Print name arguments) →
-    PrintBreaks name arguments (fault_at rule.Format at) → Breaks tree rule.Format at
-print_breaks tree at name [] c h = at_place tree at name.offset h (Breaks.NoFormat name c)
+    PrintBreaks name arguments (fault_of rule.Format at) → Breaks tree rule.Format at
+print_breaks tree at name [] c h = at_place tree rule.Format at name.offset h (Breaks.NoFormat name c)
 print_breaks tree at name (first ∷ values) c h =
-    at_place tree at (a.argument_offset first) h.1 (Breaks.BadFormat name first values c (λ is. true≢false (sym (is_taken first values is) ∙ h.0)))
+    at_place tree rule.Format at (a.argument_offset first) h.1 (Breaks.BadFormat name first values c (λ is. true≢false (sym (is_taken first values is) ∙ h.0)))
 
-part_breaks : (tree : TranslationUnit) (at : ℕ) (part : Part) → Contains (parts tree) part → BreaksAt part (fault_at rule.Format at) → Breaks tree rule.Format at
+part_breaks : (tree : TranslationUnit) (at : ℕ) (part : Part) → Contains (parts tree) part → BreaksAt part (fault_of rule.Format at) → Breaks tree rule.Format at
 part_breaks tree at (Part.Print name arguments) c h = print_breaks tree at name arguments c h
 part_breaks tree at (Part.Constant value there) c h = absurd (constant_format at there h.1)
 part_breaks tree at (Part.Length v) c h = absurd (constant_format at (out-Expression v).offset h.1)
 part_breaks tree at (Part.Initial v) c h = absurd (constant_format at (out-Expression v).offset h.1)
 part_breaks tree at (Part.Listed size index v) c h = absurd (constant_format at (out-Expression v).offset h.1)
-part_breaks tree at (Part.Use w name) c h = absurd h
-part_breaks tree at (Part.Read w name) c h = absurd h
-part_breaks tree at (Part.Call w name) c h = absurd h
-part_breaks tree at (Part.Routine w name) c h = absurd h
-part_breaks tree at (Part.Creation w thread name) c h = absurd h
-part_breaks tree at (Part.Declares w name d) c h = absurd h
-part_breaks tree at (Part.Local words there) c h = absurd h
+part_breaks tree at other c h = absurd h
 
 pub formats_sound : FaultsAreBroken rule.Format
 formats_sound tree at h =
-    let m = any_contains (λ part. BreaksAt part (fault_at rule.Format at)) (parts tree) (first_is_part tree (fault_at rule.Format at) tt tt h) in
-    part_breaks tree at m.0 m.1 m.2
+    let p = first_part IsJudged BreaksAt tree (text_writes tree) (fault_of rule.Format at) tt tt h in
+    part_breaks tree at p.0 p.1 p.2
 
-entered : (tree : TranslationUnit) (part : Part) (at : ℕ) → Contains (parts tree) part → BreaksAt part (fault_at rule.Format at) → Entered plain_ledger (parts tree)
-    (fault_at rule.Format at)
-entered tree part at c h = contains_any (λ part. BreaksAt part (fault_at rule.Format at)) (parts tree) part c h
+-- what breaks the rule is a part
+abbrev Broken : TranslationUnit → Rule → ℕ → Type 0
+Broken tree rule.Format at = IsPart BreaksAt tree (fault_of rule.Format at)
+Broken tree r at = Unit {0}
 
-broken_entered : (tree : TranslationUnit) (r : Rule) (at : ℕ) → Breaks tree r at → r ≡ rule.Format → Entered plain_ledger (parts tree) (fault_at rule.Format at)
-broken_entered tree r at (Breaks.BadFormat name first values c b) e =
-    entered tree (Part.Print name (first ∷ values)) (a.argument_offset first) c (false_from_ne_true (k.takes (k.format first) (length values)) (λ h. b (takes_is first values h)), refl)
-broken_entered tree r at (Breaks.NoFormat name c) e = entered tree (Part.Print name []) name.offset c refl
-broken_entered tree r at (Breaks.UnknownName w name c u) e = absurd (unknown_not e)
-broken_entered tree r at (Breaks.UnknownCall w name c u) e = absurd (unknown_not e)
-broken_entered tree r at (Breaks.UndefinedCall w name f c m n) e = absurd (unknown_not e)
-broken_entered tree r at (Breaks.UndefinedRoutine w name f c m n) e = absurd (unknown_not e)
-broken_entered tree r at (Breaks.KnownDeclared w name d c k) e = absurd (twice_not e)
-broken_entered tree r at (Breaks.DeclaredAgain w name d x c f n) e = absurd (twice_not e)
-broken_entered tree r at (Breaks.SecondBody w name f g x c k l b d a) e = absurd (twice_not e)
-broken_entered tree r at (Breaks.Recursion f g place c b) e = absurd (recursive_not e)
-broken_entered tree r at (Breaks.LocalObject words place c o) e = absurd (threads_not e)
-broken_entered tree r at (Breaks.SecondRoutine i j object q s k place o f x b d) e = absurd (threads_not e)
-broken_entered tree r at (Breaks.MainCalled w name f c m k) e = absurd (threads_not e)
-broken_entered tree r at (Breaks.RoutineCalled w name f c m k) e = absurd (threads_not e)
-broken_entered tree r at (Breaks.ParameterRead w name q c m k) e = absurd (threads_not e)
-broken_entered tree r at (Breaks.ExitElsewhere w name c x k) e = absurd (threads_not e)
-broken_entered tree r at (Breaks.ConstantTooLarge place c) e = absurd (constant_not e)
-broken_entered tree r at (Breaks.LengthNotConstant v c k) e = absurd (constant_not e)
-broken_entered tree r at (Breaks.LengthBelowOne v x c k l) e = absurd (constant_not e)
-broken_entered tree r at (Breaks.InitialNotConstant v c k) e = absurd (constant_not e)
-broken_entered tree r at (Breaks.TooMany size n index v c l le) e = absurd (constant_not e)
-broken_entered tree r at (Breaks.TooManyForOne size index v c k le) e = absurd (constant_not e)
+broken_part : (tree : TranslationUnit) (r : Rule) (at : ℕ) → Breaks tree r at → Broken tree r at
+broken_part tree r at (Breaks.BadFormat name first values c b) =
+    (Part.Print name (first ∷ values), c, (false_from_ne_true (k.takes (k.format first) (length values)) (λ h. b (takes_is first values h)), refl))
+broken_part tree r at (Breaks.NoFormat name c) = (Part.Print name [], c, refl)
+broken_part tree r at other = tt
 
 pub formats_complete : BrokenAreFaults rule.Format
 formats_complete tree fault at h b =
-    let r = part_is_reached tree fault (fault_at rule.Format at) h (broken_entered tree rule.Format at b refl) in
-    record { f = r.f; is = r.is; least = r.least }
+    not_behind fault rule.Format at
+    (part_reached IsJudged BreaksAt tree (text_writes tree) fault (fault_of rule.Format at) h (broken_part tree rule.Format at b))

@@ -1,6 +1,6 @@
 -- The rule on recursion: the first fault of a text, where it defines fewer than 2 ^ 32 functions.
 use Rattle.std.proofs.Common.{◌≡◌, refl, sym, subst, ap, ◌∙◌, inl, inr, ℕ, ◌<◌, Bool, true, false, List, [], ◌∷◌, ◌++◌, map, length, Option, Some, None}
-use Rattle.std.specs.Prelude.{◌⊎◌, Contains, fold, nat_eq, if◌then◌else◌, slice_get}
+use Rattle.std.specs.Prelude.{◌⊎◌, Contains, fold, nat_eq, if◌then◌else◌}
 use Rattle.std.proofs.lemmas.Option.{same_Some, none-some}
 use Rattle.std.proofs.lemmas.List.Elements.{Contains-append_left, Contains-append_right, Contains-append_cases, Contains-push, Contains-push_cases}
 use Rattle.std.proofs.lemmas.Bool.{eqb-true, eq-eqb, true≢false}
@@ -8,23 +8,19 @@ use Rattle.lists.proofs.Places.{in_none}
 use Rattle.call_graph.specs.Graphs as graphs
 use Rattle.call_graph.specs.Reaching.{Leads}
 use Rattle.c_tree.specs.declared.declaration.TranslationUnit.{TranslationUnit}
-use Rattle.c_program.specs.declared.tree.ThreadObject.{ThreadObject}
 use Rattle.c_rules.specs.declared.fault.Rule.{Rule}
 use Rattle.c_rules.specs.declared.fault.Rule.TheVariants as rule
 use Rattle.c_rules.specs.declared.fault.Fault.{Fault}
 use Rattle.c_rules.specs.declared.findings.CallSite.{CallSite}
-use Rattle.c_rules.specs.declared.findings.Creation.{Creation}
 use Rattle.c_rules.specs.Faults.{first}
 use Rattle.c_resolution.specs.CallRules.{call_of, with_call, fault_if}
-use Rattle.c_resolution.specs.Routines as r
 use Rattle.c_resolution.specs.Resolving.{IsFirstFault, behind, routines_given}
 use Rattle.broken_rules.specs.Parts.{Part, parts}
 use Rattle.broken_rules.specs.Breaks.{Breaks, CallsAt, LeadsTo}
 use Rattle.broken_rules.specs.Laws.{FaultsAreBrokenOfFew, BrokenAreFaultsOfFew, IsNotBehind, IsOfFew}
 use Rattle.broken_rules.proofs.Orders.{IsReached, reached_first, reached_new, first_of_two}
-use Rattle.broken_rules.proofs.Ledgers.{Entered}
-use Rattle.broken_rules.proofs.Firsts.{calls_keep}
-use Rattle.broken_rules.proofs.Constants.{any_contains, contains_any}
+use Rattle.broken_rules.proofs.Ledgers.{Entered, any_contains, contains_any}
+use Rattle.broken_rules.proofs.Firsts.{calls_keep, IsOfThreads, creates_of_threads}
 use Rattle.broken_rules.proofs.Sites.{SiteAt, IsRecursion, IsRecursive, site_ledger, site}
 use Rattle.broken_rules.proofs.SiteScope.{D, text_sites, text_counts}
 use Rattle.broken_rules.proofs.Defined.{noted_defined, defined_noted, defined_below}
@@ -140,39 +136,6 @@ cycle_reached leads (y ∷ sites) a s c back =
       | inr k ↦ cycle_reached leads sites (with_call leads a y) s k back
     ]
 
--- ---- a fault of creates is none of calls
-
-abbrev IsOfThreads : Option Fault → Type 0
-IsOfThreads None = Unit {0}
-IsOfThreads (Some f) = f.rule ≡ rule.Threads
-
-second_is : (c : Creation) (b : Bool) → IsOfThreads (if b then None else Some (record { rule = rule.Threads; offset = c.offset }))
-second_is c true = tt
-second_is c false = refl
-
-given_is : (c : Creation) (object : ThreadObject) (o : Option ℕ) (threads : List ThreadObject) → IsOfThreads (r.given_to c object o threads).1
-given_is c object None threads = tt
-given_is c object (Some routine) threads = second_is c (nat_eq routine c.routine)
-
-at_is : (c : Creation) (o : Option ThreadObject) (threads : List ThreadObject) → IsOfThreads (r.given_at c o threads).1
-at_is c None threads = tt
-at_is c (Some object) threads = given_is c object object.routine threads
-
-either_is : (a b : Option Fault) (f : Fault) → IsOfThreads a → IsOfThreads b → (a ≡ Some f) ⊎ (b ≡ Some f) → f.rule ≡ rule.Threads
-either_is a b f h k (inl e) = subst IsOfThreads e h
-either_is a b f h k (inr e) = subst IsOfThreads e k
-
-some_is : (o : Option Fault) → ((f : Fault) → o ≡ Some f → f.rule ≡ rule.Threads) → IsOfThreads o
-some_is None h = tt
-some_is (Some f) h = h f refl
-
-given_all : (sites : List Creation) (g : r.Given) → IsOfThreads g.1 → IsOfThreads (fold r.next_given g sites).1
-given_all [] g h = h
-given_all (c ∷ sites) g h =
-    given_all sites (r.next_given g c)
-    (some_is (first g.1 (r.given c g.0).1)
-    (λ f e. either_is g.1 (r.given c g.0).1 f h (at_is c (slice_get g.0 c.thread) g.0) (first_of_two g.1 (r.given c g.0).1 f e)))
-
 recursion_apart : rule.Recursive ≡ rule.Threads → ⊥
 recursion_apart e = cc
 
@@ -267,8 +230,7 @@ module _ (tree : TranslationUnit) (few : IsOfFew tree) where
   by_either fault h at (inl e) =
       by_calls fault h at (cycle_from h.is_calls.leads sites (behind tree.declarations).found.fault (fault_at at) (sym h.is_calls.is ∙ e))
   by_either fault h at (inr e) =
-      let x = behind tree.declarations in
-      absurd (recursion_apart (subst IsOfThreads e (given_all x.found.creations (x.tables.threads, None) tt)))
+      absurd (recursion_apart (subst IsOfThreads e (creates_of_threads tree)))
 
   sound : (at : ℕ) → IsFirstFault tree (Some (fault_at at)) → Breaks tree rule.Recursive at
   sound at h = by_either (Some (fault_at at)) h at (first_of_two h.calls (routines_given (behind tree.declarations)).1 (fault_at at) (sym h.is))

@@ -22,6 +22,23 @@ use Rattle.c_resolution.specs.Functions as y
 use Rattle.broken_rules.specs.Sight.{Declared, Names, Where, declaration_in, with_names, inside}
 use Rattle.broken_rules.proofs.Walks.{IsUsual, IsParameter, IsGlobal, IsOpen, is_thread, is_thread_object, within}
 
+-- ---- what a name stands for is one thing
+
+pub same_function : (f g : Function) → Declared.OfFunction f ≡ Declared.OfFunction g → f ≡ g
+same_function f g h = cc
+
+pub same_meaning : (m o : Meaning) → known.Declared m ≡ known.Declared o → m ≡ o
+same_meaning m o h = cc
+
+pub not_library : (f : LibraryFunction) (m : Meaning) → known.Library f ≡ known.Declared m → ⊥
+not_library f m h = cc
+
+pub not_nothing : (m : Meaning) → known.Unknown ≡ known.Declared m → ⊥
+not_nothing m h = cc
+
+pub unknown_library : (f : LibraryFunction) → known.Unknown ≡ known.Library f → ⊥
+unknown_library f h = cc
+
 -- ---- names in tables
 
 module _ {A : Type 0} where

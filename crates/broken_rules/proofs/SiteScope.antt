@@ -26,7 +26,7 @@ use Rattle.broken_rules.specs.Sight.{Declared, Where, behind}
 use Rattle.broken_rules.specs.Parts.{Part, parts, names_of, number_behind, at_first}
 use Rattle.broken_rules.specs.Breaks.{definitions, definition_in, definition_by}
 use Rattle.broken_rules.specs.Laws.{IsOfFew}
-use Rattle.broken_rules.proofs.Ledgers.{Ledger, Writes, given, left, after_one, writes_with}
+use Rattle.broken_rules.proofs.Ledgers.{Ledger, Writes, given, left, after_one, writes_with, quiet}
 use Rattle.broken_rules.proofs.Events.{Events}
 use Rattle.broken_rules.proofs.Walks.{Scoping}
 use Rattle.broken_rules.proofs.Calls.{no_creates}
@@ -35,7 +35,7 @@ use Rattle.broken_rules.proofs.NameScope as n
 use Rattle.broken_rules.proofs.NameScope.{IsMeant}
 use Rattle.broken_rules.proofs.Quiets as q
 use Rattle.broken_rules.proofs.Sites as u
-use Rattle.broken_rules.proofs.Sites.{site_ledger, Stands, number_in, broken, quiet, quiet_two, quiet_three}
+use Rattle.broken_rules.proofs.Sites.{site_ledger, Stands, number_in, broken, others}
 
 abbrev most : ℕ
 most = 0xffff_ffff
@@ -81,30 +81,34 @@ module _ (D : List (List ℕ × ℕ)) where
   pub events : (s : Scope) (w : Where) → Stands D s w → Events (site_ledger D) s w
   events s w stands =
       let L = site_ledger D in
-      let b = broken D in
+      let o = others D in
+      let unknown = broken D rule.Unknown (λ h. h) in
+      let threads = broken D rule.Threads (λ h. h) in
+      let constants = broken D rule.Constant (λ h. h) in
+      let formats = broken D rule.Format (λ h. h) in
       record {
-        other = q.other L b;
-        constant = λ v at. quiet D (Part.Constant v at) (λ x h. h) (q.constant_is L b v at);
-        used = λ name index. quiet D (Part.Use w name) (λ x h. h) (q.named_value L b (look_up s name.bytes) name.offset (Some index));
-        read = λ name. quiet_two D (Part.Use w name) (Part.Read w name) (λ x h. h) (λ x h. h) (q.named_value L b (look_up s name.bytes) name.offset None);
-        converted = λ name h. quiet D (Part.Use w name) (λ x h. h) (q.named_value L b (look_up s name.bytes) name.offset None);
+        other = o;
+        constant = λ v at. quiet L (Part.Constant v at) (λ x h. h) (q.constant_is L constants v at);
+        used = λ name index. quiet L (Part.Use w name) (λ x h. h) (q.named_value L o (look_up s name.bytes) name.offset (Some index) (λ _. unknown) (λ _ _. threads));
+        read = λ name. quiet L (Part.Use w name) (λ x h. h) (quiet L (Part.Read w name) (λ x h. h) (q.named_value L o (look_up s name.bytes) name.offset None (λ _. unknown) (λ _ _. threads)));
+        converted = λ name h. quiet L (Part.Use w name) (λ x h. h) (q.named_value L o (look_up s name.bytes) name.offset None (λ _. unknown) (λ _ _. threads));
         argument = λ name h x k. k;
-        target = λ name indexed. quiet D (Part.Use w name) (λ x h. h) (q.target_quiet L b (look_up s name.bytes) indexed name.offset);
-        object = λ kind name at index. quiet D (Part.Use w name) (λ x h. h) (q.object_named L b kind (look_up s name.bytes) name.offset at index);
-        routine = λ name h at is. quiet_three D (Part.Routine w name) (Part.Use w name) (Part.Read w name) (λ x h. h) (λ x h. h) (λ x h. h) (q.routine_is L b h name.offset at);
+        target = λ name indexed. quiet L (Part.Use w name) (λ x h. h) (q.target_quiet L o (look_up s name.bytes) indexed name.offset (λ _. unknown));
+        object = λ kind name at index. quiet L (Part.Use w name) (λ x h. h) (q.object_named L o kind (look_up s name.bytes) name.offset at index (λ _. unknown));
+        routine = λ name h at is. quiet L (Part.Routine w name) (λ x h. h) (quiet L (Part.Use w name) (λ x h. h) (quiet L (Part.Read w name) (λ x h. h) (q.routine_quiet L o unknown h name.offset at)));
         no_routine = λ name is x k. k;
         misplaced = λ name count. u.misplaced_is D s w name count stands (look_up s name.bytes) refl;
         library = λ name function count is. u.library_is D s w name function count stands is;
         function = λ name number count is_value is. u.function_is D s w name number count is_value stands is;
         no_function = λ name none own. u.no_function D s w name stands none;
-        print = λ name first values. quiet D (Part.Print name (first ∷ values)) (λ x h. h)
-            (q.broken_if L b (not (k.takes (k.format first) (length values))) rule.Format (a.argument_offset first) tt);
-        no_print = λ name. quiet D (Part.Print name []) (λ x h. h) (b rule.Format name.offset tt);
-        length = λ v. quiet D (Part.Length v) (λ x h. h) (q.length_is L b (constancy v) (out-Expression v).offset);
-        local = λ words at is. quiet D (Part.Local words at) (λ x h. h) (q.local_is L b words at);
+        print = λ name first values. quiet L (Part.Print name (first ∷ values)) (λ x h. h)
+            (q.broken_if L (not (k.takes (k.format first) (length values))) rule.Format (a.argument_offset first) formats);
+        no_print = λ name. quiet L (Part.Print name []) (λ x h. h) (formats name.offset);
+        length = λ v. quiet L (Part.Length v) (λ x h. h) (q.length_is L constants (constancy v) (out-Expression v).offset);
+        local = λ words at is. quiet L (Part.Local words at) (λ x h. h) (q.local_quiet L o threads words at);
         no_local = λ words at ty is x k. k;
-        initial = λ ty v. quiet D (Part.Initial v) (λ x h. h) (q.initial_is L b ty (constancy v) (out-Expression v).offset);
-        listed = λ size v n index is. quiet D (Part.Listed size index v) (λ x h. h) (q.broken_if L b _ rule.Constant (out-Expression v).offset tt);
+        initial = λ ty v. quiet L (Part.Initial v) (λ x h. h) (q.initial_is L constants ty (constancy v) (out-Expression v).offset);
+        listed = λ size v n index is. quiet L (Part.Listed size index v) (λ x h. h) (q.broken_if L _ rule.Constant (out-Expression v).offset constants);
       }
 
   -- ---- scopes that open and close
@@ -153,7 +157,7 @@ module _ (tree : TranslationUnit) (few : IsOfFew tree) where
   unfolding n.scoping_named
   scoping_sites =
       let L = site_ledger D in
-      let b = broken D in
+      let twice = broken D rule.Twice (λ h. h) in
       let N = n.scoping_named D in
       record {
         Agrees = Stands D;
@@ -167,7 +171,7 @@ module _ (tree : TranslationUnit) (few : IsOfFew tree) where
         loops = λ s w n h. record { names = N.loops s w n h.names; function = h.function };
         local = λ s w l h. record { names = N.local s w l h.names; function = h.function };
         declares = λ x w name d o h means.
-            let still = q.declare_is L b name o x in
+            let still = q.declare_is L (others D) twice name o x in
             record {
               writes = writes_with L (Part.Declares w name d) (λ x k. k) still.writes;
               agrees = record { names = (N.declares x w name d o h.names means).agrees; function = still.function ∙ h.function };
@@ -186,7 +190,7 @@ module _ (tree : TranslationUnit) (few : IsOfFew tree) where
         header = λ s w f h. N.header s w f h.names;
         gives = λ s w n rest g here h. record { names = N.gives s w n rest g tt h.names; function = h.function };
         declares_function = λ x w n f h rest here agrees is.
-            let still = q.function_is L b h f.name (y.is_second f h n) x in
+            let still = q.function_is L (others D) twice h f.name (y.is_second f h n) x in
             record {
               writes = writes_with L (Part.Declares w f.name (Declared.OfFunction f)) (λ x k. k) still.writes;
               agrees = record { names = (N.declares_function x w n f h rest tt agrees.names is).agrees; function = still.function ∙ agrees.function };

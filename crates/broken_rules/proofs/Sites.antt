@@ -27,11 +27,12 @@ use Rattle.c_calls.specs.Calls as k
 use Rattle.broken_rules.specs.Sight.{Declared, Where}
 use Rattle.broken_rules.specs.Parts.{Part, Parts}
 use Rattle.broken_rules.specs.Breaks.{StandsFor, IsIn}
-use Rattle.broken_rules.proofs.Ledgers.{Ledger, Entered, Good, good_pure, good_then, good_before, good_with, nothing_new}
-use Rattle.broken_rules.proofs.Sights.{Agrees, sees, header_in}
+use Rattle.broken_rules.proofs.Ledgers.{Ledger, Entered, Good, good_pure, good_then, good_before, nothing_new, quiet}
+use Rattle.broken_rules.proofs.Sights.{Agrees, sees, header_in, same_function, same_meaning, not_library, not_nothing}
 use Rattle.broken_rules.proofs.Naming.{IsNoFunction, named_function, no_function_meant, not_function}
 use Rattle.broken_rules.proofs.Quiets as q
-use Rattle.broken_rules.proofs.Quiets.{IsFound}
+use Rattle.broken_rules.proofs.Quiets.{IsQuiet, OthersAreQuiet}
+use Rattle.broken_rules.proofs.Events.{IsOther}
 
 -- ---- recursion is no rule that a walk finds broken
 
@@ -52,16 +53,9 @@ unfolding first
 recursive_before None x out h = out h
 recursive_before (Some a) x out h = chosen a x (is_before x a) out h
 
-found_none : (r : Rule) → IsFound r → IsRecursion r → ⊥
-found_none rule.Recursive h k = h
-found_none rule.Unknown h k = k
-found_none rule.Twice h k = k
-found_none rule.Kind h k = k
-found_none rule.Arguments h k = k
-found_none rule.Threads h k = k
-found_none rule.Place h k = k
-found_none rule.Constant h k = k
-found_none rule.Format h k = k
+not_recursion : (r : Rule) → IsOther r → IsRecursion r → ⊥
+not_recursion rule.Recursive h k = h
+not_recursion r h k = k
 
 -- ---- the ledger of sites
 
@@ -102,18 +96,6 @@ one_body : (b : Option (ℕ × Function)) (n m : ℕ) → IsIn b n → IsIn b m 
 one_body None n m h k = absurd h
 one_body (Some b) n m h k = sym h ∙ k
 
-same_function : (f g : Function) → Declared.OfFunction f ≡ Declared.OfFunction g → f ≡ g
-same_function f g h = cc
-
-not_library : (f : LibraryFunction) (m : Meaning) → known.Library f ≡ known.Declared m → ⊥
-not_library f m h = cc
-
-not_nothing : (m : Meaning) → known.Unknown ≡ known.Declared m → ⊥
-not_nothing m h = cc
-
-same_meaning : (m o : Meaning) → known.Declared m ≡ known.Declared o → m ≡ o
-same_meaning m o h = cc
-
 module _ (D : List (List ℕ × ℕ)) where
   -- the site of a call of a function of these definitions
   pub record IsSite (w : Where) (name : Name) (x : CallSite) : Type 0 where
@@ -145,9 +127,9 @@ module _ (D : List (List ℕ × ℕ)) where
 
   -- ---- what is no site
 
-  still_seen : (r : Rule) (at : ℕ) → IsFound r → (found : Findings) (x : Option CallSite) → SeenIn (findings.broken r at found) x → SeenIn found x
+  still_seen : (r : Rule) (at : ℕ) → (IsRecursion r → ⊥) → (found : Findings) (x : Option CallSite) → SeenIn (findings.broken r at found) x → SeenIn found x
   unfolding findings.broken
-  still_seen r at h found None s = recursive_before found.fault (record { rule = r; offset = at }) (found_none r h) s
+  still_seen r at h found None s = recursive_before found.fault (record { rule = r; offset = at }) h s
   still_seen r at h found (Some x) s = s
 
   still_reached : (r : Rule) (at : ℕ) (found : Findings) (x : Option CallSite) → ReachedIn found x → ReachedIn (findings.broken r at found) x
@@ -155,8 +137,9 @@ module _ (D : List (List ℕ × ℕ)) where
   still_reached r at found None s = s
   still_reached r at found (Some x) s = s
 
-  pub broken : (r : Rule) (at : ℕ) → IsFound r → Plain (finds r at) []
-  broken r at h = record {
+  -- recursion is no rule that a walk finds broken
+  pub broken : (r : Rule) → (IsRecursion r → ⊥) → IsQuiet site_ledger r
+  broken r h at = record {
     writes = λ found. record {
       from = λ x s. inl (still_seen r at h found x s);
       keeps = λ x s. still_reached r at found x s;
@@ -164,6 +147,9 @@ module _ (D : List (List ℕ × ℕ)) where
       order = tt;
     };
   }
+
+  pub others : OthersAreQuiet site_ledger
+  others r at h = broken r (not_recursion r h) at
 
   created_seen : (thread routine at : ℕ) (found : Findings) (x : Option CallSite) → SeenIn (findings.created thread routine at found) x → SeenIn found x
   created_seen thread routine at found None s = s
@@ -183,19 +169,8 @@ module _ (D : List (List ℕ × ℕ)) where
     };
   }
 
-  pub quiet : {A : Type 0} {w : Finds A} (part : Part) → ((x : Option CallSite) → SiteAt part x → ⊥) → Plain w [] → Plain w (part ∷ [])
-  quiet part none h = good_with site_ledger part [] none h
-
-  pub quiet_two : {A : Type 0} {w : Finds A} (part next : Part) → ((x : Option CallSite) → SiteAt part x → ⊥) → ((x : Option CallSite) → SiteAt next x → ⊥) → Plain w [] →
-      Plain w (part ∷ next ∷ [])
-  quiet_two part next none more h = good_with site_ledger part (next ∷ []) none (good_with site_ledger next [] more h)
-
-  pub quiet_three : {A : Type 0} {w : Finds A} (part next last : Part) → ((x : Option CallSite) → SiteAt part x → ⊥) → ((x : Option CallSite) → SiteAt next x → ⊥) →
-      ((x : Option CallSite) → SiteAt last x → ⊥) → Plain w [] → Plain w (part ∷ next ∷ last ∷ [])
-  quiet_three part next last none more out h = good_with site_ledger part (next ∷ last ∷ []) none (quiet_two next last more out h)
-
   no_site : {A : Type 0} {v : Finds A} (w : Where) (name : Name) → ((x : CallSite) → IsSite w name x → ⊥) → Plain v [] → Plain v (Part.Call w name ∷ [])
-  no_site w name none h = quiet (Part.Call w name) (not_given (IsSite w name) none) h
+  no_site w name none h = quiet site_ledger (Part.Call w name) (not_given (IsSite w name) none) h
 
   -- ---- a site
 
@@ -270,7 +245,7 @@ module _ (D : List (List ℕ × ℕ)) where
       Plain (c.header_call s count is_value name.offset (Some (header_in D f))) (Part.Call w name ∷ [])
   header_is s w name f count is_value stands means =
       good_then site_ledger (c.header_rules (header_in D f) count is_value name.offset) (λ _. c.called s name.offset (named_in D f.name.bytes)) [] (Part.Call w name ∷ [])
-      (q.header_rules site_ledger broken (header_in D f) count is_value name.offset) (λ _. definition_by s w name f stands means (named_in D f.name.bytes) refl)
+      (q.header_quiet site_ledger others (broken rule.Unknown (λ h. h)) (broken rule.Threads (λ h. h)) (header_in D f) count is_value name.offset) (λ _. definition_by s w name f stands means (named_in D f.name.bytes) refl)
 
   pub function_is : (s : Scope) (w : Where) (name : Name) (number count : ℕ) (is_value : Bool) → Stands s w → look_up s name.bytes ≡ known.Declared (meaning.Function number) →
       Plain (c.function_name s number count is_value name.offset) (Part.Call w name ∷ [])
@@ -289,7 +264,8 @@ module _ (D : List (List ℕ × ℕ)) where
   pub library_is : (s : Scope) (w : Where) (name : Name) (f : LibraryFunction) (count : ℕ) → Stands s w → look_up s name.bytes ≡ known.Library f →
       Plain (c.library_name s f count name.offset) (Part.Call w name ∷ [])
   library_is s w name f count stands is =
-      no_call s w name stands (known.Library f) is (λ n e. not_library f (meaning.Function n) e) (q.library_name site_ledger broken s f count name.offset)
+      no_call s w name stands (known.Library f) is (λ n e. not_library f (meaning.Function n) e)
+      (q.library_quiet site_ledger others (broken rule.Unknown (λ h. h)) (broken rule.Threads (λ h. h)) s f count name.offset)
 
   other_call : {A : Type 0} {v : Finds A} (s : Scope) (w : Where) (name : Name) → Stands s w → (m : Meaning) → look_up s name.bytes ≡ known.Declared m → IsNoFunction m →
       Plain v [] → Plain v (Part.Call w name ∷ [])
@@ -303,11 +279,11 @@ module _ (D : List (List ℕ × ℕ)) where
       good_before site_ledger (c.function_name s n count true name.offset) (λ _. pure tt) (Part.Call w name ∷ []) (function_is s w name n count true stands is)
       (λ _. good_pure site_ledger tt)
   misplaced_is s w name count stands (known.Declared meaning.Unusable) is = other_call s w name stands meaning.Unusable is tt (good_pure site_ledger tt)
-  misplaced_is s w name count stands (known.Declared (meaning.Variable v)) is = other_call s w name stands (meaning.Variable v) is tt (broken rule.Kind name.offset tt)
-  misplaced_is s w name count stands (known.Declared meaning.Argument) is = other_call s w name stands meaning.Argument is tt (broken rule.Kind name.offset tt)
-  misplaced_is s w name count stands (known.Declared (meaning.Object o)) is = other_call s w name stands (meaning.Object o) is tt (broken rule.Kind name.offset tt)
+  misplaced_is s w name count stands (known.Declared (meaning.Variable v)) is = other_call s w name stands (meaning.Variable v) is tt (broken rule.Kind (λ h. h) name.offset)
+  misplaced_is s w name count stands (known.Declared meaning.Argument) is = other_call s w name stands meaning.Argument is tt (broken rule.Kind (λ h. h) name.offset)
+  misplaced_is s w name count stands (known.Declared (meaning.Object o)) is = other_call s w name stands (meaning.Object o) is tt (broken rule.Kind (λ h. h) name.offset)
   misplaced_is s w name count stands known.Unknown is =
-      no_call s w name stands known.Unknown is (λ n e. not_nothing (meaning.Function n) e) (broken rule.Unknown name.offset tt)
+      no_call s w name stands known.Unknown is (λ n e. not_nothing (meaning.Function n) e) (broken rule.Unknown (λ h. h) name.offset)
 
   no_number : (x : Known) (n : ℕ) → k.number_of x ≡ None → x ≡ known.Declared (meaning.Function n) → ⊥
   no_number x n none e = none-some n (sym none ∙ ap k.number_of e)
@@ -316,4 +292,4 @@ module _ (D : List (List ℕ × ℕ)) where
       Plain (finds_if (a.is_unknown (look_up s name.bytes)) rule.Unknown name.offset) (Part.Call w name ∷ [])
   no_function s w name stands none =
       no_call s w name stands (look_up s name.bytes) refl (λ n e. no_number (look_up s name.bytes) n none e)
-      (q.broken_if site_ledger broken (a.is_unknown (look_up s name.bytes)) rule.Unknown name.offset tt)
+      (q.broken_if site_ledger (a.is_unknown (look_up s name.bytes)) rule.Unknown name.offset (broken rule.Unknown (λ h. h)))

@@ -11,9 +11,8 @@ use Rattle.c_rules.specs.declared.fault.Rule.TheVariants as rule
 use Rattle.c_rules.specs.declared.names.Header.{Header}
 use Rattle.c_rules.specs.Findings.{nothing}
 use Rattle.c_rules.specs.Levels.{named_in}
-use Rattle.std.proofs.lemmas.Option.{none-some}
 use Rattle.c_resolution.specs.Functions as y
-use Rattle.c_resolution.specs.Resolving.{before, scope_with}
+use Rattle.c_resolution.specs.Resolving.{before}
 use Rattle.c_resolution.specs.Resolving as resolving
 use Rattle.c_resolution.specs.Texts as t
 use Rattle.broken_rules.specs.Sight.{Declared, Where, behind, with_names}
@@ -22,10 +21,9 @@ use Rattle.broken_rules.proofs.Ledgers.{Writes}
 use Rattle.broken_rules.proofs.Walks.{Scoping}
 use Rattle.broken_rules.proofs.Calls.{no_creates}
 use Rattle.broken_rules.proofs.Functions.{text_is}
-use Rattle.broken_rules.proofs.Sights.{Agrees, header_in}
+use Rattle.broken_rules.proofs.Sights.{Agrees, header_in, same_function}
 use Rattle.broken_rules.specs.Breaks.{innermost}
-use Rattle.broken_rules.proofs.Twice as q
-use Rattle.broken_rules.proofs.Twice.{BreaksAt, IsTwice, IsAgain, IsSecond, twice_ledger, fault_at}
+use Rattle.broken_rules.proofs.Twice.{IsJudged, BreaksAt, IsTwice, twice_ledger, creation_quiet}
 use Rattle.broken_rules.proofs.NameScope.{IsMeant}
 use Rattle.std.proofs.Common.{suc, ◌<◌, ◌≤◌, append_assoc, append-nil, arith}
 use Rattle.std.specs.Prelude.{◌+◌, ◌^◌}
@@ -42,14 +40,13 @@ use Rattle.c_resolution.specs.Resolving.{IsFirstFault}
 use Rattle.broken_rules.specs.Breaks.{Breaks, definitions, definition_in, definition_by}
 use Rattle.broken_rules.specs.Laws.{FaultsAreBrokenOfFew, BrokenAreFaultsOfFew, IsNotBehind, IsOfFew}
 use Rattle.broken_rules.specs.Parts.{names_of, number_behind, objects_names}
-use Rattle.broken_rules.proofs.Firsts.{found_in_parts, first_is_reached}
-use Rattle.broken_rules.proofs.Constants.{any_contains, contains_any}
-use Rattle.broken_rules.proofs.Ledgers.{Entered}
 use Rattle.broken_rules.proofs.NameScope as n
 use Rattle.broken_rules.proofs.Unknown.{Defines, noted_by, all_here, all_back, from_nothing, any_split, any_left, any_right}
 use Rattle.broken_rules.proofs.Numbers.{first_number, second_number}
 use Rattle.broken_rules.proofs.TwiceScope as h
 use Rattle.broken_rules.proofs.TwiceScope.{IsSecondBy}
+use Rattle.broken_rules.proofs.FaultLedgers.{fault_of}
+use Rattle.broken_rules.proofs.JudgedParts.{IsPart, first_part, part_reached, at_place, not_behind}
 
 abbrev most : ℕ
 most = 0xffff_ffff
@@ -90,9 +87,6 @@ all_definers (x ∷ list) key h = either x list key (any_split (definition_in x)
 only_name : (a c : Named) → Contains {X = Named} [] c ⊎ (a ≡ c) → a ≡ c
 only_name a c (inl k) = absurd (in_none c k)
 only_name a c (inr e) = e
-
-same_function : (f g : Function) → Declared.OfFunction f ≡ Declared.OfFunction g → f ≡ g
-same_function f g h = cc
 
 no_object : (words : Words) (pointer : Bool) (d : GlobalDeclarator) (g : Function) → Declared.OfObject words pointer d ≡ Declared.OfFunction g → ⊥
 no_object words pointer d g h = cc
@@ -165,21 +159,6 @@ one_number f n false = omega arith
 number_is : (d : ExternalDeclaration) (n : ℕ) → number_behind d n ≡ n + length (definitions (d ∷ []))
 number_is (external.Function f) n = one_number f n (is_some f.body)
 number_is (external.Objects o) n = omega arith
-
-unknown_not : rule.Unknown ≡ rule.Twice → ⊥
-unknown_not e = cc
-
-recursive_not : rule.Recursive ≡ rule.Twice → ⊥
-recursive_not e = cc
-
-threads_not : rule.Threads ≡ rule.Twice → ⊥
-threads_not e = cc
-
-constant_not : rule.Constant ≡ rule.Twice → ⊥
-constant_not e = cc
-
-format_not : rule.Format ≡ rule.Twice → ⊥
-format_not e = cc
 
 module _ (tree : TranslationUnit) (few : IsOfFew tree) where
   abbrev D : List (List ℕ × ℕ)
@@ -254,7 +233,7 @@ module _ (tree : TranslationUnit) (few : IsOfFew tree) where
         Agrees = Agrees D;
         Means = λ w name. IsMeant D;
         events = λ s w agrees. h.events s w;
-        creates = λ s w agrees. no_creates twice_ledger s w (h.events s w) q.creation_quiet (λ thread name x k. k);
+        creates = λ s w agrees. no_creates twice_ledger s w (h.events s w) creation_quiet (λ thread name x k. k);
         opened = N.opened;
         is_open = N.is_open;
         closed = N.closed;
@@ -292,74 +271,40 @@ module _ (tree : TranslationUnit) (few : IsOfFew tree) where
 
   -- ---- the rule
 
-  at_place : (at there : ℕ) → fault_at rule.Twice at ≡ fault_at rule.Twice there → Breaks tree rule.Twice there → Breaks tree rule.Twice at
-  at_place at there e b = subst (λ k. Breaks tree rule.Twice k) (sym (ap (λ (f : Fault). f.offset) e)) b
-
   twice_breaks : (w : Where) (name : Name) (d : Declared) → Contains (parts tree) (Part.Declares w name d) → IsTwice w name d → Breaks tree rule.Twice name.offset
   twice_breaks w name d c (inl k) = Breaks.KnownDeclared w name d c k
   twice_breaks w name d c (inr (inl k)) = Breaks.DeclaredAgain w name d k.earlier c k.first k.no_functions
   twice_breaks w name d c (inr (inr k)) =
       Breaks.SecondBody w name k.f k.g k.earlier (subst (λ z. Contains (parts tree) (Part.Declares w name z)) k.is c) k.first k.function k.before k.defined k.again
 
-  part_breaks : (at : ℕ) (part : Part) → Contains (parts tree) part → BreaksAt part (fault_at rule.Twice at) → Breaks tree rule.Twice at
-  part_breaks at (Part.Declares w name d) c h = at_place at name.offset h.1 (twice_breaks w name d c h.0)
-  part_breaks at (Part.Use w name) c h = absurd h
-  part_breaks at (Part.Call w name) c h = absurd h
-  part_breaks at (Part.Routine w name) c h = absurd h
-  part_breaks at (Part.Constant value there) c h = absurd h
-  part_breaks at (Part.Length v) c h = absurd h
-  part_breaks at (Part.Initial v) c h = absurd h
-  part_breaks at (Part.Listed size index v) c h = absurd h
-  part_breaks at (Part.Print name arguments) c h = absurd h
-  part_breaks at (Part.Read w name) c h = absurd h
-  part_breaks at (Part.Creation w thread name) c h = absurd h
-  part_breaks at (Part.Local words there) c h = absurd h
+  part_breaks : (at : ℕ) (part : Part) → Contains (parts tree) part → BreaksAt part (fault_of rule.Twice at) → Breaks tree rule.Twice at
+  part_breaks at (Part.Declares w name d) c h = at_place tree rule.Twice at name.offset h.1 (twice_breaks w name d c h.0)
+  part_breaks at other c h = absurd h
 
-  new_from : (f : Fault) → f.rule ≡ rule.Twice → (nothing.fault ≡ Some f) ⊎ (q.IsJudged f.rule → Entered twice_ledger (parts tree) f) → Entered twice_ledger (parts tree) f
-  new_from f e (inl h) = absurd (none-some f h)
-  new_from f e (inr h) = h (subst q.IsJudged (sym e) tt)
-
-  pub sound : (at : ℕ) → IsFirstFault tree (Some (fault_at rule.Twice at)) → Breaks tree rule.Twice at
+  pub sound : (at : ℕ) → IsFirstFault tree (Some (fault_of rule.Twice at)) → Breaks tree rule.Twice at
   sound at h =
-      let x = fault_at rule.Twice at in
-      let m = any_contains (λ part. BreaksAt part x) (parts tree) (new_from x refl (text_twice.from x (found_in_parts tree x tt h))) in
-      part_breaks at m.0 m.1 m.2
+      let p = first_part IsJudged BreaksAt tree text_twice (fault_of rule.Twice at) tt tt h in
+      part_breaks at p.0 p.1 p.2
 
-  entered : (part : Part) (at : ℕ) → Contains (parts tree) part → BreaksAt part (fault_at rule.Twice at) → Entered twice_ledger (parts tree) (fault_at rule.Twice at)
-  entered part at c h = contains_any (λ part. BreaksAt part (fault_at rule.Twice at)) (parts tree) part c h
+  -- what breaks the rule is a part
+  abbrev Broken : Rule → ℕ → Type 0
+  Broken rule.Twice at = IsPart BreaksAt tree (fault_of rule.Twice at)
+  Broken r at = Unit {0}
 
-  broken_entered : (r : Rule) (at : ℕ) → Breaks tree r at → r ≡ rule.Twice → Entered twice_ledger (parts tree) (fault_at rule.Twice at)
-  broken_entered r at (Breaks.KnownDeclared w name d c k) e = entered (Part.Declares w name d) name.offset c (inl k, refl)
-  broken_entered r at (Breaks.DeclaredAgain w name d x c first out) e =
-      entered (Part.Declares w name d) name.offset c (inr (inl (record { earlier = x; first = first; no_functions = out })), refl)
-  broken_entered r at (Breaks.SecondBody w name f g x c first function before defined again) e =
-      entered (Part.Declares w name (Declared.OfFunction f)) name.offset c
-      (inr (inr (record { f = f; is = refl; earlier = x; first = first; function = function; g = g; before = before; defined = defined; again = again })), refl)
-  broken_entered r at (Breaks.UnknownName w name c u) e = absurd (unknown_not e)
-  broken_entered r at (Breaks.UnknownCall w name c u) e = absurd (unknown_not e)
-  broken_entered r at (Breaks.UndefinedCall w name f c m k) e = absurd (unknown_not e)
-  broken_entered r at (Breaks.UndefinedRoutine w name f c m k) e = absurd (unknown_not e)
-  broken_entered r at (Breaks.Recursion f g place c b) e = absurd (recursive_not e)
-  broken_entered r at (Breaks.LocalObject words place c o) e = absurd (threads_not e)
-  broken_entered r at (Breaks.SecondRoutine i j object q s k place o f x b d) e = absurd (threads_not e)
-  broken_entered r at (Breaks.MainCalled w name f c m k) e = absurd (threads_not e)
-  broken_entered r at (Breaks.RoutineCalled w name f c m k) e = absurd (threads_not e)
-  broken_entered r at (Breaks.ParameterRead w name q c m k) e = absurd (threads_not e)
-  broken_entered r at (Breaks.ExitElsewhere w name c x k) e = absurd (threads_not e)
-  broken_entered r at (Breaks.ConstantTooLarge place c) e = absurd (constant_not e)
-  broken_entered r at (Breaks.LengthNotConstant v c k) e = absurd (constant_not e)
-  broken_entered r at (Breaks.LengthBelowOne v x c k l) e = absurd (constant_not e)
-  broken_entered r at (Breaks.InitialNotConstant v c k) e = absurd (constant_not e)
-  broken_entered r at (Breaks.TooMany size n index v c l le) e = absurd (constant_not e)
-  broken_entered r at (Breaks.TooManyForOne size index v c k le) e = absurd (constant_not e)
-  broken_entered r at (Breaks.BadFormat name first values c b) e = absurd (format_not e)
-  broken_entered r at (Breaks.NoFormat name c) e = absurd (format_not e)
+  broken_part : (r : Rule) (at : ℕ) → Breaks tree r at → Broken r at
+  broken_part r at (Breaks.KnownDeclared w name d c k) = (Part.Declares w name d, c, (inl k, refl))
+  broken_part r at (Breaks.DeclaredAgain w name d x c first out) =
+      (Part.Declares w name d, c, (inr (inl (record { earlier = x; first = first; no_functions = out })), refl))
+  broken_part r at (Breaks.SecondBody w name f g x c first function before defined again) = (
+    Part.Declares w name (Declared.OfFunction f),
+    c,
+    (inr (inr (record { f = f; is = refl; earlier = x; first = first; function = function; g = g; before = before; defined = defined; again = again })), refl),
+  )
+  broken_part r at other = tt
 
   pub complete : (fault : Option Fault) (at : ℕ) → IsFirstFault tree fault → Breaks tree rule.Twice at → IsNotBehind fault rule.Twice at
   complete fault at h b =
-      let x = fault_at rule.Twice at in
-      let r = first_is_reached tree fault x h (text_twice.finds x (broken_entered rule.Twice at b refl)) in
-      record { f = r.f; is = r.is; least = r.least }
+      not_behind fault rule.Twice at (part_reached IsJudged BreaksAt tree text_twice fault (fault_of rule.Twice at) h (broken_part rule.Twice at b))
 
 pub twice_sound : FaultsAreBrokenOfFew rule.Twice
 twice_sound tree at few h = sound tree few at h

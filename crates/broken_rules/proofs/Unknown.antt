@@ -4,7 +4,6 @@ use Rattle.std.proofs.lemmas.Bool.{true≢false}
 use Rattle.std.specs.Prelude.{◌⊎◌, fold, Contains, is_some, if◌then◌else◌}
 use Rattle.std.specs.Str.{bytes_eq}
 use Rattle.std.proofs.lemmas.Slice.Eq.{bytes_eq-Decides}
-use Rattle.std.proofs.lemmas.Option.{none-some}
 use Rattle.lists.proofs.Places.{none_of}
 use Rattle.c_tree.specs.declared.expression.Name.{Name}
 use Rattle.c_tree.specs.declared.statement.Block.{Block}
@@ -15,7 +14,6 @@ use Rattle.c_tree.specs.declared.declaration.TranslationUnit.{TranslationUnit}
 use Rattle.c_rules.specs.declared.fault.Rule.{Rule}
 use Rattle.c_rules.specs.declared.fault.Rule.TheVariants as rule
 use Rattle.c_rules.specs.declared.fault.Fault.{Fault}
-use Rattle.c_rules.specs.Findings.{nothing}
 use Rattle.c_rules.specs.Levels.{named_in, inserted}
 use Rattle.c_rules.specs.Names.{or_else}
 use Rattle.c_resolution.specs.Resolving.{IsFirstFault}
@@ -24,13 +22,12 @@ use Rattle.broken_rules.specs.Sight.{Where}
 use Rattle.broken_rules.specs.Parts.{Part, parts}
 use Rattle.broken_rules.specs.Breaks.{Breaks, IsUnknown, IsNeverDefined, IsNamed, definitions, definition_in, definition_by}
 use Rattle.broken_rules.specs.Laws.{FaultsAreBroken, BrokenAreFaults, IsNotBehind}
-use Rattle.broken_rules.proofs.Ledgers.{Any, Entered}
-use Rattle.broken_rules.proofs.Firsts.{found_in_parts, first_is_reached}
-use Rattle.broken_rules.proofs.Constants.{any_contains, contains_any}
+use Rattle.broken_rules.proofs.Ledgers.{Any, any_contains, contains_any}
 use Rattle.broken_rules.proofs.Sights.{named_inserted}
-use Rattle.broken_rules.proofs.Names as q
-use Rattle.broken_rules.proofs.Names.{BreaksAt, IsUndefined, name_ledger, fault_at}
+use Rattle.broken_rules.proofs.Names.{IsJudged, BreaksAt, IsUndefined}
 use Rattle.broken_rules.proofs.NameScope.{text_names}
+use Rattle.broken_rules.proofs.FaultLedgers.{fault_of}
+use Rattle.broken_rules.proofs.JudgedParts.{IsPart, first_part, part_reached, at_place, not_behind}
 
 -- ---- which functions a text defines
 
@@ -183,91 +180,44 @@ defined_never tree key never =
 
 -- ---- the rule
 
-twice_not : rule.Twice ≡ rule.Unknown → ⊥
-twice_not e = cc
-
-recursive_not : rule.Recursive ≡ rule.Unknown → ⊥
-recursive_not e = cc
-
-threads_not : rule.Threads ≡ rule.Unknown → ⊥
-threads_not e = cc
-
-constant_not : rule.Constant ≡ rule.Unknown → ⊥
-constant_not e = cc
-
-format_not : rule.Format ≡ rule.Unknown → ⊥
-format_not e = cc
-
 module _ (tree : TranslationUnit) where
   abbrev D : List (List ℕ × ℕ)
   D = t.definitions tree.declarations
-
-  at_place : (at there : ℕ) → fault_at rule.Unknown at ≡ fault_at rule.Unknown there → Breaks tree rule.Unknown there → Breaks tree rule.Unknown at
-  at_place at there e b = subst (λ k. Breaks tree rule.Unknown k) (sym (ap (λ (f : Fault). f.offset) e)) b
 
   call_breaks : (w : Where) (name : Name) → Contains (parts tree) (Part.Call w name) → IsUnknown w name ⊎ IsUndefined D w name → Breaks tree rule.Unknown name.offset
   call_breaks w name c (inl u) = Breaks.UnknownCall w name c u
   call_breaks w name c (inr u) = Breaks.UndefinedCall w name u.f c u.means (never_defined tree u.f.name.bytes u.never)
 
-  part_breaks : (at : ℕ) (part : Part) → Contains (parts tree) part → BreaksAt D part (fault_at rule.Unknown at) → Breaks tree rule.Unknown at
-  part_breaks at (Part.Use w name) c h = at_place at name.offset h.1 (Breaks.UnknownName w name c h.0)
-  part_breaks at (Part.Call w name) c h = at_place at name.offset h.1 (call_breaks w name c h.0)
+  part_breaks : (at : ℕ) (part : Part) → Contains (parts tree) part → BreaksAt D part (fault_of rule.Unknown at) → Breaks tree rule.Unknown at
+  part_breaks at (Part.Use w name) c h = at_place tree rule.Unknown at name.offset h.1 (Breaks.UnknownName w name c h.0)
+  part_breaks at (Part.Call w name) c h = at_place tree rule.Unknown at name.offset h.1 (call_breaks w name c h.0)
   part_breaks at (Part.Routine w name) c h =
-      at_place at name.offset h.1 (Breaks.UndefinedRoutine w name h.0.f c h.0.means (never_defined tree h.0.f.name.bytes h.0.never))
-  part_breaks at (Part.Constant value there) c h = absurd h
-  part_breaks at (Part.Length v) c h = absurd h
-  part_breaks at (Part.Initial v) c h = absurd h
-  part_breaks at (Part.Listed size index v) c h = absurd h
-  part_breaks at (Part.Print name arguments) c h = absurd h
-  part_breaks at (Part.Read w name) c h = absurd h
-  part_breaks at (Part.Creation w thread name) c h = absurd h
-  part_breaks at (Part.Declares w name d) c h = absurd h
-  part_breaks at (Part.Local words there) c h = absurd h
+      at_place tree rule.Unknown at name.offset h.1 (Breaks.UndefinedRoutine w name h.0.f c h.0.means (never_defined tree h.0.f.name.bytes h.0.never))
+  part_breaks at other c h = absurd h
 
-  new_from : (f : Fault) → f.rule ≡ rule.Unknown → (nothing.fault ≡ Some f) ⊎ (q.IsJudged f.rule → Entered (name_ledger D) (parts tree) f) → Entered (name_ledger D) (parts tree) f
-  new_from f e (inl h) = absurd (none-some f h)
-  new_from f e (inr h) = h (subst q.IsJudged (sym e) tt)
-
-  sound : (at : ℕ) → IsFirstFault tree (Some (fault_at rule.Unknown at)) → Breaks tree rule.Unknown at
+  sound : (at : ℕ) → IsFirstFault tree (Some (fault_of rule.Unknown at)) → Breaks tree rule.Unknown at
   sound at h =
-      let x = fault_at rule.Unknown at in
-      let m = any_contains (λ part. BreaksAt D part x) (parts tree) (new_from x refl ((text_names tree).from x (found_in_parts tree x tt h))) in
-      part_breaks at m.0 m.1 m.2
+      let p = first_part IsJudged (BreaksAt D) tree (text_names tree) (fault_of rule.Unknown at) tt tt h in
+      part_breaks at p.0 p.1 p.2
 
-  entered : (part : Part) (at : ℕ) → Contains (parts tree) part → BreaksAt D part (fault_at rule.Unknown at) → Entered (name_ledger D) (parts tree) (fault_at rule.Unknown at)
-  entered part at c h = contains_any (λ part. BreaksAt D part (fault_at rule.Unknown at)) (parts tree) part c h
+  -- what breaks the rule is a part
+  abbrev Broken : Rule → ℕ → Type 0
+  Broken rule.Unknown at = IsPart (BreaksAt D) tree (fault_of rule.Unknown at)
+  Broken r at = Unit {0}
 
-  broken_entered : (r : Rule) (at : ℕ) → Breaks tree r at → r ≡ rule.Unknown → Entered (name_ledger D) (parts tree) (fault_at rule.Unknown at)
-  broken_entered r at (Breaks.UnknownName w name c u) e = entered (Part.Use w name) name.offset c (u, refl)
-  broken_entered r at (Breaks.UnknownCall w name c u) e = entered (Part.Call w name) name.offset c (inl u, refl)
-  broken_entered r at (Breaks.UndefinedCall w name f c means never) e =
-      entered (Part.Call w name) name.offset c (inr (record { f = f; means = means; never = defined_never tree f.name.bytes never }), refl)
-  broken_entered r at (Breaks.UndefinedRoutine w name f c means never) e =
-      entered (Part.Routine w name) name.offset c (record { f = f; means = means; never = defined_never tree f.name.bytes never }, refl)
-  broken_entered r at (Breaks.KnownDeclared w name d c k) e = absurd (twice_not e)
-  broken_entered r at (Breaks.DeclaredAgain w name d x c f n) e = absurd (twice_not e)
-  broken_entered r at (Breaks.SecondBody w name f g x c k l b d a) e = absurd (twice_not e)
-  broken_entered r at (Breaks.Recursion f g place c b) e = absurd (recursive_not e)
-  broken_entered r at (Breaks.LocalObject words place c o) e = absurd (threads_not e)
-  broken_entered r at (Breaks.SecondRoutine i j object q s k place o f x b d) e = absurd (threads_not e)
-  broken_entered r at (Breaks.MainCalled w name f c m k) e = absurd (threads_not e)
-  broken_entered r at (Breaks.RoutineCalled w name f c m k) e = absurd (threads_not e)
-  broken_entered r at (Breaks.ParameterRead w name q c m k) e = absurd (threads_not e)
-  broken_entered r at (Breaks.ExitElsewhere w name c x k) e = absurd (threads_not e)
-  broken_entered r at (Breaks.ConstantTooLarge place c) e = absurd (constant_not e)
-  broken_entered r at (Breaks.LengthNotConstant v c k) e = absurd (constant_not e)
-  broken_entered r at (Breaks.LengthBelowOne v x c k l) e = absurd (constant_not e)
-  broken_entered r at (Breaks.InitialNotConstant v c k) e = absurd (constant_not e)
-  broken_entered r at (Breaks.TooMany size n index v c l le) e = absurd (constant_not e)
-  broken_entered r at (Breaks.TooManyForOne size index v c k le) e = absurd (constant_not e)
-  broken_entered r at (Breaks.BadFormat name first values c b) e = absurd (format_not e)
-  broken_entered r at (Breaks.NoFormat name c) e = absurd (format_not e)
+  broken_part : (r : Rule) (at : ℕ) → Breaks tree r at → Broken r at
+  broken_part r at (Breaks.UnknownName w name c u) = (Part.Use w name, c, (u, refl))
+  broken_part r at (Breaks.UnknownCall w name c u) = (Part.Call w name, c, (inl u, refl))
+  broken_part r at (Breaks.UndefinedCall w name f c means never) =
+      (Part.Call w name, c, (inr (record { f = f; means = means; never = defined_never tree f.name.bytes never }), refl))
+  broken_part r at (Breaks.UndefinedRoutine w name f c means never) =
+      (Part.Routine w name, c, (record { f = f; means = means; never = defined_never tree f.name.bytes never }, refl))
+  broken_part r at other = tt
 
   complete : (fault : Option Fault) (at : ℕ) → IsFirstFault tree fault → Breaks tree rule.Unknown at → IsNotBehind fault rule.Unknown at
   complete fault at h b =
-      let x = fault_at rule.Unknown at in
-      let r = first_is_reached tree fault x h ((text_names tree).finds x (broken_entered rule.Unknown at b refl)) in
-      record { f = r.f; is = r.is; least = r.least }
+      not_behind fault rule.Unknown at
+      (part_reached IsJudged (BreaksAt D) tree (text_names tree) fault (fault_of rule.Unknown at) h (broken_part rule.Unknown at b))
 
 pub names_sound : FaultsAreBroken rule.Unknown
 names_sound = sound

@@ -1,6 +1,6 @@
 -- Uses that break the thread rule: each finding of a walk by what its name stands for where it is used.
 use Rattle.std.proofs.Common.{◌≡◌, refl, sym, subst, ap, ◌∙◌, inl, inr, ℕ, Bool, true, false, List, [], ◌∷◌, Option, Some, None}
-use Rattle.std.specs.Prelude.{◌⊎◌, ◌||◌, not, is_none, slice_get}
+use Rattle.std.specs.Prelude.{◌⊎◌, ◌||◌, not, is_none}
 use Rattle.std.proofs.lemmas.Option.{same_Some, none-some}
 use Rattle.std.proofs.lemmas.Bool.{not-false, or_parts, both_ways, not-true, false≢true}
 use Rattle.c_tree.specs.declared.expression.Name.{Name}
@@ -26,31 +26,17 @@ use Rattle.c_resolution.specs.Functions as y
 use Rattle.broken_rules.specs.Sight.{Declared, Where, declaration_in}
 use Rattle.broken_rules.specs.Parts.{Part}
 use Rattle.broken_rules.specs.Breaks.{StandsFor, IsElsewhere, IsMain, IsStartRoutine}
-use Rattle.broken_rules.proofs.Ledgers.{Ledger, Good, good_pure, good_before}
+use Rattle.broken_rules.proofs.Ledgers.{Ledger, Good, good_pure, good_before, quiet}
 use Rattle.broken_rules.proofs.Walks.{IsParameter}
-use Rattle.broken_rules.proofs.Sights.{Agrees, Sees, sees, MeansIn, header_in}
-use Rattle.broken_rules.proofs.Naming.{no_parameter, not_function}
+use Rattle.broken_rules.proofs.Sights.{Agrees, Sees, sees, MeansIn, header_in, same_function, same_meaning, not_library, not_nothing, unknown_library}
+use Rattle.broken_rules.proofs.Naming.{named_function, no_function_meant, not_function}
 use Rattle.broken_rules.proofs.Headers.{main_is, main_back, routine_is, routine_back, pointer_is, pointer_back}
 use Rattle.broken_rules.proofs.Uses as q
-use Rattle.broken_rules.proofs.Uses.{IsRun, IsExit, IsPointer, BreaksAt, MayExit, use_ledger}
-
-not_library : (f : LibraryFunction) (m : Meaning) → known.Library f ≡ known.Declared m → ⊥
-not_library f m h = cc
-
-not_nothing : (m : Meaning) → known.Unknown ≡ known.Declared m → ⊥
-not_nothing m h = cc
-
-unknown_library : (f : LibraryFunction) → known.Unknown ≡ known.Library f → ⊥
-unknown_library f h = cc
-
-same_meaning : (m o : Meaning) → known.Declared m ≡ known.Declared o → m ≡ o
-same_meaning m o h = cc
+use Rattle.broken_rules.proofs.Uses.{IsRun, IsExit, IsPointer, BreaksAt, use_ledger}
+use Rattle.broken_rules.proofs.Quiets as p
 
 same_library : (f g : LibraryFunction) → known.Library f ≡ known.Library g → f ≡ g
 same_library f g h = cc
-
-same_function : (f g : Function) → Declared.OfFunction f ≡ Declared.OfFunction g → f ≡ g
-same_function f g h = cc
 
 -- ---- where a part stands
 
@@ -89,25 +75,6 @@ module _ (D : List (List ℕ × ℕ)) where
 
   -- ---- names of functions
 
-  record IsFunctionName (s : Scope) (w : Where) (name : Name) (number : ℕ) : Type 0 where
-    pub f : Function
-    pub means : StandsFor w name (Declared.OfFunction f)
-    pub header : slice_get s.headers number ≡ Some (header_in D f)
-
-  function_by : (s : Scope) (w : Where) (name : Name) (number : ℕ) → function_named name.bytes ≡ None → (d : Declared) → declaration_in w.scopes name.bytes ≡ Some d →
-      MeansIn D s.headers d (meaning.Function number) → IsFunctionName s w name number
-  function_by s w name number own (Declared.OfFunction f) some means = record { f = f; means = record { declared = some; own = own }; header = means }
-  function_by s w name number own (Declared.OfParameter p) some means = absurd (no_parameter p.is_pointer number means)
-  function_by s w name number own (Declared.OfVariable words d) some means = absurd means
-  function_by s w name number own (Declared.OfObject words pointer d) some means = absurd means.0
-
-  function_seen : (s : Scope) (w : Where) (name : Name) (number : ℕ) → Sees D s w name.bytes → look_up s name.bytes ≡ known.Declared (meaning.Function number) →
-      IsFunctionName s w name number
-  function_seen s w name number (Sees.OfLibrary f named looks) is = absurd (not_library f (meaning.Function number) (sym looks ∙ is))
-  function_seen s w name number (Sees.Nothing own none looks) is = absurd (not_nothing (meaning.Function number) (sym looks ∙ is))
-  function_seen s w name number (Sees.Something own d m some looks means) is =
-      function_by s w name number own d some (subst (MeansIn D s.headers d) (same_meaning m (meaning.Function number) (sym looks ∙ is)) means)
-
   library_seen : (s : Scope) (w : Where) (name : Name) (f : LibraryFunction) → Sees D s w name.bytes → look_up s name.bytes ≡ known.Library f → function_named
       name.bytes ≡ Some f
   library_seen s w name f (Sees.OfLibrary g named looks) is = named ∙ ap (λ (h : LibraryFunction). Some h) (same_library g f (sym looks ∙ is))
@@ -116,22 +83,18 @@ module _ (D : List (List ℕ × ℕ)) where
 
   -- ---- parts that are no fault
 
-  by_meaning : (s : Scope) (m : Meaning) (f : Function) → MeansIn D s.headers (Declared.OfFunction f) m → ((n : ℕ) → m ≡ meaning.Function n → ⊥) → ⊥
-  by_meaning s (meaning.Function n) f h out = out n refl
-  by_meaning s (meaning.Variable v) f h out = h
-  by_meaning s meaning.Argument f h out = h
-  by_meaning s (meaning.Object o) f h out = h
-  by_meaning s meaning.Unusable f h out = h
+  -- a name that the walk has for no function of the library is that of none
+  no_library_meant : (s : Scope) (w : Where) (name : Name) → Sees D s w name.bytes → ((f : LibraryFunction) → look_up s name.bytes ≡ known.Library f → ⊥) →
+      (f : LibraryFunction) → function_named name.bytes ≡ Some f → ⊥
+  no_library_meant s w name (Sees.OfLibrary g named looks) none f is = none g looks
+  no_library_meant s w name (Sees.Nothing own undeclared looks) none f is = none-some f (sym own ∙ is)
+  no_library_meant s w name (Sees.Something own d m some looks means) none f is = none-some f (sym own ∙ is)
 
   -- a name of no function
   no_call : (s : Scope) (w : Where) (name : Name) → Sees D s w name.bytes → ((n : ℕ) → look_up s name.bytes ≡ known.Declared (meaning.Function n) → ⊥) →
       ((f : LibraryFunction) → look_up s name.bytes ≡ known.Library f → ⊥) → IsRun w name ⊎ IsExit w name → ⊥
-  no_call s w name (Sees.OfLibrary g named looks) out none h = none g looks
-  no_call s w name (Sees.Nothing own undeclared looks) out none (inl u) = none-some (Declared.OfFunction u.f) (sym undeclared ∙ u.means.declared)
-  no_call s w name (Sees.Nothing own undeclared looks) out none (inr u) = none-some library.Exit (sym own ∙ u.exit)
-  no_call s w name (Sees.Something own d m some looks means) out none (inl u) =
-      by_meaning s m u.f (subst (λ (x : Declared). MeansIn D s.headers x m) (same_Some _ _ (sym some ∙ u.means.declared)) means) (λ n e. out n (looks ∙ ap known.Declared e))
-  no_call s w name (Sees.Something own d m some looks means) out none (inr u) = none-some library.Exit (sym own ∙ u.exit)
+  no_call s w name see out none (inl u) = no_function_meant D s w name see out u.f u.means
+  no_call s w name see out none (inr u) = no_library_meant s w name see none library.Exit u.exit
 
   -- ---- the parameter of a start routine
 
@@ -171,14 +134,14 @@ module _ (D : List (List ℕ × ℕ)) where
   quiet_read : (s : Scope) (w : Where) (name : Name) → Agrees D s w → (x : Known) → look_up s name.bytes ≡ x → is_argument x ≡ false →
       Good L (e.named_value x name.offset None) (Part.Use w name ∷ Part.Read w name ∷ [])
   quiet_read s w name agrees x is out =
-      q.quiet (Part.Use w name) (λ z h. h)
-      (q.quiet (Part.Read w name) (no_read s w name agrees (ap is_argument is ∙ out)) (q.named_value x name.offset None (λ _. out)))
+      quiet L (Part.Use w name) (λ z h. h)
+      (quiet L (Part.Read w name) (no_read s w name agrees (ap is_argument is ∙ out)) (p.named_value L q.others x name.offset None (λ _. q.other rule.Unknown (λ j. j)) (λ e _. absurd (false≢true (sym out ∙ ap is_argument e)))))
 
   pub read_by : (s : Scope) (w : Where) (name : Name) → Agrees D s w → (x : Known) → look_up s name.bytes ≡ x →
       Good L (e.named_value x name.offset None) (Part.Use w name ∷ Part.Read w name ∷ [])
   read_by s w name agrees (known.Declared meaning.Argument) is =
       q.argument_value name.offset (Part.Use w name ∷ Part.Read w name ∷ [])
-      (q.quiet (Part.Use w name) (λ z h. h)
+      (quiet L (Part.Use w name) (λ z h. h)
       (q.part_fault (Part.Read w name) name.offset (pointer_seen s w name (sees D s w name.bytes agrees) is, refl) (λ z h. h.1)))
   read_by s w name agrees (known.Declared (meaning.Variable v)) is = quiet_read s w name agrees (known.Declared (meaning.Variable v)) is refl
   read_by s w name agrees (known.Declared (meaning.Object o)) is = quiet_read s w name agrees (known.Declared (meaning.Object o)) is refl
@@ -199,9 +162,9 @@ module _ (D : List (List ℕ × ℕ)) where
   pub routine_by : (s : Scope) (w : Where) (name : Name) (h : Header) (at : ℕ) → Agrees D s w → a.header_of s (look_up s name.bytes) ≡ Some h →
       Good L (a.routine h name.offset at) (Part.Routine w name ∷ Part.Use w name ∷ Part.Read w name ∷ [])
   routine_by s w name h at agrees is =
-      q.quiet (Part.Routine w name) (λ z k. k)
-      (q.quiet (Part.Use w name) (λ z k. k)
-      (q.quiet (Part.Read w name) (no_read s w name agrees (some_header s (look_up s name.bytes) h is)) (q.routine_is h name.offset at)))
+      quiet L (Part.Routine w name) (λ z k. k)
+      (quiet L (Part.Use w name) (λ z k. k)
+      (quiet L (Part.Read w name) (no_read s w name agrees (some_header s (look_up s name.bytes) h is)) (p.routine_quiet L q.others (q.other rule.Unknown (λ j. j)) h name.offset at)))
 
   -- ---- called names
 
@@ -230,19 +193,21 @@ module _ (D : List (List ℕ × ℕ)) where
       Good L (c.function_name s number count is_value name.offset) (Part.Call w name ∷ [])
   unfolding c.function_name
   function_is s w name number count is_value agrees is =
-      let n = function_seen s w name number (sees D s w name.bytes agrees) is in
+      let n = named_function D s w name number agrees is in
       subst (λ o. Good L (c.header_call s count is_value name.offset o) (Part.Call w name ∷ [])) (sym n.header)
-      (q.header_is s (header_in D n.f) count is_value name.offset (Part.Call w name ∷ []) (run_is w name n.f n.means))
+      (p.header_is L q.others s (header_in D n.f) count is_value name.offset [] (Part.Call w name ∷ []) q.calls_quiet
+      (p.broken_if L (is_none (header_in D n.f).definition) rule.Unknown name.offset (q.other rule.Unknown (λ j. j))) (run_is w name n.f n.means))
 
   -- functions of the library
 
-  not_exit : (w : Where) (name : Name) (f : LibraryFunction) → function_named name.bytes ≡ Some f → (MayExit f → ⊥) → IsRun w name ⊎ IsExit w name → ⊥
+  not_exit : (w : Where) (name : Name) (f : LibraryFunction) → function_named name.bytes ≡ Some f → (f ≡ library.Exit → ⊥) → IsRun w name ⊎ IsExit w name → ⊥
   not_exit w name f named out (inl u) = none-some f (sym u.means.own ∙ named)
-  not_exit w name f named out (inr u) = out (subst MayExit (same_Some _ _ (sym u.exit ∙ named)) tt)
+  not_exit w name f named out (inr u) = out (same_Some _ _ (sym named ∙ u.exit))
 
-  other_place : (s : Scope) (w : Where) (name : Name) (f : LibraryFunction) → function_named name.bytes ≡ Some f → (MayExit f → ⊥) →
+  other_place : (s : Scope) (w : Where) (name : Name) (f : LibraryFunction) → function_named name.bytes ≡ Some f → (f ≡ library.Exit → ⊥) →
       Good L (c.library_place s f name.offset) (Part.Call w name ∷ [])
-  other_place s w name f named out = q.quiet (Part.Call w name) (λ z k. not_exit w name f named out k.0) (q.others_place s f name.offset out)
+  other_place s w name f named out =
+      quiet L (Part.Call w name) (λ z k. not_exit w name f named out k.0) (p.library_place L q.others s f name.offset (λ e. absurd (out e)))
 
   exit_kept : (s : Scope) (w : Where) (name : Name) → function_named name.bytes ≡ Some library.Exit → BodyIs D s w.body →
       (is_none s.function || not (gives_pointer s.gives)) ≡ false → IsRun w name ⊎ IsExit w name → ⊥
@@ -260,21 +225,12 @@ module _ (D : List (List ℕ × ℕ)) where
   place_is : (s : Scope) (w : Where) (name : Name) (f : LibraryFunction) → function_named name.bytes ≡ Some f → BodyIs D s w.body →
       Good L (c.library_place s f name.offset) (Part.Call w name ∷ [])
   place_is s w name library.Exit named body = exit_place s w name named body
-  place_is s w name library.Create named body = other_place s w name library.Create named (λ h. h)
-  place_is s w name library.Join named body = other_place s w name library.Join named (λ h. h)
-  place_is s w name library.Print named body = other_place s w name library.Print named (λ h. h)
-  place_is s w name library.MutexInit named body = other_place s w name library.MutexInit named (λ h. h)
-  place_is s w name library.MutexDestroy named body = other_place s w name library.MutexDestroy named (λ h. h)
-  place_is s w name library.MutexLock named body = other_place s w name library.MutexLock named (λ h. h)
-  place_is s w name library.MutexUnlock named body = other_place s w name library.MutexUnlock named (λ h. h)
-  place_is s w name library.BarrierInit named body = other_place s w name library.BarrierInit named (λ h. h)
-  place_is s w name library.BarrierDestroy named body = other_place s w name library.BarrierDestroy named (λ h. h)
-  place_is s w name library.BarrierWait named body = other_place s w name library.BarrierWait named (λ h. h)
+  place_is s w name f named body = other_place s w name f named (λ e. cc)
 
   pub library_call : (s : Scope) (w : Where) (name : Name) (f : LibraryFunction) (count : ℕ) → Stands s w → look_up s name.bytes ≡ known.Library f →
       Good L (c.library_name s f count name.offset) (Part.Call w name ∷ [])
   library_call s w name f count stands is =
-      q.library_is s f count name.offset (Part.Call w name ∷ [])
+      p.library_name L q.others s f count name.offset (Part.Call w name ∷ [])
       (place_is s w name f (library_seen s w name f (sees D s w name.bytes stands.agrees) is) stands.body)
 
   -- any name
@@ -282,7 +238,7 @@ module _ (D : List (List ℕ × ℕ)) where
   quiet_call : (s : Scope) (w : Where) (name : Name) → Agrees D s w → (x : Known) → look_up s name.bytes ≡ x → ((n : ℕ) → x ≡ known.Declared (meaning.Function n) → ⊥) →
       ((f : LibraryFunction) → x ≡ known.Library f → ⊥) → {A : Type 0} {walk : Finds A} → Good L walk [] → Good L walk (Part.Call w name ∷ [])
   quiet_call s w name agrees x is out none h =
-      q.quiet (Part.Call w name) (λ z k. no_call s w name (sees D s w name.bytes agrees) (λ n e. out n (sym is ∙ e)) (λ f e. none f (sym is ∙ e)) k.0) h
+      quiet L (Part.Call w name) (λ z k. no_call s w name (sees D s w name.bytes agrees) (λ n e. out n (sym is ∙ e)) (λ f e. none f (sym is ∙ e)) k.0) h
 
   no_library : (m : Meaning) (f : LibraryFunction) → known.Declared m ≡ known.Library f → ⊥
   no_library m f h = not_library f m (sym h)
@@ -298,19 +254,19 @@ module _ (D : List (List ℕ × ℕ)) where
       (good_pure L tt)
   misplaced_by s w name count stands (known.Declared (meaning.Variable v)) is =
       quiet_call s w name stands.agrees (known.Declared (meaning.Variable v)) is (λ n e. not_function (meaning.Variable v) n tt (same_meaning _ _ e))
-      (no_library (meaning.Variable v)) (q.other rule.Kind name.offset (λ j. j))
+      (no_library (meaning.Variable v)) (q.other rule.Kind (λ j. j) name.offset)
   misplaced_by s w name count stands (known.Declared meaning.Argument) is =
       quiet_call s w name stands.agrees (known.Declared meaning.Argument) is (λ n e. not_function meaning.Argument n tt (same_meaning _ _ e)) (no_library meaning.Argument)
-      (q.other rule.Kind name.offset (λ j. j))
+      (q.other rule.Kind (λ j. j) name.offset)
   misplaced_by s w name count stands (known.Declared (meaning.Object o)) is =
       quiet_call s w name stands.agrees (known.Declared (meaning.Object o)) is (λ n e. not_function (meaning.Object o) n tt (same_meaning _ _ e)) (no_library (meaning.Object o))
-      (q.other rule.Kind name.offset (λ j. j))
+      (q.other rule.Kind (λ j. j) name.offset)
   misplaced_by s w name count stands known.Unknown is =
-      quiet_call s w name stands.agrees known.Unknown is (λ n e. not_nothing (meaning.Function n) e) unknown_library (q.other rule.Unknown name.offset (λ j. j))
+      quiet_call s w name stands.agrees known.Unknown is (λ n e. not_nothing (meaning.Function n) e) unknown_library (q.other rule.Unknown (λ j. j) name.offset)
 
   pub no_function_by : (s : Scope) (w : Where) (name : Name) → Agrees D s w → k.number_of (look_up s name.bytes) ≡ None →
       ((f : LibraryFunction) → look_up s name.bytes ≡ known.Library f → ⊥) →
       Good L (finds_if (a.is_unknown (look_up s name.bytes)) rule.Unknown name.offset) (Part.Call w name ∷ [])
   no_function_by s w name agrees none own =
       quiet_call s w name agrees (look_up s name.bytes) refl (λ n e. none-some n (sym none ∙ ap k.number_of e)) own
-      (q.other_if (a.is_unknown (look_up s name.bytes)) rule.Unknown name.offset (λ j. j))
+      (p.broken_if L (a.is_unknown (look_up s name.bytes)) rule.Unknown name.offset (q.other rule.Unknown (λ j. j)))
