@@ -1,5 +1,4 @@
-//! Tests of the layers of a net: netlists laid out, texts written and read, the check of a text's tree, cores, wires of operators, the whole net;
-//! and of the tokens of a C text.
+//! Tests of the layers of a net: netlists laid out, texts written and read, the check of a text's tree, cores, wires of operators, the whole net.
 //! They stand in a crate of their own, since a crate with tests is proved twice.
 #![tactic(auto)]
 
@@ -7,8 +6,6 @@
 mod checks;
 #[cfg(test)]
 mod cores;
-#[cfg(test)]
-mod lexing;
 #[cfg(test)]
 mod reading;
 #[cfg(test)]
