@@ -16,7 +16,8 @@ use Rattle.block_merge.specs.declared.merger.Merger.{Merger}
 use Rattle.block_merge.specs.Joined.{joined, HasLeft}
 use Rattle.block_merge.specs.Maximal.{IsMaximalAt, AreCounted, Follows}
 use Rattle.block_merge.specs.Kept.{Keeps}
-use Rattle.block_merge.specs.Steps.{block_in, dead, IsLast, HoldsAt, IsReady, IsBlock, Begins, Joins, Merges, Grows, Tidies, Extends}
+use Rattle.block_merge.specs.Used.{empty}
+use Rattle.block_merge.specs.Steps.{block_in, IsLast, HoldsAt, IsReady, IsBlock, Begins, Joins, Merges, Grows, Tidies, Extends}
 use Rattle.block_merge.proofs.Merging.{tidy, keeps_same, keeps_both, both, both_counted, both_maximal}
 use Rattle.block_merge.proofs.Merging.{both_keep, tidied, tidied_counted, tidied_maximal, tidied_keep, last_maximal}
 
@@ -62,7 +63,7 @@ module _ (old new : Merger) (l m : ℕ) (counted : AreCounted old.stages.items o
           subst (λ ss. Keeps old.most (length old.held.current) old.stages.items ss) (sym j.stages)
           (both_keep old.most (length old.held.current) old.stages.items old.counts l m old.held.current f counted refl (holds.left f.block f.at));
       size = j.size;
-      count = ap length j.stages ∙ length-set (slice_set old.stages.items m dead) l (Run one) ∙ length-set old.stages.items m dead;
+      count = ap length j.stages ∙ length-set (slice_set old.stages.items m empty) l (Run one) ∙ length-set old.stages.items m empty;
       most = j.most;
     };
     counted =
@@ -76,7 +77,7 @@ module _ (old new : Merger) (l m : ℕ) (counted : AreCounted old.stages.items o
   here : slice_get new.stages.items l ≡ Some (Run one)
   here =
       ap (λ ss. slice_get ss l) j.stages
-      ∙ set_same (slice_set old.stages.items m dead) l (Run one) (let w = slice_get_within old.stages.items l (Run f.block) f.at in let e = length-set old.stages.items m dead
+      ∙ set_same (slice_set old.stages.items m empty) l (Run one) (let w = slice_get_within old.stages.items l (Run f.block) f.at in let e = length-set old.stages.items m empty
       in omega (arith, w, e))
 
   pub join_block : IsBlock new l
@@ -198,21 +199,21 @@ pub same_block : (stages : List Stage) (l : ℕ) (s : Stage) (x b : Block) → s
 same_block stages l s x b at is e = same_run b x (sym e ∙ at ∙ ap Some is)
 
 pub join_joins : (old new : Merger) (l m : ℕ) (x y both_ : Block) (s t : Stage) (one two : List Stage) (held : OpenBlock) → m ≢ l →
-    slice_get old.stages.items m ≡ Some t → t ≡ Run y → one ≡ slice_set old.stages.items m dead → slice_get one l ≡ Some s → s ≡ Run x → two ≡ slice_set one l dead →
+    slice_get old.stages.items m ≡ Some t → t ≡ Run y → one ≡ slice_set old.stages.items m empty → slice_get one l ≡ Some s → s ≡ Run x → two ≡ slice_set one l empty →
     new.stages.items ≡ slice_set two l (Run both_) → held ≡ old.held → both_ ≡ joined held.current x y → new.counts ≡ slice_set old.counts m 0 →
     (HasLeft held.current x.finals → HasLeft new.held.current both_.finals) → (HasNoted held → HasNoted new.held) → length new.held.current ≡ length held.current →
     new.most ≡ old.most →
     (b d : Block) → slice_get old.stages.items l ≡ Some (Run b) → slice_get old.stages.items m ≡ Some (Run d) → Joins old new l m b d
 join_joins old new l m x y both_ s t one two held apart second second_is one_is first first_is two_is new_is held_is is counts left noted size most b d at there =
-    let at_one : slice_get one l ≡ Some (Run b) = ap (λ ss. slice_get ss l) one_is ∙ set_other old.stages.items m l dead (λ e. apart (sym e)) ∙ at in
+    let at_one : slice_get one l ≡ Some (Run b) = ap (λ ss. slice_get ss l) one_is ∙ set_other old.stages.items m l empty (λ e. apart (sym e)) ∙ at in
     let eb : b ≡ x = same_block one l s x b first first_is at_one in
     let ed : d ≡ y = same_block old.stages.items m t y d second second_is there in
     let j : both_ ≡ joined old.held.current b d =
     is ∙ ap (λ (h : OpenBlock). joined h.current x y) held_is ∙ ap (λ (z : Block). joined old.held.current z y) (sym eb) ∙ ap (joined old.held.current b) (sym ed) in
     record {
       stages =
-          new_is ∙ ap (λ ss. slice_set ss l (Run both_)) two_is ∙ set-set one l dead (Run both_) ∙ ap (λ ss. slice_set ss l (Run both_)) one_is
-          ∙ ap (λ z. slice_set (slice_set old.stages.items m dead) l (Run z)) j;
+          new_is ∙ ap (λ ss. slice_set ss l (Run both_)) two_is ∙ set-set one l empty (Run both_) ∙ ap (λ ss. slice_set ss l (Run both_)) one_is
+          ∙ ap (λ z. slice_set (slice_set old.stages.items m empty) l (Run z)) j;
       counts = counts;
       left = λ h.
           subst (λ (z : Block). HasLeft new.held.current z.finals) j
@@ -222,11 +223,11 @@ join_joins old new l m x y both_ s t one two held apart second second_is one_is 
       most = most;
     }
 
-pub tidied_stages : (old two : List Stage) (l : ℕ) (s : Stage) (x b : Block) (finals : List Final) → slice_get old l ≡ Some s → s ≡ Run x → two ≡ slice_set old l dead →
+pub tidied_stages : (old two : List Stage) (l : ℕ) (s : Stage) (x b : Block) (finals : List Final) → slice_get old l ≡ Some s → s ≡ Run x → two ≡ slice_set old l empty →
     slice_get old l ≡ Some (Run b) →
     slice_set two l (Run (tidy x finals)) ≡ slice_set old l (Run (tidy b finals))
 tidied_stages old two l s x b finals first is two_is at =
-    ap (λ ss. slice_set ss l (Run (tidy x finals))) two_is ∙ set-set old l dead (Run (tidy x finals)) ∙ ap (λ (z : Block). slice_set old l (Run (tidy z finals)))
+    ap (λ ss. slice_set ss l (Run (tidy x finals))) two_is ∙ set-set old l empty (Run (tidy x finals)) ∙ ap (λ (z : Block). slice_set old l (Run (tidy z finals)))
     (sym (same_block old l s x b first is at))
 
 pub merged_keeps : (a b c : Merger) (stages : List Stage) (n : ℕ) → a.stages.items ≡ stages → length a.held.current ≡ n → Merges a b → Merges b c →

@@ -10,7 +10,7 @@ use Rattle.block_ir.specs.declared.code.Stage.{Stage}
 use Rattle.block_ir.specs.declared.code.Stage.TheVariants.{Run, Act}
 use Rattle.block_merge.specs.Maximal.{one_way, next_ways, stage_ways, ways, AreCounted}
 use Rattle.block_merge.specs.Counting.{one_more, counted, counted_at, next_counted, stage_counted, AreZero}
-use Rattle.block_merge.proofs.Lists.{take_more}
+use Rattle.block_merge.proofs.Lists.{take_next}
 use Rattle.block_merge.proofs.Ways.{one_here, one_elsewhere, ways_append}
 
 -- the ways of these stages
@@ -82,4 +82,4 @@ tallied_all ss k counts h t = (t.size, λ m c off e. t.is m c e ∙ ap (λ z. mi
 pub tallied_next : (ss : List Stage) (k : ℕ) (s : Stage) (counts new : List ℕ) → k < length ss → s ≡ get_or ss k s → new ≡ stage_counted counts s →
     Tallied (length ss) (take k ss) counts → Tallied (length ss) (take (k + 1) ss) new
 tallied_next ss k s counts new lt item is h =
-    tallied_more (length ss) (take k ss) (take (k + 1) ss) s counts new (let e : k + 1 ≡ suc k = omega arith in ap (λ n. take n ss) e ∙ take_more ss k s lt item) is h
+    tallied_more (length ss) (take k ss) (take (k + 1) ss) s counts new (take_next ss k s lt item) is h

@@ -7,3 +7,7 @@ mod Typing
 mod Merging
 mod Counted
 mod Chains
+mod KeptItems
+mod KeptWays
+mod Marks
+mod Dropped

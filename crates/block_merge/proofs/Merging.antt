@@ -1,5 +1,5 @@
 -- Steps of the pass keep what the code is.
-use Rattle.std.proofs.Common.{◌≡◌, ◌≢◌, ℕ, suc, ◌+◌, ◌*◌, ◌<◌, ◌≤◌, min, List, [], ◌∷◌, ◌++◌, length, map, ℤ}
+use Rattle.std.proofs.Common.{◌≡◌, ◌≢◌, ℕ, ◌+◌, ◌*◌, ◌<◌, ◌≤◌, min, List, [], ◌∷◌, ◌++◌, length, map, ℤ}
 use Rattle.std.proofs.Common.{Option, Some, None, refl, sym, ap, ◌∙◌, subst, ⊎_elim, inl, inr, arith, length-append, append_assoc, take, get_or}
 use Rattle.std.specs.Prelude.{◌⊎◌, nat_eq, true, false, if◌then◌else◌, Bool, slice_get, slice_set}
 use Rattle.std.proofs.lemmas.Bool.Decides.{eqb_tells}
@@ -10,8 +10,7 @@ use Rattle.c_program.specs.Tree.{Program}
 use Rattle.c_program.specs.Weight.{weight}
 use Rattle.block_ir.specs.declared.operand.Operand.{Operand}
 use Rattle.block_ir.specs.declared.block.Final.{Final}
-use Rattle.block_ir.specs.declared.block.Next.{Next}
-use Rattle.block_ir.specs.declared.block.Next.TheVariants.{Jump, Branch}
+use Rattle.block_ir.specs.declared.block.Next.TheVariants.{Jump}
 use Rattle.block_ir.specs.declared.block.Block.{Block}
 use Rattle.block_ir.specs.declared.code.Stage.{Stage}
 use Rattle.block_ir.specs.declared.code.Stage.TheVariants.{Run}
@@ -20,12 +19,13 @@ use Rattle.block_ir.specs.Run.{finished}
 use Rattle.straight_code.specs.Evaluating.{current_value}
 use Rattle.straight_code.specs.Closing.{IsUnchanged}
 use Rattle.code_following.specs.Typed.{Types, types_of, IsTypedBlock, IsTypedStage, IsTypedCode}
-use Rattle.block_merge.specs.Joined.{joined, moved_next, moved_operation, left_in, there, AreLeft, AreWithin, HasLeft}
+use Rattle.block_merge.specs.Joined.{joined, moved_operation, left_in, there, AreLeft, AreWithin, HasLeft}
 use Rattle.block_merge.specs.Maximal.{one_way, next_ways, ways, IsTooLarge, IsMaximalAt, AreCounted, Follows}
 use Rattle.block_merge.specs.Kept.{with_stages, Keeps}
-use Rattle.block_merge.specs.Steps.{dead, IsLast}
-use Rattle.block_merge.proofs.Lists.{take_more}
-use Rattle.block_merge.proofs.Ways.{one_here, one_elsewhere, ways_set, one_of, two_of}
+use Rattle.block_merge.specs.Steps.{IsLast}
+use Rattle.block_merge.specs.Used.{empty}
+use Rattle.block_merge.proofs.Lists.{take_next}
+use Rattle.block_merge.proofs.Ways.{one_here, one_elsewhere, ways_set, one_of, two_of, moved_ways}
 use Rattle.block_merge.proofs.Values.{finished_is, left_value}
 use Rattle.block_merge.proofs.Typing.{finals_below, finals_within, left_typed, joined_typed}
 use Rattle.block_merge.proofs.Stepping.{double, follows_joined, follows_tidied}
@@ -68,7 +68,7 @@ pub left_next : (start now next : List (Option Operand)) (finals : List Final) (
     next ≡ slice_set now f.variable (Some v) → ((fs : List Final) → HasLeft start fs → HasLeft now (fs ++ take k finals)) →
     (fs : List Final) → HasLeft start fs → HasLeft next (fs ++ take (k + 1) finals)
 left_next start now next finals k f v lt item same is held fs h =
-    let one : take (k + 1) finals ≡ take k finals ++ f ∷ [] = (let e : k + 1 ≡ suc k = omega arith in ap (λ n. take n finals) e ∙ take_more finals k f lt item) in
+    let one : take (k + 1) finals ≡ take k finals ++ f ∷ [] = take_next finals k f lt item in
     let all : fs ++ take (k + 1) finals ≡ (fs ++ take k finals) ++ f ∷ [] = ap (λ l. fs ++ l) one ∙ sym (append_assoc fs (take k finals) (f ∷ [])) in
     let now_is : next ≡ slice_set now f.variable (Some f.value) = is ∙ ap (λ w. slice_set now f.variable (Some w)) same in
     subst (HasLeft next) (sym all) (subst (λ c. HasLeft c ((fs ++ take k finals) ++ f ∷ [])) (sym now_is) (left_more now (fs ++ take k finals) f (held fs h)))
@@ -107,8 +107,8 @@ typed_set P g code old l s h typed =
       named = typed.named;
     }
 
-dead_typed : (T : Types) (n most : ℕ) → 0 < n → IsTypedBlock T n most (record { operations = []; finals = []; next = Jump 0; steps = 1 })
-dead_typed T n most some = record {
+empty_typed : (T : Types) (n most : ℕ) → 0 < n → IsTypedBlock T n most (record { operations = []; finals = []; next = Jump 0; steps = 1 })
+empty_typed T n most some = record {
   busy = omega arith;
   operations = tt;
   few = omega arith;
@@ -126,32 +126,28 @@ module _ (most size : ℕ) (old : List Stage) (counts : List ℕ) (l m : ℕ) (c
   d = f.next
 
   abbrev pub both : List Stage
-  both = slice_set (slice_set old m dead) l (Run (joined current b d))
+  both = slice_set (slice_set old m empty) l (Run (joined current b d))
 
   once : ways m old ≡ 1
   once = let h = counted.1 m 1 f.later f.once in omega (arith, h)
 
   -- ---- ways
 
-  between : slice_get (slice_set old m dead) l ≡ Some (Run b)
-  between = set_other old m l dead (λ e. f.apart (sym e)) ∙ f.at
-
-  moved_ways : (n j : ℕ) (nx : Next) → next_ways j (moved_next n current nx) ≡ next_ways j nx
-  moved_ways n j (Jump i) = refl
-  moved_ways n j (Branch test nonzero zero_) = refl
+  between : slice_get (slice_set old m empty) l ≡ Some (Run b)
+  between = set_other old m l empty (λ e. f.apart (sym e)) ∙ f.at
 
   both_ways : (j : ℕ) → j ≢ 0 → ways j both + one_way j m ≡ ways j old
   both_ways j off =
-      let x = ways_set j old m (Run d) dead f.there in
-      let y = ways_set j (slice_set old m dead) l (Run b) (Run (joined current b d)) between in
+      let x = ways_set j old m (Run d) empty f.there in
+      let y = ways_set j (slice_set old m empty) l (Run b) (Run (joined current b d)) between in
       let z = one_elsewhere j 0 off in
-      let w = moved_ways (length b.operations) j d.next in
+      let w = moved_ways current (length b.operations) j d.next in
       let v = ap (next_ways j) f.leads in
       omega (arith, x, y, z, w, v)
 
   pub both_counted : AreCounted both (slice_set counts m 0)
   both_counted = (
-    length-set counts m 0 ∙ counted.0 ∙ sym (length-set (slice_set old m dead) l (Run (joined current b d)) ∙ length-set old m dead),
+    length-set counts m 0 ∙ counted.0 ∙ sym (length-set (slice_set old m empty) l (Run (joined current b d)) ∙ length-set old m empty),
     λ j c off e.
         let w = both_ways j off in
         ⊎_elim
@@ -162,8 +158,8 @@ module _ (most size : ℕ) (old : List Stage) (counts : List ℕ) (l m : ℕ) (c
 
   -- ---- maximal
 
-  dead_next : (x : Block) → Run x ≡ dead → x.next ≡ Jump 0
-  dead_next x e = let h : x ≡ record { operations = []; finals = []; next = Jump 0; steps = 1 } = cc in ap (λ (z : Block). z.next) h
+  empty_next : (x : Block) → Run x ≡ empty → x.next ≡ Jump 0
+  empty_next x e = let h : x ≡ record { operations = []; finals = []; next = Jump 0; steps = 1 } = cc in ap (λ (z : Block). z.next) h
 
   in_both : (k : ℕ) (x : Block) → slice_get both k ≡ Some (Run x) → ((k ≡ l) × (x ≡ joined current b d)) ⊎ ((k ≢ l) × (k ≡ m) × (x.next ≡ Jump 0)) ⊎
       ((k ≢ l) × (k ≢ m) × (slice_get old k ≡ Some (Run x)))
@@ -171,10 +167,10 @@ module _ (most size : ℕ) (old : List Stage) (counts : List ℕ) (l m : ℕ) (c
       ⊎_elim
       (λ p. inl (p.0, let h : Run x ≡ Run (joined current b d) = p.1 in cc))
       (λ p. ⊎_elim
-      (λ q. inr (inl (p.0, q.0, dead_next x q.1)))
+      (λ q. inr (inl (p.0, q.0, empty_next x q.1)))
       (λ q. inr (inr (p.0, q.0, q.1)))
-      (set_element old m k dead (Run x) p.1))
-      (set_element (slice_set old m dead) l k (Run (joined current b d)) (Run x) e)
+      (set_element old m k empty (Run x) p.1))
+      (set_element (slice_set old m empty) l k (Run (joined current b d)) (Run x) e)
 
   module _ (k : ℕ) (off : k ≢ l) (was : IsMaximalAt most old k) (x : Block) (j : ℕ) (at : slice_get old k ≡ Some (Run x)) (leads : x.next ≡ Jump j) where
     never : j ≡ m → ⊥
@@ -232,11 +228,11 @@ module _ (most size : ℕ) (old : List Stage) (counts : List ℕ) (l m : ℕ) (c
       let are : AreLeft current b.finals = left (subst (λ n. AreWithin n b.finals) (long ∙ sym same) (finals_within T b.operations b.finals first.finals)) in
       let size_ : length b.operations + length d.operations ≤ 4 * weight P = (let s = f.size in omega (arith, s, le)) in
       let o = once in (
-        typed_set P g code (slice_set old m dead) l (Run (joined current b d))
-            (subst (λ n. IsTypedBlock T n (4 * weight P) (joined current b d)) (sym (length-set old m dead))
+        typed_set P g code (slice_set old m empty) l (Run (joined current b d))
+            (subst (λ n. IsTypedBlock T n (4 * weight P) (joined current b d)) (sym (length-set old m empty))
             (joined_typed T (length old) (4 * weight P) b d current are f.few size_ first next))
-            (typed_set P g code old m dead (dead_typed T (length old) (4 * weight P) typed.some) typed),
-        λ low n vs cells arguments has. follows_joined P old l m b d current dead f.at f.leads f.there f.apart (omega (arith, o)) are
+            (typed_set P g code old m empty (empty_typed T (length old) (4 * weight P) typed.some) typed),
+        λ low n vs cells arguments has. follows_joined P old l m b d current empty f.at f.leads f.there f.apart (omega (arith, o)) are
             (finals_below T b.operations b.finals first.finals) f.few n 0 vs cells _
             (λ e. f.later (sym e)) (low (double n) vs cells arguments has),
       )

@@ -1,19 +1,19 @@
 -- Moves after moves, with the globals that they leave.
-use Rattle.std.proofs.Common.{◌≡◌, ℕ, zero, suc, ◌+◌, List, [], ◌∷◌, ◌++◌, ℤ, Option, Some, None, refl, sym, ap, ◌∙◌, subst, ⊎_elim, inl, inr, arith, append-nil, append_assoc}
-use Rattle.std.specs.Prelude.{◌⊎◌, ◌≢◌, nat_eq, ◌&&◌, if◌then◌else◌, slice_get, slice_set, Bool}
-use Rattle.std.proofs.lemmas.Bool.Decides.{eqb_tells}
-use Rattle.lists.proofs.Places.{set_element}
+use Rattle.std.proofs.Common.{◌≡◌, ℕ, zero, suc, ◌+◌, List, [], ◌∷◌, ◌++◌, ℤ, Option, Some, None, refl, sym, ap, ◌∙◌, subst, ⊎_elim, arith, append-nil, append_assoc}
+use Rattle.std.specs.Prelude.{◌⊎◌}
 use Rattle.c_program.specs.Tree.{Program}
-use Rattle.thread_semantics.specs.Memory.{Location, element, row_element, with_element, with_row}
+use Rattle.thread_semantics.specs.Memory.{Location}
 use Rattle.thread_semantics.specs.State.{Frame}
 use Rattle.thread_semantics.specs.Move.{Move, Moves, Acts, Ends, Faults, Impossible, Write, move}
 use Rattle.thread_semantics.specs.Step.{written_to}
 use Rattle.block_ir.specs.declared.block.Operation.{Operation}
 use Rattle.block_ir.specs.declared.block.Operation.TheVariants.{Unary, Binary, ReadGlobal, WriteGlobal, ReadArray, WriteArray}
 use Rattle.block_ir.specs.declared.block.Block.{Block}
+use Rattle.block_ir.specs.declared.code.Act.{Act}
 use Rattle.block_ir.specs.Run.{Cells, Access, with_cell, Running, operation_run, operations_run, started, block_run}
 use Rattle.block_ir.specs.Run as run
-use Rattle.code_following.specs.Following.{reads_of, write_of, AfterMove, AfterMoves, HoldGlobals}
+use Rattle.straight_code.proofs.Cells.{element_with, cell_same, cell_other}
+use Rattle.code_following.specs.Following.{reads_of, write_of, AfterMove, AfterMoves, HoldGlobals, IsAct}
 
 -- ---- cells after accesses
 
@@ -52,49 +52,6 @@ module _ (variables : ℕ → ℤ) (cells : Cells) where
   block_kept b arrays = all_kept b.operations (started arrays cells) refl
 
 -- ---- a write to the globals
-
-abbrev pub Written : List (List ℤ) → ℕ → ℕ → ℤ → ℕ → ℕ → ℤ → Type 0
-Written rows x j v y i w = ((y ≡ x) × (i ≡ j) × (w ≡ v)) ⊎ ((y ≡ x → i ≡ j → ⊥) × (element rows y i ≡ Some w))
-
-module _ (rows : List (List ℤ)) (x j : ℕ) (v : ℤ) (y i : ℕ) (w : ℤ) where
-  in_row : (row r : List ℤ) → slice_get rows x ≡ Some row → slice_get r i ≡ Some w → ((y ≡ x) × (r ≡ slice_set row j v)) ⊎ ((y ≢ x) × (slice_get rows y ≡ Some r)) →
-      Written rows x j v y i w
-  in_row row r at e (inl p) =
-      ⊎_elim
-      (λ q. inl (p.0, q.0, q.1))
-      (λ q. inr (λ h k. q.0 k, ap (λ z. row_element (slice_get rows z) i) p.0 ∙ ap (λ o. row_element o i) at ∙ q.1))
-      (set_element row j i v w (ap (λ l. slice_get l i) (sym p.1) ∙ e))
-  in_row row r at e (inr p) = inr (λ h k. p.0 h, ap (λ o. row_element o i) p.1 ∙ e)
-
-  in_found : (row : List ℤ) (found : Option (List ℤ)) → slice_get rows x ≡ Some row → slice_get (slice_set rows x (slice_set row j v)) y ≡ found → row_element found i ≡ Some w →
-      Written rows x j v y i w
-  in_found row (Some r) at is e = in_row row r at e (set_element rows x y (slice_set row j v) r is)
-  in_found row None at is e = cc
-
-  in_rows : (o : Option (List ℤ)) → slice_get rows x ≡ o → element (with_row rows x o j v) y i ≡ Some w → Written rows x j v y i w
-  in_rows None at e = inr (λ h k. absurd (let none : element rows y i ≡ None = ap (λ z. row_element (slice_get rows z) i) h ∙ ap (λ o. row_element o i) at in cc), e)
-  in_rows (Some row) at e = in_found row (slice_get (slice_set rows x (slice_set row j v)) y) at refl e
-
-  pub element_with : element (with_element rows x j v) y i ≡ Some w → Written rows x j v y i w
-  element_with e = in_rows (slice_get rows x) refl e
-
-module _ (x j : ℕ) (v : ℤ) (cells : Cells) (y i : ℕ) where
-  cell_same : y ≡ x → i ≡ j → with_cell x j v cells y i ≡ v
-  cell_same p q =
-      ⊎_elim
-      (λ t. ⊎_elim
-      (λ u. ap (λ (b : Bool). if b && nat_eq i j then v else cells y i) t.0 ∙ ap (λ (b : Bool). if b then v else cells y i) u.0)
-      (λ u. absurd (u.1 q)) (eqb_tells i j))
-      (λ t. absurd (t.1 p)) (eqb_tells y x)
-
-  cell_other : (y ≡ x → i ≡ j → ⊥) → with_cell x j v cells y i ≡ cells y i
-  cell_other apart =
-      ⊎_elim
-      (λ t. ⊎_elim
-      (λ u. absurd (apart t.1 u.1))
-      (λ u. ap (λ (b : Bool). if b && nat_eq i j then v else cells y i) t.0 ∙ ap (λ (b : Bool). if b then v else cells y i) u.0)
-      (eqb_tells i j))
-      (λ t. ap (λ (b : Bool). if b && nat_eq i j then v else cells y i) t.0) (eqb_tells y x)
 
 hold_write : (globals : List (List ℤ)) (cells : Cells) (w : Option Write) → HoldGlobals globals cells → HoldGlobals (written_to globals w) (cells_after cells (write_of w))
 hold_write globals cells None h = h
@@ -162,3 +119,10 @@ module _ (P : Program) where
   pub after_so : (n : ℕ) (frames : List Frame) (globals : List (List ℤ)) (made : List Access) (N Q : List Frame → List Access → Type 0) →
       ((next : List Frame) (all : List Access) → N next all → Q next all) → AfterMoves P n frames globals made N → AfterMoves P n frames globals made Q
   after_so n frames globals made N Q go h = after_more n frames globals [] made N Q go h
+
+  pub is_act_so : (variables : ℕ → ℤ) (a : Act) (m : Move) (N Q : List Frame → Type 0) → ((fs : List Frame) → N fs → Q fs) → IsAct P variables a m N → IsAct P variables a m Q
+  is_act_so variables a (Moves frames reads write) N Q go h = h
+  is_act_so variables a (Acts offset act operands frames) N Q go h = (h.0, go frames h.1)
+  is_act_so variables a (Ends offset reads) N Q go h = h
+  is_act_so variables a (Faults offset cause) N Q go h = h
+  is_act_so variables a Impossible N Q go h = h

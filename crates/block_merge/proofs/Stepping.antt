@@ -8,7 +8,7 @@ use Rattle.lists.proofs.Places.{set_other, set_same}
 use Rattle.hls_ints.specs.Operators.{is_zero}
 use Rattle.c_program.specs.Tree.{Program}
 use Rattle.thread_semantics.specs.State.{Frame}
-use Rattle.thread_semantics.specs.Move.{Move, Moves, Acts, Ends, Faults, Impossible, move}
+use Rattle.thread_semantics.specs.Move.{move}
 use Rattle.block_ir.specs.declared.operand.Operand.{Operand}
 use Rattle.block_ir.specs.declared.block.Final.{Final}
 use Rattle.block_ir.specs.declared.block.Next.{Next}
@@ -19,12 +19,12 @@ use Rattle.block_ir.specs.declared.code.Act.TheVariants as code
 use Rattle.block_ir.specs.declared.code.Stage.{Stage}
 use Rattle.block_ir.specs.declared.code.Stage.TheVariants.{Run, Act}
 use Rattle.block_ir.specs.Run.{Cells, Access, Running, operand_value, leads_to, finished, block_run, variables_after, stage_after}
-use Rattle.code_following.specs.Following.{AtStage, AfterMoves, HoldGlobals, IsAct, DoesSteps, DoesAct, DoesStage, Follows}
-use Rattle.block_merge.specs.Joined.{joined, moved_next, AreLeft}
+use Rattle.code_following.specs.Following.{AtStage, AfterMoves, HoldGlobals, DoesSteps, DoesAct, DoesStage, Follows}
+use Rattle.block_merge.specs.Joined.{joined, AreLeft}
 use Rattle.block_merge.specs.Maximal.{one_way, next_ways, stage_ways, ways}
-use Rattle.block_merge.proofs.Ways.{one_here, two_of}
+use Rattle.block_merge.proofs.Ways.{one_here, two_of, moved_ways}
 use Rattle.block_merge.proofs.Values.{LeftBelow, behind, same_function, first, between, second, joined_run, joined_variables, joined_stage}
-use Rattle.block_merge.proofs.Moves.{cells_after, block_kept, after_both, after_more, after_so}
+use Rattle.block_merge.proofs.Moves.{cells_after, block_kept, after_both, after_more, after_so, is_act_so}
 
 -- ---- one block behind another
 
@@ -101,18 +101,11 @@ module _ (P : Program) (Next Other : AtStage) where
         (h.steps globals cells hold);
   }
 
-  is_act_so : (variables : ℕ → ℤ) (a : CodeAct) (m : Move) (N Q : List Frame → Type 0) → ((fs : List Frame) → N fs → Q fs) → IsAct P variables a m N → IsAct P variables a m Q
-  is_act_so variables a (Moves frames reads write) N Q go h = h
-  is_act_so variables a (Acts offset act operands frames) N Q go h = (h.0, go frames h.1)
-  is_act_so variables a (Ends offset reads) N Q go h = h
-  is_act_so variables a (Faults offset cause) N Q go h = h
-  is_act_so variables a Impossible N Q go h = h
-
   act_so : (a : CodeAct) (next : ℕ) (variables : ℕ → ℤ) (arrays : Cells) (frames : List Frame) →
       ((fs : List Frame) → Next next variables arrays fs → Other next variables arrays fs) → DoesAct P Next a next variables arrays frames →
       DoesAct P Other a next variables arrays frames
   act_so code.Return next variables arrays frames go h = h
-  act_so a next variables arrays frames go h = λ globals. is_act_so variables a (move P globals frames) (λ after. Next next variables arrays after)
+  act_so a next variables arrays frames go h = λ globals. is_act_so P variables a (move P globals frames) (λ after. Next next variables arrays after)
       (λ after. Other next variables arrays after) go (h globals)
 
   pub stage_so : (o : Option Stage) (variables : ℕ → ℤ) (arrays : Cells) (frames : List Frame) →
@@ -148,10 +141,6 @@ module _ (P : Program) (old : List Stage) (l m : ℕ) (b d : Block) (current : L
       let some : 0 < stage_ways m s = subst (λ i. 0 < stage_ways i s) is taken in
       omega (arith, both, one, some, once)
 
-  moved_ways : (n j : ℕ) (nx : Next) → next_ways j (moved_next n current nx) ≡ next_ways j nx
-  moved_ways n j (Jump i) = refl
-  moved_ways n j (Branch test nonzero zero_) = refl
-
   new_there : slice_get new l ≡ Some (Run (joined current b d))
   new_there = set_same (slice_set old m dead) l (Run (joined current b d)) (let h = slice_get_within old l (Run b) at in let e = length-set old m dead in omega (arith, h, e))
 
@@ -165,7 +154,7 @@ module _ (P : Program) (old : List Stage) (l m : ℕ) (b d : Block) (current : L
       DoesStage P (Follows P new n) (Some (Run (joined current b d))) vs cells fs
   at_both n again vs cells fs h =
       steps_so P (Follows P old (double n)) (Follows P new n) (joined current b d) vs cells fs
-      (λ j ws ds gs taken g. again j ws ds gs (elsewhere m (Run d) apart there j (subst (λ w. 0 < w) (moved_ways (length b.operations) j d.next) taken)) g)
+      (λ j ws ds gs taken g. again j ws ds gs (elsewhere m (Run d) apart there j (subst (λ w. 0 < w) (moved_ways current (length b.operations) j d.next) taken)) g)
       (joined_does P (Follows P old (double n)) b d current vs cells fs left below few
       (steps_so P (Follows P old (suc (double n))) (λ i ws ds gs. DoesSteps P (Follows P old (double n)) d ws ds gs) b vs cells fs
       (λ j ws ds gs taken g.

@@ -4,7 +4,7 @@ use Rattle.std.proofs.Common.{Some, None, refl, sym, ap, ◌∙◌, subst, ⊎_e
 use Rattle.std.specs.Prelude.{◌⊎◌, nat_eq, if◌then◌else◌, Bool, slice_get}
 use Rattle.std.proofs.lemmas.Bool.Decides.{eqb_tells}
 use Rattle.std.proofs.lemmas.Option.{slice_get_within}
-use Rattle.lists.proofs.Places.{get_either, get_right, get_left}
+use Rattle.lists.proofs.Places.{get_either, get_right, get_left, get_mapped, get_unmapped}
 use Rattle.hls_ints.specs.Types.{IntegerType}
 use Rattle.block_ir.specs.declared.operand.Source.{Source}
 use Rattle.block_ir.specs.declared.operand.Source.TheVariants.{Constant, Variable, Value}
@@ -20,7 +20,6 @@ use Rattle.straight_code.specs.Evaluating.{current_operand}
 use Rattle.code_following.specs.Typed.{Types, source_type, last_type, operand_type, value_type, IsTypedSource}
 use Rattle.code_following.specs.Typed.{IsTypedOperand, IsTypedOperation, AreTyped, IsTypedFinal, IsTypedNext, IsTypedBlock}
 use Rattle.block_merge.specs.Joined.{later, moved_source, moved, moved_operation, moved_final, moved_next, joined, left_in, there, AreLeft, AreWithin}
-use Rattle.block_merge.proofs.Lists.{get_map, map_from}
 use Rattle.block_merge.proofs.Values.{LeftBelow}
 
 -- what is left in a variable is a final of it
@@ -102,7 +101,7 @@ module _ (T : Types) where
         let same : later n k ≡ length first + k = omega (arith, within, few) in (
           (
             moved_operation n current h.0,
-            ap (slice_get (first ++ moved_all before)) same ∙ get_right first (moved_all before) k ∙ get_map (moved_operation n current) before k h.0 h.1,
+            ap (slice_get (first ++ moved_all before)) same ∙ get_right first (moved_all before) k ∙ get_mapped (moved_operation n current) before k h.0 h.1,
             value_same h.0 ∙ h.2,
           ),
           refl,
@@ -161,7 +160,7 @@ module _ (T : Types) where
     finals_typed os gs few finals k f e =
         ⊎_elim
         (λ h. let t = typed k f h in (source_after first (moved_all os) f.value.source t.0, t.1))
-        (λ h. let g = map_from (moved_final n current) gs h.0 f h.1 in
+        (λ h. let g = get_unmapped (moved_final n current) gs h.0 f h.1 in
         let t = finals h.0 g.0 g.1 in
         subst (IsTypedFinal T (first ++ moved_all os)) g.2
         (operand_typed os g.0.value few t.0, t.1 ∙ ap Some (sym (type_same os g.0.value few t.0))))

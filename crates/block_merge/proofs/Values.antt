@@ -1,10 +1,10 @@
 -- What operations do behind a block.
-use Rattle.std.proofs.Common.{◌≡◌, ℕ, suc, ◌+◌, ◌^◌, ◌<◌, ◌≤◌, Bool, true, false, List, [], ◌∷◌}
+use Rattle.std.proofs.Common.{◌≡◌, ℕ, ◌+◌, ◌^◌, ◌<◌, ◌≤◌, Bool, true, false, List, [], ◌∷◌}
 use Rattle.std.proofs.Common.{◌++◌, length, map, ℤ, Option, Some, None, refl, sym, ap, ◌∙◌, subst, ⊎_elim, arith}
 use Rattle.std.proofs.Common.{append-nil, append_assoc, length-append}
 use Rattle.std.specs.Prelude.{◌⊎◌, pos, nat_eq, if◌then◌else◌, slice_get}
 use Rattle.std.proofs.lemmas.Option.{slice_get_past}
-use Rattle.lists.proofs.Places.{get_right, get_left}
+use Rattle.lists.proofs.Places.{get_right}
 use Rattle.hls_ints.specs.Types.{IntegerType, wrapped}
 use Rattle.hls_ints.specs.Operators.{is_zero}
 use Rattle.block_ir.specs.Arithmetic.{unary_total, binary_total}
@@ -20,8 +20,9 @@ use Rattle.block_ir.specs.declared.block.Block.{Block}
 use Rattle.block_ir.specs.Run.{Cells, Access, Read, Write, Running, or_zero, converted}
 use Rattle.block_ir.specs.Run.{source_value, operand_value, with_value, with_cell, place_read, place_written, global_read, global_written}
 use Rattle.block_ir.specs.Run.{operation_run, operations_run, finished, leads_to, started, block_run, variables_after, stage_after}
-use Rattle.straight_code.specs.Needs.{IsBelow, SourceIsBelow}
+use Rattle.straight_code.specs.Needs.{IsBelow}
 use Rattle.straight_code.specs.Evaluating.{current_operand}
+use Rattle.straight_code.proofs.Running.{run_append, run_length, operand_stays}
 use Rattle.block_merge.specs.Joined.{later, moved_source, moved, moved_operation, moved_final, moved_next, joined, left_in, there, AreLeft}
 
 pub same_function : (f g : ℕ → ℤ) → ((x : ℕ) → f x ≡ g x) → f ≡ g
@@ -55,34 +56,6 @@ finished_both variables values (f ∷ fs) gs after = finished_both variables val
 -- the finals name values of the first n operations
 abbrev pub LeftBelow : ℕ → List Final → Type 0
 LeftBelow n fs = (x : ℕ) (o : Operand) → left_in fs x None ≡ Some o → IsBelow n o
-
-module _ (variables : ℕ → ℤ) where
-  pub run_append : (os ps : List Operation) (r : Running) → operations_run variables (os ++ ps) r ≡ operations_run variables ps (operations_run variables os r)
-  run_append [] ps r = refl
-  run_append (o ∷ os) ps r = run_append os ps (operation_run variables o r)
-
-  pub one_length : (o : Operation) (r : Running) → length (operation_run variables o r).values ≡ suc (length r.values)
-  one_length (Unary operator ty a) r = length-append r.values _ ∙ (omega arith)
-  one_length (Binary operator ty a b) r = length-append r.values _ ∙ (omega arith)
-  one_length (ReadGlobal x n i) r = length-append r.values _ ∙ (omega arith)
-  one_length (WriteGlobal x n i a) r = length-append r.values _ ∙ (omega arith)
-  one_length (ReadArray x n i) r = length-append r.values _ ∙ (omega arith)
-  one_length (WriteArray x n i a) r = length-append r.values _ ∙ (omega arith)
-
-  pub run_length : (os : List Operation) (r : Running) → length (operations_run variables os r).values ≡ length r.values + length os
-  run_length [] r = omega arith
-  run_length (o ∷ os) r =
-      let rest = run_length os (operation_run variables o r) in
-      let one = one_length o r in
-      rest ∙ (omega arith)
-
-  source_stays : (values more : List ℤ) (s : Source) → SourceIsBelow (length values) s → source_value variables (values ++ more) s ≡ source_value variables values s
-  source_stays values more (Constant ty v) h = refl
-  source_stays values more (Variable x ty) h = refl
-  source_stays values more (Value k ty) h = ap or_zero (get_left values more k h)
-
-  pub operand_stays : (values more : List ℤ) (o : Operand) → IsBelow (length values) o → operand_value variables (values ++ more) o ≡ operand_value variables values o
-  operand_stays values more o h = ap (converted o.conversions) (source_stays values more o.source h)
 
 -- the first block's run so far, and the second one's
 abbrev pub behind : Running → Running → Running
@@ -191,7 +164,7 @@ module _ (variables : ℕ → ℤ) (r : Running) (n : ℕ) (current : List (Opti
   all_moved [] q few = refl
   all_moved (o ∷ os) q few =
       ap (operations_run variables (map (moved_operation n current) os)) (one_moved o q (omega arith))
-      ∙ all_moved os (operation_run ends o q) (let one = one_length ends o q in omega (arith, one, few))
+      ∙ all_moved os (operation_run ends o q) (let one = run_length ends (o ∷ []) q in omega (arith, one, few))
 
   finals_moved : (gs : List Final) (more : List ℤ) (A B : ℕ → ℤ) → n + length more < 2 ^ 32 → ((x : ℕ) → A x ≡ B x) → (x : ℕ) →
       finished variables (r.values ++ more) (map (moved_final n current) gs) A x ≡ finished ends more gs B x

@@ -1,9 +1,13 @@
 -- Ways that lead to a stage.
-use Rattle.std.proofs.Common.{◌≡◌, ◌≢◌, ℕ, zero, suc, ◌+◌, ◌≤◌, Bool, List, [], ◌∷◌, ◌++◌, Some, refl, ap, ⊎_elim, arith}
+use Rattle.std.proofs.Common.{◌≡◌, ◌≢◌, ℕ, zero, suc, ◌+◌, ◌≤◌, Bool, List, [], ◌∷◌, ◌++◌, Option, Some, refl, ap, ⊎_elim, arith}
 use Rattle.std.specs.Prelude.{if◌then◌else◌, slice_get, slice_set}
 use Rattle.std.proofs.lemmas.Bool.Decides.{eqb_tells}
+use Rattle.block_ir.specs.declared.operand.Operand.{Operand}
+use Rattle.block_ir.specs.declared.block.Next.{Next}
+use Rattle.block_ir.specs.declared.block.Next.TheVariants.{Jump, Branch}
 use Rattle.block_ir.specs.declared.code.Stage.{Stage}
-use Rattle.block_merge.specs.Maximal.{one_way, stage_ways, ways}
+use Rattle.block_merge.specs.Joined.{moved_next}
+use Rattle.block_merge.specs.Maximal.{one_way, next_ways, stage_ways, ways}
 
 pub one_here : (m : ℕ) → one_way m m ≡ 1
 one_here m = ⊎_elim (λ t. ap (λ (b : Bool). if b then 1 else 0) t.0) (λ t. absurd (t.1 refl)) (eqb_tells m m)
@@ -34,3 +38,8 @@ two_of m (u ∷ us) (suc k) (suc l) s t apart e f = let h = two_of m us k l s t 
 pub ways_append : (m : ℕ) (ss ts : List Stage) → ways m (ss ++ ts) ≡ ways m ss + ways m ts
 ways_append m [] ts = omega arith
 ways_append m (s ∷ ss) ts = let h = ways_append m ss ts in omega (arith, h)
+
+-- a block that is moved leads where it led
+pub moved_ways : (current : List (Option Operand)) (n j : ℕ) (nx : Next) → next_ways j (moved_next n current nx) ≡ next_ways j nx
+moved_ways current n j (Jump i) = refl
+moved_ways current n j (Branch test nonzero zero_) = refl

@@ -1,5 +1,5 @@
--- What the parts of the pass do.
-use Rattle.std.specs.Prelude.{◌≡◌, ◌≢◌, ◌⊎◌, ℕ, ◌+◌, ◌-◌, ◌^◌, ◌≤◌, List, [], length, ℤ, Option, Some, None, slice_get, slice_set}
+-- What the parts of merging do.
+use Rattle.std.specs.Prelude.{◌≡◌, ◌≢◌, ◌⊎◌, ℕ, ◌+◌, ◌-◌, ◌^◌, ◌≤◌, List, length, ℤ, Option, Some, None, slice_get, slice_set}
 use Rattle.block_ir.specs.declared.block.Next.{Next}
 use Rattle.block_ir.specs.declared.block.Next.TheVariants.{Jump, Branch}
 use Rattle.block_ir.specs.declared.block.Final.{Final}
@@ -13,6 +13,7 @@ use Rattle.block_merge.specs.declared.merger.Merger.{Merger}
 use Rattle.block_merge.specs.Joined.{joined, HasLeft}
 use Rattle.block_merge.specs.Maximal.{IsTooLarge, IsMaximalAt, AreCounted}
 use Rattle.block_merge.specs.Kept.{Keeps}
+use Rattle.block_merge.specs.Used.{empty}
 
 abbrev pub block_in : Option Stage → Option Block
 block_in (Some (Run b)) = Some b
@@ -22,10 +23,6 @@ block_in None = None
 abbrev pub jump_in : Next → Option ℕ
 jump_in (Jump l) = Some l
 jump_in (Branch test nonzero zero_) = None
-
--- what is left of a block that is part of another one
-abbrev pub dead : Stage
-dead = Run (record { operations = []; finals = []; next = Jump 0; steps = 1 })
 
 -- they are small enough for one
 abbrev pub AreSmall : ℕ → Block → Block → Type 0
@@ -60,7 +57,7 @@ pub record Begins (old new : Merger) (l : ℕ) : Type 0 where
 
 -- the block at m stands behind that at l
 pub record Joins (old new : Merger) (l m : ℕ) (b d : Block) : Type 0 where
-  pub stages : new.stages.items ≡ slice_set (slice_set old.stages.items m dead) l (Run (joined old.held.current b d))
+  pub stages : new.stages.items ≡ slice_set (slice_set old.stages.items m empty) l (Run (joined old.held.current b d))
   pub counts : new.counts ≡ slice_set old.counts m 0
   pub left : HasLeft old.held.current b.finals → HasLeft new.held.current (joined old.held.current b d).finals
   pub noted : HasNoted old.held → HasNoted new.held

@@ -1,16 +1,15 @@
-// The pass over the code.
+// Blocks that follow one another alone are put in one, chain after chain.
 
-ghost use Rattle.std.specs.Prelude.{◌≡◌, ◌≢◌, ℕ, ◌*◌, ◌<◌, ◌≤◌, length, Some, None, slice_get, slice_set, IfOk, OnOk, IfSome};
+ghost use Rattle.std.specs.Prelude.{◌≡◌, ℕ, ◌*◌, ◌<◌, ◌≤◌, Some, None, slice_get, slice_set, IfOk, OnOk, IfSome};
 ghost use Rattle.c_program.specs.Tree.{Program as GhostProgram};
 ghost use Rattle.block_ir.specs.declared.code.Stage.TheVariants as stage;
 ghost use Rattle.c_program.specs.Weight.{weight};
 ghost use Rattle.code_following.specs.Following.{IsLowered};
 ghost use Rattle.code_following.specs.Typed.{IsTypedCode};
-ghost use Rattle.straight_code.specs.Closing.{HasNoted, IsFresh};
-ghost use Rattle.block_merge.specs.Joined.{HasLeft};
 ghost use Rattle.block_merge.specs.Kept.{Keeps};
 ghost use Rattle.block_merge.specs.Maximal.{IsMaximal, IsMaximalAt, AreCounted, Follows};
 ghost use Rattle.block_merge.specs.Steps as steps;
+ghost use Rattle.block_merge.specs.Used as used;
 
 use crate::follow::{block_at, counts, fit, is_once, jump_of};
 use crate::joining::{hold, join_next};
@@ -33,8 +32,8 @@ struct Merger {
     most: usize,
 }
 
-fn dead(alloc: Global) -> Stage
-    ensures { result ≡ steps.dead }
+fn empty(alloc: Global) -> Stage
+    ensures { result ≡ used.empty }
 {
     Stage::Run(Block {
         operations: Items::new(alloc),
@@ -65,12 +64,12 @@ impl Merger {
     fn take(&mut self, alloc: Global, at: usize) -> Block
         requires { steps.IsBlock self.old at }
         ensures block { slice_get self.old.stages.items at ≡ Some (stage.Run result) }
-        ensures stages { self.new.stages.items ≡ slice_set self.old.stages.items at steps.dead }
+        ensures stages { self.new.stages.items ≡ slice_set self.old.stages.items at used.empty }
         ensures counts { self.new.counts ≡ self.old.counts }
         ensures held { self.new.held ≡ self.old.held }
         ensures most { self.new.most ≡ self.old.most }
     {
-        match mem::replace(&mut self.stages[at], dead(alloc)) {
+        match mem::replace(&mut self.stages[at], empty(alloc)) {
             Stage::Run(block) => block,
             Stage::Act { .. } => unreachable!(),
         }

@@ -17,7 +17,7 @@ use Rattle.block_ir.specs.declared.code.Stage.TheVariants as stage
 use Rattle.interleaving.specs.Memory.{Location, Memory}
 use Rattle.interleaving.specs.Source.{Undefined, View, view_at}
 use Rattle.interleaving.specs.Interleaving.{Reachable}
-use Rattle.planned_hardware.specs.Following.{AtStage}
+use Rattle.planned_block.specs.Following.{AtStage}
 use Rattle.race_model.specs.Source.{Local, local_of, running, location_of, view_of_move, outcome_of, c_source}
 use Rattle.race_model.specs.Orderly.{is_finished, is_over}
 use Rattle.race_model.proofs.Sound.{IsSound, step_moved, runs_on, reachable_sound}

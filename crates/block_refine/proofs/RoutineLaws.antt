@@ -6,8 +6,8 @@ use Rattle.thread_semantics.specs.State.{started}
 use Rattle.race_model.specs.Source.{c_source}
 use Rattle.race_model.proofs.Moves.{started_is}
 use Rattle.race_model.proofs.Sound.{reachable_sound}
-use Rattle.planned_hardware.specs.Following.{no_spare}
-use Rattle.planned_hardware.proofs.Budget.{followers_are_lowered}
+use Rattle.planned_block.specs.Following.{no_spare}
+use Rattle.planned_block.proofs.Budget.{followers_are_lowered}
 use Rattle.block_refine.specs.Threads.{IsTyped}
 use Rattle.block_refine.specs.Routines.{blocks_of, plans_of, AtAct, CodeFollows, BlocksAreSteps}
 use Rattle.block_refine.proofs.RoutineStages.{follows}

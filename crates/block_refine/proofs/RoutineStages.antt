@@ -21,7 +21,7 @@ use Rattle.planned_block.specs.Run.{Running, block_run}
 use Rattle.planned_view.specs.View.{planned_view, memory_of as memory_of_cells, accesses_view}
 use Rattle.planned_view.specs.Alike.{AreAlike}
 use Rattle.planned_view.proofs.Running.{runs_alike}
-use Rattle.planned_hardware.specs.Following.{AtStage, IsStage, Follows}
+use Rattle.planned_block.specs.Following.{AtStage, IsStage, Follows}
 use Rattle.race_model.specs.Source.{Local, running, c_source}
 use Rattle.race_model.proofs.Shape.{HasShape}
 use Rattle.race_model.proofs.Moves.{AreFrames, IsMove, move_is}

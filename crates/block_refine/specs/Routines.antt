@@ -13,8 +13,8 @@ use Rattle.block_ir.specs.declared.plan.Planned.{Planned}
 use Rattle.interleaving.specs.Memory.{Memory}
 use Rattle.planned_block.specs.Block.{Block, IsOrdered}
 use Rattle.planned_block.specs.Plan.{Plan}
-use Rattle.planned_hardware.specs.Hardware.{IsLowered as IsLoweredCode}
-use Rattle.planned_hardware.specs.Following.{AtStage, FollowsOn, AreChains, no_spare, code_of}
+use Rattle.planned_block.specs.Hardware.{IsLowered as IsLoweredCode}
+use Rattle.planned_block.specs.Following.{AtStage, FollowsOn, AreChains, no_spare, code_of}
 use Rattle.race_model.specs.Source.{Local, running, c_source}
 use Rattle.code_following.specs.Following.{HasArguments, IsLowered}
 use Rattle.block_refine.specs.Threads.{block_at, plan_at, AtActOf, IsTyped}

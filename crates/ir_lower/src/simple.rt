@@ -10,7 +10,7 @@ ghost use Rattle.straight_code.specs.Room.{IsFull};
 ghost use Rattle.ir_lower.specs.Taken.{is_simple, is_taken, is_value, is_value_or_none};
 
 use c_program::tree::{Place, RightSide, Statement};
-use code_acts::acts::{lower_print, lower_thread_call};
+use code_calls::acts::{lower_print, lower_thread_call};
 use code_calls::returning::{lower_return, return_nothing};
 use code_places::lowering::Lowering;
 use code_places::targets::Loop;

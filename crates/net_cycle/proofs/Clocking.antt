@@ -19,8 +19,8 @@ use Rattle.block_refine.specs.Threads.{plan_at}
 use Rattle.block_refine.specs.Routines.{stage_at, rest_of}
 use Rattle.planned_block.specs.Slot.{Slot}
 use Rattle.planned_block.specs.Advance.{any_below}
-use Rattle.planned_hardware.specs.Hardware.{PlannedThreads, Begins, hardware_of}
-use Rattle.planned_hardware.proofs.Chaining.{is_chain}
+use Rattle.planned_block.specs.Hardware.{PlannedThreads, Begins, hardware_of}
+use Rattle.planned_block.proofs.Chaining.{is_chain}
 use Rattle.race_model.specs.Source.{local_of, outcome_of, c_source}
 use Rattle.race_model.proofs.Orderly.{orderly}
 use Rattle.thread_semantics.specs.State.{State}

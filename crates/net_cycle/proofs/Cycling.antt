@@ -21,9 +21,9 @@ use Rattle.planned_block.specs.Slot.{Slot}
 use Rattle.planned_block.specs.Advance.{accesses_of_cycle, requests, answered, is_ready, is_answered, wires}
 use Rattle.planned_block.proofs.Bits.{both_true, is_same, same_is}
 use Rattle.planned_block.proofs.Advancing.{advances}
-use Rattle.planned_hardware.specs.Hardware.{PlannedThreads, hardware_of}
-use Rattle.planned_hardware.specs.Net.{Grants, RunsInCycle, Serves, moves}
-use Rattle.planned_hardware.proofs.Chaining.{somebody_moves, moves_change}
+use Rattle.planned_block.specs.Hardware.{PlannedThreads, hardware_of}
+use Rattle.planned_block.specs.Net.{Grants, RunsInCycle, Serves, moves}
+use Rattle.planned_block.proofs.Chaining.{somebody_moves, moves_change}
 use Rattle.verilog_meaning.specs.Cycles.{Choice}
 use Rattle.circuit.specs.Arbitration.{is_granted}
 use Rattle.circuit.specs.Wiring.{preference, is_enabled, asked as asked_of}

@@ -15,7 +15,7 @@ use Rattle.block_ir.specs.Asked.{act_value, Asked, asked, core_of, barrier_core,
 use Rattle.block_refine.specs.Routines.{stage_at, rest_of}
 use Rattle.planned_block.specs.Slot.{Slot}
 use Rattle.planned_block.proofs.Bits.{other_is, same_is}
-use Rattle.planned_hardware.specs.Hardware.{planned_hardware}
+use Rattle.planned_block.specs.Hardware.{planned_hardware}
 use Rattle.race_model.specs.Source.{Local, c_source}
 use Rattle.thread_semantics.specs.State.{State}
 use Rattle.code_following.specs.Following.{print_formats}

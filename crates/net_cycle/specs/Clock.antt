@@ -4,8 +4,8 @@ use Rattle.c_program.specs.Tree.{Program}
 use Rattle.interleaving.specs.Interleaving.{IsGood}
 use Rattle.interleaving.specs.Progress.{IsClocked}
 use Rattle.planned_block.specs.Advance.{any_below}
-use Rattle.planned_hardware.specs.Hardware.{hardware_of}
-use Rattle.planned_hardware.specs.Net.{moves}
+use Rattle.planned_block.specs.Hardware.{hardware_of}
+use Rattle.planned_block.specs.Net.{moves}
 use Rattle.race_model.specs.Source.{c_source}
 use Rattle.verilog_meaning.specs.Cycles.{Choice}
 use Rattle.circuit.specs.Wiring.{is_enabled}

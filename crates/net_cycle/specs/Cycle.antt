@@ -7,8 +7,8 @@ use Rattle.interleaving.specs.Memory.{Location}
 use Rattle.planned_block.specs.Plan.{KeepsOrders}
 use Rattle.planned_block.specs.Slot.{Slot, AreBanks}
 use Rattle.planned_block.specs.Advance.{wires}
-use Rattle.planned_hardware.specs.Hardware.{PlannedThreads, IsLowered, FitsBlocks}
-use Rattle.planned_hardware.specs.Net.{Grants, NetCycle, Serves, moves}
+use Rattle.planned_block.specs.Hardware.{PlannedThreads, IsLowered, FitsBlocks}
+use Rattle.planned_block.specs.Net.{Grants, NetCycle, Serves, moves}
 use Rattle.race_model.specs.Source.{Local, c_source, memory_of}
 use Rattle.block_ir.specs.declared.code.Act.{Act}
 use Rattle.block_ir.specs.declared.code.Stage.TheVariants as stage

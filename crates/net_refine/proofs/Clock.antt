@@ -6,7 +6,7 @@ use Rattle.race_model.specs.Source.{c_source}
 use Rattle.interleaving.specs.Interleaving.{IsGood}
 use Rattle.interleaving.specs.Progress.{IsClocked}
 use Rattle.planned_block.proofs.Bits.{is_same, less_or_not}
-use Rattle.planned_hardware.specs.Hardware.{PlannedThreads, hardware_of}
+use Rattle.planned_block.specs.Hardware.{PlannedThreads, hardware_of}
 use Rattle.verilog_meaning.specs.Cycles.{Choice}
 use Rattle.net_cycle.specs.Built.{Parts, IsBuilt}
 use Rattle.net_cycle.specs.Stage.{Stage, look}

@@ -18,8 +18,8 @@ use Rattle.interleaving.specs.Headline.{Views, IsSeen, DoneWhereEnded}
 use Rattle.interleaving.proofs.Headline.{done_where_ended}
 use Rattle.planned_block.specs.Slot.{Slot}
 use Rattle.planned_block.specs.Advance.{any_below}
-use Rattle.planned_hardware.specs.Hardware.{changes_left, hardware_of}
-use Rattle.planned_hardware.specs.Headline.{PlannedProgram}
+use Rattle.planned_block.specs.Hardware.{changes_left, hardware_of}
+use Rattle.planned_block.specs.Headline.{PlannedProgram}
 use Rattle.verilog_meaning.specs.Cycles.{Choice}
 use Rattle.block_ir.specs.Asked.{Numbers, printer_core}
 use Rattle.net_cycle.specs.Family.{CoreShape, Bank, Mutex, Barrier, Forks, Prints, machine_of}

@@ -17,8 +17,8 @@ use Rattle.race_model.proofs.Agreement.{same_meaning}
 use Rattle.race_model.proofs.Orderly.{orderly}
 use Rattle.interleaving.specs.Run.{machine_after as run_after, counted_choices, FollowsOne}
 use Rattle.interleaving.specs.Headline.{Shows}
-use Rattle.planned_hardware.specs.Headline.{is_still}
-use Rattle.planned_hardware.proofs.Chaining.{planned_runs}
+use Rattle.planned_block.specs.Headline.{is_still}
+use Rattle.planned_block.proofs.Chaining.{planned_runs}
 use Rattle.planned_block.specs.Advance.{any_below}
 use Rattle.planned_block.proofs.Advancing.{any_tells, some_tells}
 use Rattle.planned_block.proofs.Bits.{same_is, other_is}

@@ -12,7 +12,7 @@ use Rattle.bank_partition.specs.declared.banks.Spread.{Spread}
 use Rattle.std.specs.Prelude.{List}
 use Rattle.planned_block.specs.Plan.{KeepsOrders}
 use Rattle.planned_block.specs.Slot.{Slot, AreBanks}
-use Rattle.planned_hardware.specs.Hardware.{changes_left, planned_hardware}
+use Rattle.planned_block.specs.Hardware.{changes_left, planned_hardware}
 use Rattle.race_model.specs.Source.{local_of, c_source}
 use Rattle.thread_promise.specs.Globals.{bank_of}
 use Rattle.block_ir.specs.Asked.{Numbers, mutex_core, barrier_core, ids_core, printer_core}

@@ -4,12 +4,12 @@ use crate::small::Small::Binary;
 use crate::small::{Small, block, with_stages};
 use block_ir::block::Next;
 use block_ir::code::{Stage, ThreadCode};
+use block_merge::drop_empty;
 use c_program::tree::BinaryOperator::Add;
 use sqlite_items::Items;
 use std::alloc::{AllocError, Global};
 use std::process::Abort;
 use std::test::Fail;
-use used_stages::drop_empty;
 
 const SUM: [Small; 1] = [Binary(Add, Local, Local)];
 

@@ -9,3 +9,7 @@ pub mod Tables
 pub mod Advancing
 pub mod Total
 pub mod Examples
+pub mod Counting
+pub mod Planned
+pub mod Chaining
+pub mod Budget

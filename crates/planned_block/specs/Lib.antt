@@ -9,3 +9,7 @@ pub mod Law
 pub mod InFlight
 pub mod Example
 pub use Rattle.interleaving.specs.Memory
+pub mod Hardware
+pub mod Net
+pub mod Headline
+pub mod Following

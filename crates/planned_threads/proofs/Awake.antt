@@ -17,8 +17,8 @@ use Rattle.planned_block.specs.Block.{operand_value, leads_to}
 use Rattle.planned_block.specs.Run.{block_run}
 use Rattle.planned_block.specs.Slot.{Slot}
 use Rattle.planned_block.proofs.Bits.{less_or_not}
-use Rattle.planned_hardware.specs.Hardware.{Flies}
-use Rattle.planned_hardware.specs.Following.{AtStage, IsStage, Follows}
+use Rattle.planned_block.specs.Hardware.{Flies}
+use Rattle.planned_block.specs.Following.{AtStage, IsStage, Follows}
 use Rattle.bank_partition.specs.declared.banks.Spread.{Spread}
 use Rattle.thread_promise.specs.Globals.{bank_of}
 use Rattle.block_ir.specs.Asked.{Numbers}

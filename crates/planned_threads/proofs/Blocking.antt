@@ -19,7 +19,7 @@ use Rattle.bank_partition.specs.declared.banks.Spread.{Spread}
 use Rattle.block_ir.specs.Asked.{act_value, Numbers}
 use Rattle.planned_block.specs.Slot.{Slot}
 use Rattle.planned_block.proofs.Bits.{same_is, other_is}
-use Rattle.planned_hardware.specs.Hardware.{Begins, plan_of}
+use Rattle.planned_block.specs.Hardware.{Begins, plan_of}
 use Rattle.thread_promise.specs.Globals.{bank_of}
 use Rattle.thread_promise.specs.Promise.{went_on}
 use Rattle.thread_cores.specs.Cores.{Core, argument_at, waits_bit, may_grant}

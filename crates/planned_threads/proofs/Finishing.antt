@@ -17,7 +17,7 @@ use Rattle.block_ir.specs.declared.code.Act.TheVariants as act
 use Rattle.block_ir.specs.declared.code.Stage.{Stage}
 use Rattle.block_ir.specs.declared.code.Stage.TheVariants as stage
 use Rattle.planned_block.proofs.Bits.{less_is, other_is}
-use Rattle.planned_hardware.specs.Following.{Follows}
+use Rattle.planned_block.specs.Following.{Follows}
 use Rattle.race_model.specs.Source.{Local, local_of, running, outcome_of, c_source}
 use Rattle.race_model.proofs.Lists.{get-set_cases}
 use Rattle.race_model.proofs.Orderly.{orderly}

@@ -24,7 +24,7 @@ use Rattle.block_ir.specs.declared.code.Stage.TheVariants as stage
 use Rattle.bank_partition.specs.declared.banks.Spread.{Spread}
 use Rattle.planned_block.specs.Slot.{Slot}
 use Rattle.planned_block.proofs.Bits.{same_is}
-use Rattle.planned_hardware.specs.Hardware.{Code, changes_left, Begins, FitsBlocks, planned_hardware}
+use Rattle.planned_block.specs.Hardware.{Code, changes_left, Begins, FitsBlocks, planned_hardware}
 use Rattle.block_ir.specs.Asked.{act_value, Asked, asked, Numbers, core_of}
 use Rattle.thread_promise.specs.Globals.{bank_of}
 use Rattle.thread_promise.specs.Promise.{went_on}

@@ -10,7 +10,7 @@ use Rattle.race_model.specs.Source.{Local, local_of, running}
 use Rattle.race_model.specs.Orderly.{is_over}
 use Rattle.bank_partition.specs.declared.banks.Spread.{Spread}
 use Rattle.planned_block.specs.Slot.{Slot}
-use Rattle.planned_hardware.specs.Hardware.{Begins}
+use Rattle.planned_block.specs.Hardware.{Begins}
 use Rattle.thread_promise.specs.Globals.{bank_of}
 use Rattle.hls_ints.specs.Residues.{residue_of}
 use Rattle.thread_cores.specs.Cores.{Core, status_at, argument_at, waits_bit}

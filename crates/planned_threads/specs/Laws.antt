@@ -12,8 +12,8 @@ use Rattle.interleaving.specs.Source.{Blocked}
 use Rattle.interleaving.specs.Interleaving.{Reachable}
 use Rattle.interleaving.specs.Headline.{MarksEnd}
 use Rattle.planned_block.specs.Slot.{Slot}
-use Rattle.planned_hardware.specs.Hardware.{Begins, planned_hardware, FitsBlocks}
-use Rattle.planned_hardware.specs.Following.{no_spare, AreChains}
+use Rattle.planned_block.specs.Hardware.{Begins, planned_hardware, FitsBlocks}
+use Rattle.planned_block.specs.Following.{no_spare, AreChains}
 use Rattle.race_model.specs.Source.{Local, local_of, running, c_source}
 use Rattle.race_model.specs.Orderly.{is_over}
 use Rattle.thread_promise.specs.Globals.{bank_of}

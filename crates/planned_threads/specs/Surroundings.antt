@@ -11,8 +11,8 @@ use Rattle.block_ir.specs.declared.code.Act.TheVariants as act
 use Rattle.block_ir.specs.declared.code.ActOperand.{ActOperand}
 use Rattle.block_ir.specs.declared.code.Stage.TheVariants as stage
 use Rattle.planned_block.specs.Slot.{Slot}
-use Rattle.planned_hardware.specs.Hardware.{Code, Surroundings}
-use Rattle.planned_hardware.specs.Following.{no_spare, code_of}
+use Rattle.planned_block.specs.Hardware.{Code, Surroundings}
+use Rattle.planned_block.specs.Following.{no_spare, code_of}
 use Rattle.race_model.specs.Source.{Local, running}
 use Rattle.race_model.specs.Orderly.{is_over}
 use Rattle.block_ir.specs.Asked.{act_value, Asked, asked, Numbers, core_of}

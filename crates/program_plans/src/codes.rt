@@ -11,14 +11,13 @@ ghost use Rattle.block_merge.specs.Maximal.{IsMaximal};
 ghost use Rattle.program_plans.specs.Steps.{AreCodes};
 
 use block_ir::code::ThreadCode;
-use block_merge::merge;
+use block_merge::{drop_empty, merge};
 use c_program::threads::weight;
 use c_program::tree::Program;
 use ir_lower::functions::lower_function;
 use sqlite_items::Items;
 use std::alloc::{AllocError, Global};
 use straight_code::fault::LoweringFault;
-use used_stages::drop_empty;
 
 /// The code of a thread function, as it is lowered.
 fn lowered(alloc: Global, program: &Program, function: usize) -> Result<ThreadCode, AllocError>

@@ -15,7 +15,7 @@ use Rattle.planned_block.specs.Block.{Block, Kind, Simple, Multiply, Divide, Ban
 use Rattle.planned_block.specs.Table.{latency, latencies_before}
 use Rattle.planned_block.proofs.Tables.{sequential_short}
 use Rattle.planned_view.specs.View.{planned_view}
-use Rattle.planned_hardware.specs.Following.{own_latencies}
+use Rattle.planned_block.specs.Following.{own_latencies}
 use Rattle.block_refine.specs.Threads.{block_at, plan_at}
 use Rattle.right_plan.specs.Right.{IsRight, IsRightPlan}
 use Rattle.right_plan.proofs.Stages.{right_plans_are_there}

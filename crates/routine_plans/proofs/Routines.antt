@@ -21,7 +21,7 @@ use Rattle.bank_partition.specs.Shapes.{spreads_from}
 use Rattle.code_following.specs.Typed.{types_of, BeginsWith, IsTypedNext, IsTypedStage}
 use Rattle.code_following.proofs.Arguments.{main_takes_none}
 use Rattle.planned_block.proofs.Bits.{less_is, not_less_is}
-use Rattle.planned_hardware.specs.Following.{own_latencies, AreChains, no_spare}
+use Rattle.planned_block.specs.Following.{own_latencies, AreChains, no_spare}
 use Rattle.block_refine.specs.Threads.{block_at, plan_at}
 use Rattle.block_refine.specs.Routines.{RoutineCode, Codes, stage_at, rest_of, blocks_of, plans_of, ArePlanned}
 use Rattle.planned_threads.specs.Laws.{AreChainsThere, AreCoded}

@@ -6,7 +6,7 @@ use Rattle.c_program.specs.Resolved.{IsResolved}
 use Rattle.bank_partition.specs.Shapes.{spreads_from}
 use Rattle.code_following.specs.Typed.{IsThreadCode}
 use Rattle.right_plan.specs.Right.{IsRightPlan}
-use Rattle.planned_hardware.specs.Following.{own_latencies}
+use Rattle.planned_block.specs.Following.{own_latencies}
 use Rattle.block_refine.specs.Routines.{RoutineCode, Codes, rest_of, blocks_of}
 use Rattle.planned_threads.specs.Laws.{AreCoded}
 use Rattle.net_cycle.specs.Built.{IsCode}

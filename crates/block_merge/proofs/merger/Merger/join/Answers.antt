@@ -2,7 +2,7 @@ use Rattle.std.proofs.Common.{refl, sym, ap, ◌∙◌}
 use Rattle.std.specs.Prelude.{slice_get, slice_set}
 use Rattle.block_ir.specs.declared.code.Stage.TheVariants.{Run}
 use Rattle.lists.proofs.Places.{set_other}
-use Rattle.block_merge.specs.Steps.{dead}
+use Rattle.block_merge.specs.Used.{empty}
 use Rattle.block_merge.proofs.Chains.{join_joins}
 use Rattle.block_merge.proofs.merger.Merger.join.Goals as goal
 
@@ -13,7 +13,7 @@ pub take-block-requires : goal.take-block-requires
 take-block-requires c = (
   c.requires.block,
   ap (λ ss. slice_get ss c.args.first) c.take-next.ensures.stages
-      ∙ set_other c.args.self.now.stages.items c.args.second c.args.first dead (λ e. c.requires.apart (sym e)) ∙ c.requires.at,
+      ∙ set_other c.args.self.now.stages.items c.args.second c.args.first empty (λ e. c.requires.apart (sym e)) ∙ c.requires.at,
 )
 
 pub returns : goal.returns

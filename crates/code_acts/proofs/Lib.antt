@@ -1,6 +1,0 @@
-mod Acting
-mod Numbering
-mod Performing
-mod Placing
-mod Preparing
-mod Typed

@@ -1,4 +1,0 @@
-//! The code of acts: pthread calls and printf.
-#![tactic(auto)]
-
-pub mod acts;

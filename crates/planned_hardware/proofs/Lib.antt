@@ -1,4 +1,0 @@
-pub mod Counting
-pub mod Planned
-pub mod Chaining
-pub mod Budget

@@ -1,4 +1,0 @@
-pub mod Hardware
-pub mod Net
-pub mod Headline
-pub mod Following

@@ -1,5 +1,0 @@
-mod Lists
-mod Ways
-mod Marks
-mod Moves
-mod Kept
