@@ -1,20 +1,16 @@
 -- Thread functions: main, and the start routines that a create names.
-use Rattle.std.proofs.Common.{◌≡◌, ◌≢◌, ℕ, zero, suc, ◌<◌, ◌≤◌, true, false, List, [], ◌∷◌, ◌++◌}
-use Rattle.std.proofs.Common.{◌+◌, length, get_or, take, Option, Some, None, refl, sym, ap, ◌∙◌, subst, arith, ⊎_elim, inl, inr}
+use Rattle.std.proofs.Common.{◌≡◌, ◌≢◌, ℕ, zero, suc, ◌<◌, ◌≤◌, true, false, List, [], ◌∷◌}
+use Rattle.std.proofs.Common.{length, get_or, Option, Some, None, refl, sym, ap, ◌∙◌, subst, arith, ⊎_elim, inl, inr}
 use Rattle.std.specs.Prelude.{nat_eq, slice_get, Contains, ◌⊎◌}
 use Rattle.std.specs.Option.{option_eq}
 use Rattle.std.specs.List.{AllByRecursion, range_with_len, list_any}
 use Rattle.std.proofs.lemmas.Bool.Decides.{eqb_tells}
 use Rattle.std.proofs.lemmas.List.Elements.{All-contains, Contains-append_cases, Contains-push_cases, filter_passes}
-use Rattle.std.proofs.lemmas.List.{take_more, take_all}
 use Rattle.std.proofs.lemmas.List.Sums.{get_or-le-sum_by}
 use Rattle.std.proofs.lemmas.Bool.{or_cases}
 use Rattle.c_program.specs.declared.tree.ThreadObject.{ThreadObject}
 use Rattle.c_program.specs.Tree.{Function, Program}
 use Rattle.c_program.specs.Resolved.{IsResolved, IsRoutineAt, IsStartRoutine}
-use Rattle.block_ir.specs.declared.code.ThreadCode.{ThreadCode}
-use Rattle.code_following.specs.Typed.{IsThreadCode}
-use Rattle.ir_lower.specs.Codes.{AreThreadCodes}
 use Rattle.c_program.specs.Weight.{names_routine, is_routine, routines, thread_functions, function_weight, weight}
 
 -- a thread function: main, or a start routine
@@ -85,20 +81,3 @@ function_weighs P r c =
     let part = get_or-le-sum_by (function_weight P.functions) (thread_functions P) c.0 r c.1 in
     let same = ap (function_weight P.functions) c.2 in
     omega (arith, part, same)
-
--- ---- their codes
-
-codes_more : (P : Program) (fs : List ℕ) (f : ℕ) (cs : List ThreadCode) (c : ThreadCode) → AreThreadCodes P fs cs → IsThreadCode P f c → AreThreadCodes P (fs ++ f ∷ []) (cs ++ c ∷ [])
-codes_more P [] f [] c all one = (one, tt)
-codes_more P [] f (d ∷ cs) c all one = absurd all
-codes_more P (g ∷ fs) f [] c all one = absurd all
-codes_more P (g ∷ fs) f (d ∷ cs) c all one = (all.0, codes_more P fs f cs c all.1 one)
-
-pub codes_next : (P : Program) (fs : List ℕ) (i : ℕ) (cs new : List ThreadCode) (c : ThreadCode) → i < length fs → AreThreadCodes P (take i fs) cs → IsThreadCode P (get_or fs i 0) c →
-    new ≡ cs ++ c ∷ [] → AreThreadCodes P (take (i + 1) fs) new
-codes_next P fs i cs new c lt all one pushed =
-    subst (λ xs. AreThreadCodes P xs new) (sym (take_more fs i 0 lt))
-    (subst (AreThreadCodes P (take i fs ++ get_or fs i 0 ∷ [])) (sym pushed) (codes_more P (take i fs) (get_or fs i 0) cs c all one))
-
-pub codes_whole : (P : Program) (fs : List ℕ) (i : ℕ) (cs : List ThreadCode) → length fs ≤ i → AreThreadCodes P (take i fs) cs → AreThreadCodes P fs cs
-codes_whole P fs i cs le all = subst (λ xs. AreThreadCodes P xs cs) (take_all i fs le) all

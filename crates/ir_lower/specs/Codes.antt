@@ -1,5 +1,5 @@
 -- The codes of thread functions: what they are made of, and what they need.
-use Rattle.std.specs.Prelude.{◌≡◌, ℕ, if◌then◌else◌, nat_eq, List, [], ◌∷◌, Option, Some, None, slice_get, ◌+◌, ◌*◌}
+use Rattle.std.specs.Prelude.{◌≡◌, ℕ, if◌then◌else◌, nat_eq, List, Option, Some, None, slice_get, ◌+◌, ◌*◌}
 use Rattle.c_program.specs.declared.tree.Function.{Function as FunctionTree}
 use Rattle.c_program.specs.declared.tree.Program.{Program as ProgramTree}
 use Rattle.c_program.specs.Plain.{program_of, statement_of}
@@ -7,7 +7,6 @@ use Rattle.c_program.specs.Tree.{Program}
 use Rattle.block_ir.specs.declared.code.ThreadCode.{ThreadCode}
 use Rattle.straight_code.specs.declared.homes.Home.{Home}
 use Rattle.straight_code.specs.declared.homes.Home.TheVariants as home
-use Rattle.code_following.specs.Typed.{IsThreadCode}
 use Rattle.code_places.specs.declared.lowering.Lowering.{Lowering}
 use Rattle.thread_rooms.specs.declared.rooms.Rooms.{Rooms}
 use Rattle.thread_rooms.specs.Housing.{homes_in, IsHousing, AreNames}
@@ -17,13 +16,6 @@ use Rattle.c_program.specs.Limits.{local_elements, print_sites, mutex_elements, 
 use Rattle.c_program.specs.Resolved.{IsResolved}
 use Rattle.c_program.specs.Weight.{function_weight, thread_count}
 use Rattle.code_calls.specs.Calling.{Closes}
-
--- THREAD CODES: the codes of these thread functions, one after another
-abbrev pub AreThreadCodes : Program → List ℕ → List ThreadCode → Type 0
-AreThreadCodes P [] [] = Unit {0}
-AreThreadCodes P [] (c ∷ cs) = ⊥
-AreThreadCodes P (f ∷ fs) [] = ⊥
-AreThreadCodes P (f ∷ fs) (c ∷ cs) = IsThreadCode P f c × AreThreadCodes P fs cs
 
 -- what the code of a thread function needs at most, with all calls inlined, and the numbers of objects
 abbrev pub function_needs : Program → ℕ → ℕ

@@ -1,4 +1,4 @@
-// The codes of a program's thread functions.
+// The code of a thread function.
 
 ghost use Rattle.std.specs.Prelude.{◌≡◌, ◌≢◌, Contains, IfOk, IfErr};
 ghost use Rattle.c_program.specs.Plain.{program_of};
@@ -10,10 +10,9 @@ ghost use Rattle.ir_lower.specs.Codes as spec;
 
 use crate::statements::lower_body;
 use block_ir::code::ThreadCode;
-use c_program::threads::thread_functions;
 use c_program::tree::Program;
 use code_places::lowering::Lowering;
-use sqlite_items::{Items, at};
+use sqlite_items::at;
 use std::alloc::Global;
 use straight_code::fault::LoweringFault;
 use straight_code::homes::Home;
@@ -60,19 +59,4 @@ pub fn lower_function(
     lower_body(alloc, program, &mut code, &found.body)?;
     let code = code.finish(alloc, start, argument, names)?;
     Ok(code)
-}
-
-/// The code of main, and of each start routine that a create names, in the order of their definitions. Errors: out of memory,
-/// and too large, which none is within the limits.
-pub fn lower(alloc: Global, program: &Program) -> Result<Items<ThreadCode>, LoweringFault>
-    requires resolved { IsResolved (program_of program.now) }
-    ensures codes { IfOk result (spec.AreThreadCodes (program_of program.now) (thread_functions (program_of program.now))) }
-    ensures ample { IfErr result (λ e. IsWithinLimits (program_of program.now) → e ≢ LoweringFault.TooLarge) }
-{
-    let functions = thread_functions(alloc, program)?;
-    let mut codes = Items::new(alloc);
-    for function in &functions {
-        codes.push(lower_function(alloc, program, *function)?)?;
-    }
-    Ok(codes)
 }

@@ -1,13 +1,14 @@
 // Small texts and the codes of their thread functions.
-ghost use Rattle.std.specs.Prelude.{IfOk};
+ghost use Rattle.std.specs.Prelude.{◌≡◌, IfOk};
 ghost use Rattle.c_program.specs.Plain.{program_of};
 ghost use Rattle.c_program.specs.Resolved.{IsResolved};
+ghost use Rattle.c_program.specs.Weight.{thread_functions};
 
 use block_ir::block::Next;
 use block_ir::code::{Act, Stage, ThreadCode};
 use c_profile::{Accepted, ProfileError, accept};
 use hls_ints::CType;
-use ir_lower::functions::lower;
+use ir_lower::functions::lower_function;
 use sqlite_items::Items;
 use std::alloc::{AllocError, Global};
 use std::process::Abort;
@@ -138,7 +139,8 @@ pub(crate) fn is_code(code: &ThreadCode, number: usize, widths: &[u32], shapes: 
 
 /// The program of a text.
 fn resolved(alloc: Global, text: &[u8]) -> Result<Accepted, ProfileError>
-    ensures { IfOk result (λ a. IsResolved (program_of a.program)) }
+    ensures resolved { IfOk result (λ a. IsResolved (program_of a.program)) }
+    ensures functions { IfOk result (λ a. a.functions.items ≡ thread_functions (program_of a.program)) }
 {
     let accepted = accept(alloc, text)?;
     Ok(accepted)
@@ -147,7 +149,10 @@ fn resolved(alloc: Global, text: &[u8]) -> Result<Accepted, ProfileError>
 /// The codes of the thread functions of a text, that of main first.
 fn codes_of(alloc: Global, text: &[u8]) -> Result<Items<ThreadCode>, Fail> {
     let accepted = resolved(alloc, text)?;
-    let codes = lower(alloc, &accepted.program)?;
+    let mut codes = Items::new(alloc);
+    for function in &accepted.functions {
+        codes.push(lower_function(alloc, &accepted.program, *function)?)?;
+    }
     Ok(codes)
 }
 
