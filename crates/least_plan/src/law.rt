@@ -1,5 +1,6 @@
-// The laws of planned blocks. Each function takes and answers nothing: its contract is the law.
+// The laws of planned blocks. The functions take and answer nothing: their contracts are the laws.
 
+ghost use Rattle.least_plan.specs.Law.{OrdersAgree};
 ghost use Rattle.least_plan.specs.Planned.{PlansAgree, CodePlansAgree, PlanKeepsOrders, PlanIsShort, PlannedIsRight};
 
 use register_binding::law::registers_agree;
@@ -20,17 +21,15 @@ pub fn code_plans_agree()
     plans_agree();
 }
 
-/// The plan keeps the orders of every block whose operations use earlier ones.
-pub fn plan_keeps_orders()
-    ensures { PlanKeepsOrders }
-{}
-
-/// The plan of a block has a state, and no more states than its operations take one after another.
-pub fn plan_is_short()
-    ensures { PlanIsShort }
-{}
-
-/// A planned code is what a machine asks for.
-pub fn planned_is_right()
-    ensures { PlannedIsRight }
+/// The plan of a block and that of a code, and the orders of operations that meet a block's table.
+pub fn least_plans()
+    // The plan keeps the orders of every block whose operations use earlier ones.
+    ensures plan_keeps_orders { PlanKeepsOrders }
+    // The plan of a block has a state, and no more states than its operations take one after another.
+    ensures plan_is_short { PlanIsShort }
+    // A planned code is what a machine asks for.
+    ensures planned_is_right { PlannedIsRight }
+    // Every order that meets a block's constraints gives the values of its operations, the accesses of each global in their
+    // order, and what each local array holds at the end.
+    ensures orders_agree { OrdersAgree }
 {}

@@ -7,7 +7,6 @@ mod blocks;
 mod code;
 pub mod law;
 mod plans;
-pub mod reordering;
 mod shares;
 mod starts;
 

@@ -5,28 +5,17 @@
 ghost use Rattle.planned_threads.specs.ActLaws.{AllRequestsAreSteps};
 ghost use Rattle.planned_threads.specs.Laws.{StandsAwake, FitsThreads, MarksThreads, WhatBlocks};
 
-/// Where the core that an act asks may grant it, the act is the next step of its thread, and the cores after the grant stand
-/// for the state after the step; where it may not, the step is blocked.
-pub fn requests_are_steps()
-    ensures { AllRequestsAreSteps }
-{}
-
-/// A thread at the start of a stage runs, and waits nowhere.
-pub fn starts_awake()
-    ensures awake { (P : _) (codes : _) (N : _) (T : _) (spreads : _) (chain : _) → StandsAwake P codes N T spreads chain }
-{}
-
-/// Acts, waits and wakes of threads are what the theory of planned hardware asks for.
-pub fn threads_fit()
-    ensures fits { (P : _) (codes : _) (N : _) (T : _) (spreads : _) (chain : _) → FitsThreads P codes N T spreads chain }
-{}
-
-/// The slot of thread 0 marks the end of the program.
-pub fn end_is_marked()
-    ensures marks { (P : _) (codes : _) (N : _) (T : _) (spreads : _) (chain : _) → MarksThreads P codes N T spreads chain }
-{}
-
-/// A thread that asks nothing that may be granted, and does not wake, is blocked.
-pub fn what_blocks()
-    ensures blocks { (P : _) (codes : _) (N : _) (T : _) (spreads : _) (chain : _) → WhatBlocks P codes N T spreads chain }
+/// Threads around their blocks.
+pub fn planned_threads()
+    // Where the core that an act asks may grant it, the act is the next step of its thread, and the cores after the grant stand
+    // for the state after the step; where it may not, the step is blocked.
+    ensures requests_are_steps { AllRequestsAreSteps }
+    // A thread at the start of a stage runs, and waits nowhere.
+    ensures starts_awake { (P : _) (codes : _) (N : _) (T : _) (spreads : _) (chain : _) → StandsAwake P codes N T spreads chain }
+    // Acts, waits and wakes of threads are what the theory of planned hardware asks for.
+    ensures threads_fit { (P : _) (codes : _) (N : _) (T : _) (spreads : _) (chain : _) → FitsThreads P codes N T spreads chain }
+    // The slot of thread 0 marks the end of the program.
+    ensures end_is_marked { (P : _) (codes : _) (N : _) (T : _) (spreads : _) (chain : _) → MarksThreads P codes N T spreads chain }
+    // A thread that asks nothing that may be granted, and does not wake, is blocked.
+    ensures what_blocks { (P : _) (codes : _) (N : _) (T : _) (spreads : _) (chain : _) → WhatBlocks P codes N T spreads chain }
 {}

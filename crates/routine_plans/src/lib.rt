@@ -4,14 +4,12 @@
 ghost use Rattle.routine_plans.specs.Planned.{PlansAreSmall};
 ghost use Rattle.routine_plans.specs.Plans.{RoutinesAreCoded, RoutinesAreCode};
 
-/// The number of states of a block of typed code, by any right plan, has 64 bits.
-pub fn plans_are_small()
-    ensures { PlansAreSmall }
-{}
-
-/// The typed codes of all functions that threads run, by right plans, do what their threads do, with room in each chain for
-/// a wake, and each is code as the machine needs it.
-pub fn routines_are_coded()
-    ensures coded { RoutinesAreCoded }
-    ensures code { RoutinesAreCode }
+/// Typed codes by right plans.
+pub fn routine_plans()
+    // The number of states of a block has 64 bits.
+    ensures plans_are_small { PlansAreSmall }
+    // The codes of all functions that threads run do what their threads do, with room in each chain for a wake.
+    ensures routines_are_coded { RoutinesAreCoded }
+    // Each is code as the machine needs it.
+    ensures routines_are_code { RoutinesAreCode }
 {}
