@@ -8,13 +8,10 @@ use Rattle.std.proofs.lemmas.List.FromFn.{fill_by_all}
 use Rattle.std.proofs.lemmas.List.Sums.{sum_by-cons, sum_by-append, count_by_more_yes, count_by_more_no}
 use Rattle.interval_pack.specs.declared.interval.Interval.{Interval}
 use Rattle.interval_pack.specs.Packing.{at, nowhere, crowd_at}
-use Rattle.interval_pack.proofs.Counts.{holds}
+use Rattle.interval_pack.proofs.Counts.{holds, one_if}
 use Rattle.interval_pack.specs.Sparse.{HasPlace}
 
 -- ---- how many hold a place
-
-abbrev one_if : Bool → ℕ
-one_if b = if b then 1 else 0
 
 crowd-push : (xs : List Interval) (x : Interval) (q : ℕ) → crowd_at (xs ++ x ∷ []) q ≡ crowd_at xs q + one_if (holds q x)
 crowd-push xs x q =

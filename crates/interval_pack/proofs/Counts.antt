@@ -9,7 +9,7 @@ use Rattle.interval_pack.specs.Packing.{nowhere, crowd_at}
 abbrev pub Test : Type 0
 Test = Interval → ℕ → Bool
 
-abbrev one_if : Bool → ℕ
+abbrev pub one_if : Bool → ℕ
 one_if b = if b then 1 else 0
 
 -- how many intervals pass, each with its row

@@ -18,8 +18,10 @@ use Rattle.planned_block.specs.Plan.{is_simple as seen_simple, target_of, NoTarg
 use Rattle.planned_block.specs.Table.{latency, uses_in, any_final as any_final_view, next_uses as next_uses_view}
 use Rattle.planned_view.specs.View.{source_view, converted_to, operand_view, binary_kind, operation_view, operations_view, finals_view, next_view}
 use Rattle.planned_view.specs.Alike.{SourceNeedsBelow, OperationNeedsBelow, EachNeedsEarlier}
+use Rattle.planned_view.proofs.Ordering.{needs_converted}
 use Rattle.op_graph.specs.declared.node.Kind.TheVariants.{Global, Array}
 use Rattle.op_graph.specs.Graph.{operator_kind, value_below, node_of, nodes_from, nodes_of, no_node, is_simple, latency_of, UsesValue, UseEarlier}
+use Rattle.op_graph.proofs.NodeList.{uses_below}
 use Rattle.register_binding.specs.Registers.{is_operand, uses_value}
 use Rattle.register_binding.specs.Used.{is_value, any_final, next_uses}
 
@@ -121,10 +123,6 @@ uses_converted : (types : List IntegerType) (o : Operand) (k : ℕ) → uses_in 
 uses_converted [] o k = refl
 uses_converted (ty ∷ types) o k = uses_converted types _ k
 
-needs_converted : (types : List IntegerType) (o : Operand) (k : ℕ) → UsesIn (converted_to types o) k → UsesIn o k
-needs_converted [] o k u = u
-needs_converted (ty ∷ types) o k u = needs_converted types _ k u
-
 value_is : (j k i : ℕ) → j ≡ i → i < k → (if nat_lt j k then Some j else None) ≡ Some i
 value_is j k i e l =
     let b : nat_lt j k ≡ true = grind arith in
@@ -193,29 +191,6 @@ next_test (CodeJump l) i = refl
 next_test (CodeBranch test l m) i = operand_value_test test i
 
 -- ---- an operation uses the values of earlier ones alone
-
-below_if : (b : Bool) (j k i : ℕ) → nat_lt j k ≡ b → (if b then Some j else None) ≡ Some i → i < k
-below_if true j k i e f = let same : j ≡ i = cc in grind arith
-below_if false j k i e f = absurd cc
-
-value_is_below : (s : Source) (k i : ℕ) → value_below k s ≡ Some i → i < k
-value_is_below (FromConstant ty v) k i e = absurd cc
-value_is_below (FromVariable x ty) k i e = absurd cc
-value_is_below (FromValue j ty) k i e = below_if (nat_lt j k) j k i refl e
-
-uses_below : (o : CodeOperation) (k i : ℕ) → UsesValue (node_of k o) i → i < k
-uses_below (Unary operator ty a) k i (inl e) = value_is_below a.source k i e
-uses_below (Unary operator ty a) k i (inr e) = absurd cc
-uses_below (Binary operator ty a b) k i (inl e) = value_is_below a.source k i e
-uses_below (Binary operator ty a b) k i (inr e) = value_is_below b.source k i e
-uses_below (ReadGlobal x n a) k i (inl e) = value_is_below a.source k i e
-uses_below (ReadGlobal x n a) k i (inr e) = absurd cc
-uses_below (WriteGlobal x n a b) k i (inl e) = value_is_below a.source k i e
-uses_below (WriteGlobal x n a b) k i (inr e) = value_is_below b.source k i e
-uses_below (ReadArray x n a) k i (inl e) = value_is_below a.source k i e
-uses_below (ReadArray x n a) k i (inr e) = absurd cc
-uses_below (WriteArray x n a b) k i (inl e) = value_is_below a.source k i e
-uses_below (WriteArray x n a b) k i (inr e) = value_is_below b.source k i e
 
 pub use_earlier : (os : List CodeOperation) → UseEarlier (nodes_of os)
 use_earlier os j i l u =

@@ -1,9 +1,10 @@
 -- What a block's operations do, one after another, in any order.
-use Rattle.std.specs.Prelude.{ℕ, ℤ, pos, negsuc, List, [], ◌∷◌, ◌++◌, Bool, true, false, Option, Some, None, nat_eq, if◌then◌else◌}
+use Rattle.std.specs.Prelude.{ℕ, ℤ, pos, List, [], ◌∷◌, ◌++◌, Bool, true, false, Option, Some, None, nat_eq, if◌then◌else◌}
 use Rattle.op_graph.specs.declared.node.Node.{Node}
 use Rattle.op_graph.specs.declared.node.Kind.{Kind}
 use Rattle.op_graph.specs.declared.node.Kind.TheVariants.{Simple, Multiply, Divide, Global, Array}
 use Rattle.op_graph.specs.Graph.{node, kind_at}
+use Rattle.block_ir.specs.Run.{index_of}
 
 -- what an operation touches
 pub data Object : Type 0 where
@@ -28,11 +29,6 @@ object_of (Multiply w) = Nothing
 object_of (Divide w s) = Nothing
 object_of (Global x w) = TheGlobal x
 object_of (Array x w) = TheArray x
-
--- a negative index stands for 0
-abbrev pub index_of : ℤ → ℕ
-index_of (pos j) = j
-index_of (negsuc j) = 0
 
 -- an access of a global, as the others see it
 pub data Event : Type 0 where

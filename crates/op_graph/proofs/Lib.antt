@@ -1,5 +1,5 @@
 mod Appending
-mod NodeList
+pub mod NodeList
 mod TableRows
 pub mod OneByOne
 pub mod Neighbours

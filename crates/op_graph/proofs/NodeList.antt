@@ -1,5 +1,5 @@
 -- The nodes of a list of operations.
-use Rattle.std.proofs.Common.{◌≡◌, ℕ, suc, zero, ◌+◌, ◌<◌, ◌≤◌, List, [], ◌∷◌, ◌++◌, length, take, slice_get, slice_index_or, Option}
+use Rattle.std.proofs.Common.{◌≡◌, ℕ, suc, zero, ◌+◌, ◌<◌, ◌≤◌, List, [], ◌∷◌, ◌++◌, length, take, slice_get, slice_index_or}
 use Rattle.std.proofs.Common.{Some, None, Bool, true, false, nat_lt, if◌then◌else◌, refl, ap, sym, ◌∙◌, subst, inl, inr, arith, add-one}
 use Rattle.std.proofs.lemmas.List.{take_all}
 use Rattle.lists.proofs.Places.{take_next}
@@ -39,7 +39,7 @@ value_is_below (Constant ty v) k i e = absurd cc
 value_is_below (Variable x ty) k i e = absurd cc
 value_is_below (Value j ty) k i e = below_if (nat_lt j k) j k i refl e
 
-uses_below : (o : Operation) (k i : ℕ) → UsesValue (node_of k o) i → i < k
+pub uses_below : (o : Operation) (k i : ℕ) → UsesValue (node_of k o) i → i < k
 uses_below (Unary operator ty a) k i (inl e) = value_is_below a.source k i e
 uses_below (Unary operator ty a) k i (inr e) = absurd cc
 uses_below (Binary operator ty a b) k i (inl e) = value_is_below a.source k i e

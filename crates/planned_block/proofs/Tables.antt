@@ -10,7 +10,7 @@ use Rattle.planned_block.specs.Plan.{Plan, further_states, last_state, is_simple
 use Rattle.planned_block.specs.Table.{MeetsTable, IsPacked, HasRows, latency, greater, uses_in, last_user, any_final, next_uses, last_use, latencies_before, sequential}
 use Rattle.planned_block.proofs.Bits.{same_is, less_is}
 
-simple_now : (kind : Kind) → is_simple kind ≡ true → further_states kind ≡ 0
+pub simple_now : (kind : Kind) → is_simple kind ≡ true → further_states kind ≡ 0
 simple_now (Simple f) e = refl
 simple_now (Multiply f) e = absurd cc
 simple_now (Divide f) e = absurd cc

@@ -2,7 +2,6 @@
 use Rattle.std.specs.Prelude.{Bool, true, false, ◌||◌, nat_eq, Option, Some, None, slice_get, slice_set}
 use Rattle.std.specs.List.{AllByRecursion, list_any}
 use Rattle.std.proofs.Common.{◌≡◌, ℕ, zero, suc, ◌<◌, List, [], ◌∷◌, refl, ap, ap₂, sym, ◌∙◌}
-use Rattle.std.proofs.lemmas.Bool.{or_parts}
 use Rattle.std.proofs.Math.Bool.{or-true}
 use Rattle.planned_block.proofs.Bits.{same_is}
 use Rattle.thread_semantics.specs.State.{Frame, Slot, Unused, Running, Finished}
@@ -22,10 +21,6 @@ pub all_below : (T : ℕ) (ws : List ℕ) → ((w : ℕ) → list_any (nat_eq w)
 all_below T [] each = tt
 all_below T (w ∷ ws) each =
     (each w (ap (λ (z : Bool). z || list_any (nat_eq w) ws) (same_is w w refl)), all_below T ws (λ v e. each v (ap (λ (z : Bool). nat_eq v w || z) e ∙ or-true (nat_eq v w))))
-
-pub none_same : (w : ℕ) (ws : List ℕ) → list_any (nat_eq w) ws ≡ false → AllByRecursion (λ x. nat_eq w x ≡ false) ws
-none_same w [] e = tt
-none_same w (x ∷ ws) e = let r = or_parts (nat_eq w x) (list_any (nat_eq w) ws) e in (r.0, none_same w ws r.1)
 
 pub live_frames : (o : Option Slot) → is_running o ≡ true → (frames : List Frame) × (o ≡ Some (Running frames))
 live_frames None e = absurd cc

@@ -10,10 +10,11 @@ use Rattle.c_program.specs.Resolved.{IsResolved}
 use Rattle.thread_semantics.specs.declared.cause.BlockedCause.TheVariants as waits
 use Rattle.thread_semantics.specs.State.{Frame, Slot as ThreadSlot, Unused, Running, Finished, State}
 use Rattle.thread_semantics.specs.Move.{move}
-use Rattle.thread_semantics.specs.Step.{Stepped, Steps, Blocks, Undefines, moved, is_waiter, is_running, is_blocked, slot_step, step}
+use Rattle.thread_semantics.specs.Step.{Blocks, moved, is_waiter, is_running, slot_step, step}
 use Rattle.race_model.specs.Source.{Local, local_of, memory_of, outcome_of}
 use Rattle.race_model.specs.Orderly.{is_finished, is_over}
 use Rattle.race_model.proofs.Orderly.{orderly}
+use Rattle.race_model.proofs.Agreement.{blocked_from}
 use Rattle.interleaving.specs.Source.{Blocked}
 use Rattle.bank_partition.specs.declared.banks.Spread.{Spread}
 use Rattle.block_ir.specs.Asked.{act_value, Numbers}
@@ -31,11 +32,6 @@ use Rattle.planned_threads.specs.Surroundings.{Waits, Absent, Over, Idle, Handed
 use Rattle.planned_threads.specs.Laws.{AreCoded, marks, MarksThreads, AtAct, Rests_on, WhatBlocks}
 use Rattle.planned_threads.proofs.Counts.{past_states}
 use Rattle.planned_threads.proofs.Awake.{starts_below, awake, flies_awake}
-
-blocked_is : (o : Stepped) → is_blocked o ≡ true → outcome_of o ≡ Blocked
-blocked_is (Steps t) e = absurd cc
-blocked_is (Blocks cause) e = refl
-blocked_is (Undefines offset cause) e = absurd cc
 
 not_running_blocks : (P : Program) (s : State) (i : ℕ) (o : Option ThreadSlot) → is_running o ≡ false → slot_step P s i o ≡ Blocks waits.NotRunning
 not_running_blocks P s i None e = refl
@@ -64,7 +60,7 @@ what_blocks P codes N T spreads chain R numbers coded s i c q at defined stands 
 what_blocks P codes N T spreads chain R numbers coded s i c q at defined stands (Rests_on waits still) = go waits
   where
     order_beyond : T ≤ i → outcome_of (step P s i) ≡ Blocked
-    order_beyond le = blocked_is (step P s i) ((orderly P R s at).beyond i (let e = numbers.threads in omega arith))
+    order_beyond le = blocked_from (step P s i) ((orderly P R s at).beyond i (let e = numbers.threads in omega arith))
 
     there : (frames : List Frame) → slice_get s.slots i ≡ Some (Running frames) → i < T
     there frames e = let lt = slice_get_within s.slots i (Running frames) e in let n = (orderly P R s at).threads in let t = numbers.threads in omega arith

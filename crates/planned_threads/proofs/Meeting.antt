@@ -22,7 +22,7 @@ use Rattle.planned_block.proofs.Bits.{less_is, not_less_is, same_is, other_is}
 use Rattle.race_model.specs.Source.{Local, outcome_of}
 use Rattle.race_model.specs.Orderly.{waits_in, AreWaiters}
 use Rattle.race_model.proofs.Lists.{list_any_at}
-use Rattle.race_model.proofs.Orderly.{orderly}
+use Rattle.race_model.proofs.Orderly.{orderly, none_same}
 use Rattle.block_ir.specs.Asked.{act_value, Asked, Numbers, barrier_core, core_of}
 use Rattle.code_following.specs.Following.{print_formats, SameAct}
 use Rattle.core_states.specs.Machines.{Gate, total_of, with_waiter}
@@ -34,7 +34,7 @@ use Rattle.block_refine.specs.RoutineActs.{IsStepOf}
 use Rattle.planned_threads.specs.Requests.{AreNumbers, StandsAtAct, Serves, Other, cores_after}
 use Rattle.planned_threads.proofs.ActByAct.{RequestIsStep}
 use Rattle.planned_threads.proofs.Common.{names, never, same_core}
-use Rattle.planned_threads.proofs.Anywhere.{any_set_same, all_below, none_same, live_frames}
+use Rattle.planned_threads.proofs.Anywhere.{any_set_same, all_below, live_frames}
 use Rattle.planned_threads.proofs.Barring.{asks_barrier, barrier_stands, own_slot, same_other, released, no_bit}
 
 one_more_distinct : (i : ℕ) (ws : List ℕ) → list_any (nat_eq i) ws ≡ false → IsDistinct nat_eq ws → IsDistinct nat_eq (i ∷ ws)

@@ -16,9 +16,9 @@ use Rattle.planned_view.specs.View.{source_view, converted_to, operand_view, ope
 use Rattle.planned_view.specs.Alike.{SourceNeedsBelow, NeedsBelow, OperationNeedsBelow, EachNeedsEarlier, FinalsNeedBelow, NextNeedsBelow, IsInOrder}
 use Rattle.planned_view.proofs.Running.{size-view}
 
-uses_converted : (types : List IntegerType) (o : Operand) (j : ℕ) → UsesIn (converted_to types o) j → UsesIn o j
-uses_converted [] o j u = u
-uses_converted (ty ∷ types) o j u = uses_converted types (Through (wrapped ty) o) j u
+pub needs_converted : (types : List IntegerType) (o : Operand) (j : ℕ) → UsesIn (converted_to types o) j → UsesIn o j
+needs_converted [] o j u = u
+needs_converted (ty ∷ types) o j u = needs_converted types (Through (wrapped ty) o) j u
 
 source_below : (n : ℕ) (o : Source) (j : ℕ) → SourceNeedsBelow n o → UsesIn (source_view o) j → j < n
 source_below n (FromConstant ty v) j below u = absurd u
@@ -26,7 +26,7 @@ source_below n (FromVariable x ty) j below u = absurd u
 source_below n (FromValue k ty) j below u = subst (λ i. i < n) u below
 
 operand_below : (n : ℕ) (o : CodeOperand) (j : ℕ) → NeedsBelow n o → UsesIn (operand_view o) j → j < n
-operand_below n o j below u = source_below n o.source j below (uses_converted o.conversions (source_view o.source) j u)
+operand_below n o j below u = source_below n o.source j below (needs_converted o.conversions (source_view o.source) j u)
 
 operation_below : (n : ℕ) (o : CodeOperation) (j : ℕ) → OperationNeedsBelow n o → Uses (operation_view o) j → j < n
 operation_below n (Unary operator ty a) j below u = ⊎_elim (λ v. operand_below n a j below v) (λ v. absurd v) u

@@ -33,7 +33,7 @@ get_next [] v (suc k) = sym (ap (λ (c : Bool). if c then v else pos 0) (other_i
 get_next (x ∷ xs) v zero = sym (ap (λ (c : Bool). if c then v else x) (other_is 0 (suc (length xs)) (λ (e : 0 ≡ suc (length xs)). absurd (omega arith))))
 get_next (x ∷ xs) v (suc k) = get_next xs v k ∙ ap (λ (c : Bool). if c then v else or_zero (slice_get xs k)) (sym (eqb-suc-suc k (length xs)))
 
-accesses_view-append : (es fs : List CodeAccess) → accesses_view (es ++ fs) ≡ accesses_view es ++ accesses_view fs
+pub accesses_view-append : (es fs : List CodeAccess) → accesses_view (es ++ fs) ≡ accesses_view es ++ accesses_view fs
 accesses_view-append [] fs = refl
 accesses_view-append (e ∷ es) fs = ap (λ l. access_view e ∷ l) (accesses_view-append es fs)
 

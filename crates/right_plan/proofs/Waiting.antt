@@ -2,18 +2,10 @@
 use Rattle.std.proofs.Common.{◌≡◌, ◌<◌, true, false, ◌⊎◌, inl, inr, refl, arith}
 use Rattle.std.proofs.lemmas.Bool.{cases_Bool}
 use Rattle.planned_view.specs.Block.{Kind, Simple, Multiply, Divide, BankRead, BankWrite, ArrayRead, ArrayWrite, operation_at}
-use Rattle.planned_view.specs.Plan.{further_states, is_simple, last_state}
+use Rattle.planned_view.specs.Plan.{is_simple, last_state}
 use Rattle.planned_view.specs.Slot.{is_request}
+use Rattle.planned_view.proofs.Tables.{simple_now}
 use Rattle.right_plan.specs.Right.{TableGivesRegisters}
-
-simple_now : (kind : Kind) → is_simple kind ≡ true → further_states kind ≡ 0
-simple_now (Simple f) e = refl
-simple_now (Multiply f) e = absurd cc
-simple_now (Divide f) e = absurd cc
-simple_now (BankRead x) e = absurd cc
-simple_now (BankWrite x) e = absurd cc
-simple_now (ArrayRead x) e = absurd cc
-simple_now (ArrayWrite x) e = absurd cc
 
 -- a request is no mere logic
 pub request_is_slow : (kind : Kind) → is_request kind ≡ true → is_simple kind ≡ false
