@@ -23,8 +23,9 @@ use Rattle.code_following.specs.Following.{AtStage, AfterMoves, HoldGlobals, Doe
 use Rattle.block_merge.specs.Joined.{joined, AreLeft}
 use Rattle.block_merge.specs.Maximal.{one_way, next_ways, stage_ways, ways}
 use Rattle.block_merge.proofs.Ways.{one_here, two_of, moved_ways}
-use Rattle.block_merge.proofs.Values.{LeftBelow, behind, same_function, first, between, second, joined_run, joined_variables, joined_stage}
+use Rattle.block_merge.proofs.Values.{LeftBelow, behind, first, between, second, joined_run, joined_variables, joined_stage}
 use Rattle.block_merge.proofs.Moves.{cells_after, block_kept, after_both, after_more, after_so, is_act_so}
+use Rattle.straight_code.proofs.Running.{same_function}
 
 -- ---- one block behind another
 

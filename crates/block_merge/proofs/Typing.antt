@@ -4,7 +4,7 @@ use Rattle.std.proofs.Common.{Some, None, refl, sym, ap, ◌∙◌, subst, ⊎_e
 use Rattle.std.specs.Prelude.{◌⊎◌, nat_eq, if◌then◌else◌, Bool, slice_get}
 use Rattle.std.proofs.lemmas.Bool.Decides.{eqb_tells}
 use Rattle.std.proofs.lemmas.Option.{slice_get_within}
-use Rattle.lists.proofs.Places.{get_either, get_right, get_left, get_mapped, get_unmapped}
+use Rattle.lists.proofs.Places.{get_either, get_right, get_mapped, get_unmapped}
 use Rattle.hls_ints.specs.Types.{IntegerType}
 use Rattle.block_ir.specs.declared.operand.Source.{Source}
 use Rattle.block_ir.specs.declared.operand.Source.TheVariants.{Constant, Variable, Value}
@@ -17,6 +17,7 @@ use Rattle.block_ir.specs.declared.block.Next.TheVariants.{Jump, Branch}
 use Rattle.block_ir.specs.declared.block.Block.{Block}
 use Rattle.straight_code.specs.Needs.{IsBelow, SourceIsBelow}
 use Rattle.straight_code.specs.Evaluating.{current_operand}
+use Rattle.straight_code.proofs.Typing.{source_more}
 use Rattle.code_following.specs.Typed.{Types, source_type, last_type, operand_type, value_type, IsTypedSource}
 use Rattle.code_following.specs.Typed.{IsTypedOperand, IsTypedOperation, AreTyped, IsTypedFinal, IsTypedNext, IsTypedBlock}
 use Rattle.block_merge.specs.Joined.{later, moved_source, moved, moved_operation, moved_final, moved_next, joined, left_in, there, AreLeft, AreWithin}
@@ -40,12 +41,6 @@ last_both ty [] ds = refl
 last_both ty (c ∷ cs) ds = last_both c cs ds
 
 module _ (T : Types) where
-  -- behind more operations
-  source_after : (before more : List Operation) (s : Source) → IsTypedSource T before s → IsTypedSource T (before ++ more) s
-  source_after before more (Constant ty v) h = h
-  source_after before more (Variable x ty) h = h
-  source_after before more (Value k ty) h = (h.0, get_left before more k (slice_get_within before k h.0 h.1) ∙ h.1, h.2)
-
   typed_below : (before : List Operation) (o : Operand) → IsTypedOperand T before o → IsBelow (length before) o
   typed_below before o h = by o.source h
     where
@@ -111,7 +106,7 @@ module _ (T : Types) where
         found : (o : Operand) → left_in fs x None ≡ Some o → IsTypedOperand T (first ++ moved_all before) o × (operand_type o ≡ ty)
         found o e =
             let t = left_typed x o e in
-            (source_after first (moved_all before) o.source t.0, let g : Some (operand_type o) ≡ Some ty = sym t.1 ∙ h in cc)
+            (source_more T first (moved_all before) o.source t.0, let g : Some (operand_type o) ≡ Some ty = sym t.1 ∙ h in cc)
 
         by : (c : Option (Option Operand)) → slice_get current x ≡ c → (o : Option Operand) → left_in fs x None ≡ o →
             IsTypedOperand T (first ++ moved_all before) (current_operand c x ty) × (operand_type (current_operand c x ty) ≡ ty)
@@ -159,7 +154,7 @@ module _ (T : Types) where
         (k : ℕ) (f : Final) → slice_get (fs ++ map (moved_final n current) gs) k ≡ Some f → IsTypedFinal T (first ++ moved_all os) f
     finals_typed os gs few finals k f e =
         ⊎_elim
-        (λ h. let t = typed k f h in (source_after first (moved_all os) f.value.source t.0, t.1))
+        (λ h. let t = typed k f h in (source_more T first (moved_all os) f.value.source t.0, t.1))
         (λ h. let g = get_unmapped (moved_final n current) gs h.0 f h.1 in
         let t = finals h.0 g.0 g.1 in
         subst (IsTypedFinal T (first ++ moved_all os)) g.2

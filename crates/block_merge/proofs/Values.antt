@@ -22,11 +22,8 @@ use Rattle.block_ir.specs.Run.{source_value, operand_value, with_value, with_cel
 use Rattle.block_ir.specs.Run.{operation_run, operations_run, finished, leads_to, started, block_run, variables_after, stage_after}
 use Rattle.straight_code.specs.Needs.{IsBelow}
 use Rattle.straight_code.specs.Evaluating.{current_operand}
-use Rattle.straight_code.proofs.Running.{run_append, run_length, operand_stays}
+use Rattle.straight_code.proofs.Running.{run_append, run_length, operand_stays, same_function}
 use Rattle.block_merge.specs.Joined.{later, moved_source, moved, moved_operation, moved_final, moved_next, joined, left_in, there, AreLeft}
-
-pub same_function : (f g : ℕ → ℤ) → ((x : ℕ) → f x ≡ g x) → f ≡ g
-same_function f g h = λ d. λ x. h x d
 
 pub converted_both : (cs ds : List IntegerType) (v : ℤ) → converted (cs ++ ds) v ≡ converted ds (converted cs v)
 converted_both [] ds v = refl

@@ -2,6 +2,7 @@
 use Rattle.std.proofs.Common.{◌≡◌, ℕ, zero, suc, ◌+◌, ◌*◌, ◌≤◌, true, List, [], ◌∷◌, ◌++◌, length, ℤ, Option, Some, refl, sym, ap, None, ◌∙◌, subst, arith, append-nil}
 use Rattle.std.proofs.Common.{length-append}
 use Rattle.std.specs.Prelude.{slice_get}
+use Rattle.std.proofs.lemmas.Option.{slice_get_within}
 use Rattle.lists.proofs.Places.{get_front, set_same}
 use Rattle.hls_ints.specs.Types.{IntegerType}
 use Rattle.c_program.specs.Tree.{Expression, Piece, Statement, Program}
@@ -20,18 +21,18 @@ use Rattle.code_places.specs.declared.targets.Loop.{Loop}
 use Rattle.code_places.specs.declared.lowering.Lowering.{Lowering}
 use Rattle.code_places.specs.Labels.{IsHere}
 use Rattle.straight_code.specs.Typing.{Typing, HasWords, WorksOnValues}
-use Rattle.straight_code.specs.Printing.{HoldWords, word_operands, held_by, PutsValues}
+use Rattle.straight_code.specs.Printing.{HoldWords, word_operands, PutsValues}
 use Rattle.code_following.specs.Following.{reads_of, conversions_of, converted_values, AfterMove, print_formats, AreValues, IsAct, DoesStage, Follows}
 use Rattle.code_places.specs.Resuming.{Keeping, nothing_kept, IsMid, AtFresh, IsSound}
 use Rattle.code_places.specs.Apart.{IsTypedNow, IsGood}
 use Rattle.code_places.specs.Control.{with_label, ActsAt, Whole, IsIn, GoesOn}
 use Rattle.code_places.specs.Doing.{Grows, at_site, OnwardUpTo, Suits, SuitsTyping, Leads}
-use Rattle.straight_code.proofs.Cells.{get_within}
 use Rattle.code_places.proofs.Advancing.{pushed_here}
 use Rattle.code_places.proofs.Opening.{act_open}
 use Rattle.straight_code.proofs.Running.{run_length}
 use Rattle.straight_code.proofs.Puts.{arguments_converted}
 use Rattle.straight_code.proofs.Words.{words_are_values}
+use Rattle.straight_code.specs.Evaluating.{held_by}
 use Rattle.thread_rooms.proofs.Sites.{site_at, conversions_length}
 use Rattle.code_places.proofs.Staying.{anywhere_more, print_typed}
 use Rattle.code_places.proofs.Shapes.{have_homes}
@@ -122,7 +123,7 @@ module _ (P : Program) (format : List Piece) (arguments : List Expression) (old 
     next_here =
         subst (λ (z : Lowering). IsHere z.stages acts.next) (sym acts.same)
         (set_same acts.pushed.labels acts.next (Some (length acts.pushed.places))
-        (get_within acts.pushed.labels acts.next None (act_open (code.Print site operands) mid new acts)))
+        (slice_get_within acts.pushed.labels acts.next None (act_open (code.Print site operands) mid new acts)))
 
     print_acts : (i : ℕ) → i ≤ n → AtFresh W.setting homes (keeping size) i (length acts.mid.stages.stages.items) (Perform offset (Print format) ∷ k)
     print_acts zero le resume variables arrays f fs work stands = tt

@@ -26,10 +26,10 @@ use Rattle.code_places.specs.declared.targets.Back.{Back}
 use Rattle.code_places.specs.declared.stages.Stages.{Stages}
 use Rattle.code_places.specs.declared.lowering.Lowering.{Lowering}
 use Rattle.straight_code.specs.Needs.{IsBelow, AreBelow}
-use Rattle.straight_code.specs.Evaluating.{current_operand, current_value, local_value, Reads}
+use Rattle.straight_code.specs.Evaluating.{current_operand, current_value, local_value, Reads, held_by}
 use Rattle.straight_code.specs.Assigning.{Spares}
 use Rattle.straight_code.specs.Closing.{HasNoted}
-use Rattle.straight_code.specs.Printing.{HoldWords, held_by}
+use Rattle.straight_code.specs.Printing.{HoldWords}
 use Rattle.code_places.specs.Labels.{IsHere, led_next}
 use Rattle.code_places.proofs.Advancing.{pushed_here}
 use Rattle.code_places.specs.Resuming.{HasShape, home_value, in_call, going_again, IsHeld, AreHeld, Keeping, words_held, AllResume, IsMid, InBlock}

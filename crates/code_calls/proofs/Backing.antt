@@ -24,9 +24,9 @@ use Rattle.straight_code.specs.declared.open_block.OpenBlock.{OpenBlock}
 use Rattle.code_places.specs.declared.targets.Back.{Back}
 use Rattle.code_places.specs.declared.lowering.Lowering.{Lowering}
 use Rattle.straight_code.specs.Needs.{IsBelow, AreBelow}
-use Rattle.straight_code.specs.Evaluating.{current_value, with_more, Reads, Evaluates}
+use Rattle.straight_code.specs.Evaluating.{current_value, with_more, Reads, Evaluates, held_by}
 use Rattle.straight_code.specs.Closing.{HasNoted}
-use Rattle.straight_code.specs.Printing.{HoldWords, held_by}
+use Rattle.straight_code.specs.Printing.{HoldWords}
 use Rattle.code_following.specs.Typed.{IsTypedOperand}
 use Rattle.straight_code.specs.Typing.{Typing, IsTypedOpen}
 use Rattle.code_places.specs.Resuming.{in_call, going_again, Keeping, nothing_kept, words_held, IsMid, IsSound}

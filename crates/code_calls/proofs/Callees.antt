@@ -1,7 +1,7 @@
 -- Calls: the step that begins one, the code of the function that is called, and what follows in the caller.
-use Rattle.std.proofs.Common.{◌≡◌, ℕ, zero, suc, ◌+◌, ◌*◌, ◌<◌, ◌≤◌, Bool, true, false, ◌&&◌, List, [], ◌∷◌, ◌++◌, length, map, ℤ, Option, Some, None, refl, sym, ap, ◌∙◌, subst}
+use Rattle.std.proofs.Common.{◌≡◌, ℕ, zero, suc, ◌+◌, ◌*◌, ◌<◌, ◌≤◌, true, false, List, [], ◌∷◌, ◌++◌, length, map, ℤ, Option, Some, None, refl, sym, ap, ◌∙◌, subst}
 use Rattle.std.proofs.Common.{arith, append-nil, length-append}
-use Rattle.std.specs.Prelude.{slice_get, replicate, Contains}
+use Rattle.std.specs.Prelude.{slice_get, Contains}
 use Rattle.std.specs.List.{AllByRecursion}
 use Rattle.hls_ints.specs.Types.{long_int, wrapped}
 use Rattle.c_program.specs.declared.tree.LocalVariable.{LocalVariable}
@@ -22,7 +22,6 @@ use Rattle.straight_code.specs.declared.open_block.OpenBlock.{OpenBlock}
 use Rattle.code_places.specs.declared.lowering.Caller.{Caller as CallerCode}
 use Rattle.code_places.specs.declared.lowering.Lowering.{Lowering}
 use Rattle.straight_code.specs.Assigning.{HaveHomes}
-use Rattle.straight_code.specs.Printing.{held_by}
 use Rattle.thread_rooms.specs.declared.rooms.Rooms.{Rooms}
 use Rattle.thread_rooms.specs.Objects.{AreObjects}
 use Rattle.code_places.specs.Labels.{is_used}
@@ -40,10 +39,11 @@ use Rattle.code_calls.specs.Calling.{OpensCall, Calls}
 use Rattle.straight_code.proofs.Running.{run_length}
 use Rattle.straight_code.proofs.Puts.{homes_more}
 use Rattle.straight_code.proofs.Arguments.{passed_none}
-use Rattle.code_places.proofs.Shapes.{have_homes}
+use Rattle.straight_code.specs.Evaluating.{held_by}
+use Rattle.code_places.proofs.Shapes.{have_homes, length_blank, blank_none}
 use Rattle.thread_rooms.proofs.Housed.{local_there}
 use Rattle.code_places.proofs.Weighing.{body_weighs}
-use Rattle.thread_rooms.proofs.Reached.{runs_callee}
+use Rattle.thread_rooms.proofs.Reached.{runs_callee, is_function}
 use Rattle.code_places.proofs.Staying.{anywhere_more, now_more}
 use Rattle.code_places.proofs.Resuming.{Goes, resume_less}
 use Rattle.code_places.proofs.Seating.{callers_kept, seat_on}
@@ -56,22 +56,13 @@ use Rattle.code_places.proofs.Stepping.{block_grows, values_length, call_step_go
 
 -- ---- the locals of a call that begins
 
-blank : (n : ℕ) → length (replicate n (let o : Option ℤ = None in o)) ≡ n
-blank zero = refl
-blank (suc n) = ap suc (blank n)
-
-blank_written : (n i : ℕ) (v : ℤ) → slice_get (replicate n (let o : Option ℤ = None in o)) i ≡ Some (Some v) → ⊥
-blank_written zero i v e = cc
-blank_written (suc n) zero v e = cc
-blank_written (suc n) (suc i) v e = blank_written n i v e
-
 -- the first count locals are scalars
 abbrev pub AreScalars : ℕ → List LocalVariable → Type 0
 AreScalars count locals = (k : ℕ) (l : LocalVariable) → k < count → slice_get locals k ≡ Some l → l.length ≡ 1
 
 pub shape_passed : (locals : List LocalVariable) (vs : List ℤ) → AreScalars (length vs) locals → HasShape locals (fresh_locals locals vs)
 shape_passed [] vs scalars = refl
-shape_passed (l ∷ ls) [] scalars = ap (λ n. n ∷ map length (fresh_locals ls [])) (blank l.length) ∙ ap (λ ns. l.length ∷ ns) (shape_passed ls [] (λ k d lt at. absurd (omega arith)))
+shape_passed (l ∷ ls) [] scalars = ap (λ n. n ∷ map length (fresh_locals ls [])) (length_blank l.length) ∙ ap (λ ns. l.length ∷ ns) (shape_passed ls [] (λ k d lt at. absurd (omega arith)))
 shape_passed (l ∷ ls) (v ∷ vs) scalars =
     ap (λ n. n ∷ map length (fresh_locals ls vs)) (let one = scalars 0 l (omega arith) refl in sym one)
     ∙ ap (λ ns. l.length ∷ ns) (shape_passed ls vs (λ k d lt at. scalars (suc k) d (omega arith) at))
@@ -108,7 +99,7 @@ passed_there size held arrays (l ∷ ls) (h ∷ room) [] scalars homed no_array 
     by (passed_there size held arrays ls room [] (λ k d lt at. absurd (omega arith)) (λ x d at. homed (suc x) d at) (λ x d at. no_array (suc x) d at) (passed_none held room ls))
   where
     by : StandThere room held arrays (fresh_locals ls []) → StandThere (h ∷ room) held arrays (fresh_locals (l ∷ ls) [])
-    by rest zero j v e = absurd (blank_written l.length j v e)
+    by rest zero j v e = absurd (blank_none l.length j v e)
     by rest (suc x) j v e = rest x j v e
 passed_there size held arrays (l ∷ ls) (h ∷ room) (v ∷ vs) scalars homed no_array passed =
     by (passed_there size held arrays ls room vs (λ k d lt at. scalars (suc k) d (omega arith) at) (λ x d at. homed (suc x) d at) (λ x d at. no_array (suc x) d at) passed.1)
@@ -128,11 +119,6 @@ locals_passed size held arrays locals room vs scalars homed no_array passed =
     held_there room held arrays (fresh_locals locals vs) (passed_there size held arrays locals room vs scalars homed no_array passed)
 
 -- ---- functions of a program
-
-pub function_in : (P : Program) (fs : List Function) (n : ℕ) (f : Function) → AllByRecursion (IsFunction P) fs → slice_get fs n ≡ Some f → IsFunction P f
-function_in P [] n f all at = absurd cc
-function_in P (g ∷ gs) zero f all at = subst (IsFunction P) (let same : g ≡ f = cc in same) all.0
-function_in P (g ∷ gs) (suc n) f all at = function_in P gs n f all.1 at
 
 waiting_more : (P : Program) (root : ℕ) (H : Rooms) (rank : ℕ → ℕ) (low high : ℕ) → rank low < rank high → (cs : List Caller) → AllByRecursion (IsWaiting P root H rank high) cs →
     AllByRecursion (IsWaiting P root H rank low) cs
@@ -231,7 +217,7 @@ module _ (P : Program) (g : ℕ) (es : List Expression) (old begun_ : Lowering) 
       words = seated.words g function at_function;
       good = begun_good size good;
       in_loop = false;
-      resolved = (function_in S.program S.program.functions g function seated.resolved.functions at_function).body;
+      resolved = (is_function S.program S.program.functions g function seated.resolved.functions at_function).body;
       sites = subst (HasSites S.program function.body) (sym (site_is seated.housing seated.rooms)) (seated.housed.sites g function at_function);
       calls = λ h c. c;
     }
@@ -339,7 +325,7 @@ module _ (P : Program) (g : ℕ) (es : List Expression) (old new : Lowering) (ca
     runs = runs_callee Q seated.root W.setting.number g seated.runs (record { code = W.setting.function; found = seated.found; called = calls })
 
     is : IsFunction Q call.function
-    is = function_in Q Q.functions g call.function seated.resolved.functions found
+    is = is_function Q Q.functions g call.function seated.resolved.functions found
 
     room_is : call.opens.room ≡ homes_in seated.housing g
     room_is = room_in P g es old call.begun call.function call.found call.caller call.opens on seated.housing seated.rooms

@@ -25,10 +25,10 @@ use Rattle.code_places.specs.declared.targets.Loop.{Loop}
 use Rattle.straight_code.specs.declared.open_block.OpenBlock.{OpenBlock}
 use Rattle.code_places.specs.declared.lowering.Lowering.{Lowering}
 use Rattle.straight_code.specs.Needs.{IsBelow, AreBelow}
-use Rattle.straight_code.specs.Evaluating.{current_operand, Holds}
+use Rattle.straight_code.specs.Evaluating.{current_operand, Holds, held_by}
 use Rattle.straight_code.specs.Assigning.{HaveHomes, IsThere, memory_after, writes_of, Assigned}
 use Rattle.straight_code.specs.Closing.{HasNoted}
-use Rattle.straight_code.specs.Printing.{HoldWords, held_by}
+use Rattle.straight_code.specs.Printing.{HoldWords}
 use Rattle.code_following.specs.Typed.{IsTypedOperand}
 use Rattle.straight_code.specs.Typing.{Typing, Fits, IsTypedOpen, Works}
 use Rattle.thread_rooms.specs.Housing.{AreHomes}

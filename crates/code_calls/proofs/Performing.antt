@@ -1,6 +1,7 @@
 -- A pthread call: the step that evaluates its operands, and the act.
 use Rattle.std.proofs.Common.{◌≡◌, ℕ, zero, suc, ◌+◌, ◌≤◌, true, List, [], ◌∷◌, ◌++◌, length, ℤ, Option, Some, refl, sym, ap, None, ◌∙◌, subst, arith, append-nil}
 use Rattle.std.proofs.Common.{length-append}
+use Rattle.std.proofs.lemmas.Option.{slice_get_within}
 use Rattle.lists.proofs.Places.{get_front, set_same}
 use Rattle.c_program.specs.Tree.{ThreadCall, Statement, Program}
 use Rattle.thread_semantics.specs.Memory.{Memory, Evaluation, Gives, Fails}
@@ -18,9 +19,8 @@ use Rattle.code_following.proofs.Operands.{operands_fit}
 use Rattle.thread_rooms.specs.declared.objects.Objects.{Objects}
 use Rattle.straight_code.specs.declared.homes.Home.{Home}
 use Rattle.straight_code.specs.declared.open_block.OpenBlock.{OpenBlock}
-use Rattle.straight_code.specs.Printing.{held_by}
-use Rattle.straight_code.proofs.Cells.{get_within}
 use Rattle.straight_code.proofs.Running.{run_length}
+use Rattle.straight_code.specs.Evaluating.{held_by}
 use Rattle.code_places.specs.declared.lowering.Lowering.{Lowering}
 use Rattle.code_places.specs.Labels.{IsHere}
 use Rattle.code_places.specs.Resuming.{Keeping, nothing_kept, IsMid, AtFresh, IsSound}
@@ -119,7 +119,7 @@ module _ (P : Program) (call : ThreadCall) (old mid new : Lowering) (b : OpenBlo
     next_here =
         subst (λ (z : Lowering). IsHere z.stages acts.next) (sym acts.same)
         (set_same acts.pushed.labels acts.next (Some (length acts.pushed.places))
-        (get_within acts.pushed.labels acts.next None (act_open code_act mid new acts)))
+        (slice_get_within acts.pushed.labels acts.next None (act_open code_act mid new acts)))
 
     call_acts : (i : ℕ) → i ≤ n → AtFresh W.setting homes keeping i (length acts.mid.stages.stages.items) (Perform offset (act_of call) ∷ k)
     call_acts zero le resume variables arrays f fs work stands = tt

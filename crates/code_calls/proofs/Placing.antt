@@ -2,6 +2,7 @@
 use Rattle.std.proofs.Common.{◌≡◌, ℕ, zero, suc, ◌+◌, ◌^◌, ◌<◌, ◌≤◌, List, [], ◌∷◌, ℤ, Option, Some, None, refl, sym, ap, arith, sum_by, take}
 use Rattle.std.specs.Prelude.{slice_get}
 use Rattle.std.proofs.lemmas.List.Sums.{sum_by-cons}
+use Rattle.std.proofs.lemmas.Option.{slice_get_within}
 use Rattle.c_program.specs.declared.tree.ThreadObject.{ThreadObject}
 use Rattle.c_program.specs.declared.tree.MutexObject.{MutexObject}
 use Rattle.c_program.specs.declared.tree.BarrierObject.{BarrierObject}
@@ -13,7 +14,6 @@ use Rattle.thread_semantics.specs.Memory.{Location, Memory, Gives}
 use Rattle.thread_semantics.specs.Value.{value, values}
 use Rattle.thread_semantics.specs.Move.{object_number, alone, operands_of, first_thread, first_mutex, first_barrier}
 use Rattle.thread_rooms.specs.declared.objects.Objects.{Objects}
-use Rattle.straight_code.proofs.Cells.{get_within}
 use Rattle.thread_rooms.specs.Objects.{AreObjects, number_there, first_in}
 use Rattle.code_calls.specs.Acts.{number_expression, operand_expressions}
 use Rattle.code_calls.proofs.Numbering.{place_length, number_value, one_value, two_values}
@@ -43,7 +43,7 @@ module _ (P : Program) (f : Function) (o : Objects) (are : AreObjects P o) (plac
           let count : a.length ≡ place_length place = cc in
           let total = total_within (λ (z : ThreadObject). z.length) P.threads (object_of place) a e in
           record {
-            number = ap number_there (are.threads (object_of place) (get_within P.threads (object_of place) a e));
+            number = ap number_there (are.threads (object_of place) (slice_get_within P.threads (object_of place) a e));
             below = omega (arith, count, total);
           }
 
@@ -56,7 +56,7 @@ module _ (P : Program) (f : Function) (o : Objects) (are : AreObjects P o) (plac
           let count : a.length ≡ place_length place = cc in
           let total = total_within (λ (z : MutexObject). z.length) P.mutexes (object_of place) a e in
           record {
-            number = ap number_there (are.mutexes (object_of place) (get_within P.mutexes (object_of place) a e));
+            number = ap number_there (are.mutexes (object_of place) (slice_get_within P.mutexes (object_of place) a e));
             below = omega (arith, count, total);
           }
 
@@ -69,7 +69,7 @@ module _ (P : Program) (f : Function) (o : Objects) (are : AreObjects P o) (plac
           let count : a.length ≡ place_length place = cc in
           let total = total_within (λ (z : BarrierObject). z.length) P.barriers (object_of place) a e in
           record {
-            number = ap number_there (are.barriers (object_of place) (get_within P.barriers (object_of place) a e));
+            number = ap number_there (are.barriers (object_of place) (slice_get_within P.barriers (object_of place) a e));
             below = omega (arith, count, total);
           }
 

@@ -20,9 +20,9 @@ use Rattle.thread_rooms.specs.declared.objects.Objects.{Objects}
 use Rattle.straight_code.specs.declared.homes.Home.{Home}
 use Rattle.straight_code.specs.declared.open_block.OpenBlock.{OpenBlock}
 use Rattle.straight_code.specs.Needs.{plain, IsConverted, AreBelow}
-use Rattle.straight_code.specs.Evaluating.{current_value, with_more, Evaluates}
+use Rattle.straight_code.specs.Evaluating.{current_value, with_more, Evaluates, held_by}
 use Rattle.straight_code.specs.Assigning.{StoresVariable}
-use Rattle.straight_code.specs.Printing.{converted_argument, held_by}
+use Rattle.straight_code.specs.Printing.{converted_argument}
 use Rattle.straight_code.proofs.Running.{parts, current_kept, run_append, run_length, reads_none, reads_both}
 use Rattle.straight_code.proofs.Values.{constant_at, cast_at, binary_at}
 use Rattle.straight_code.proofs.Steps.{gives_is}

@@ -18,10 +18,10 @@ use Rattle.thread_rooms.specs.declared.objects.Objects.{Objects}
 use Rattle.straight_code.specs.declared.homes.Home.{Home}
 use Rattle.straight_code.specs.declared.open_block.OpenBlock.{OpenBlock}
 use Rattle.straight_code.specs.Needs.{AreBelow}
-use Rattle.straight_code.specs.Evaluating.{Holds, Reads}
+use Rattle.straight_code.specs.Evaluating.{Holds, Reads, held_by}
 use Rattle.straight_code.specs.Assigning.{HaveHomes, Spares}
 use Rattle.straight_code.specs.Closing.{HasNoted}
-use Rattle.straight_code.specs.Printing.{held_by, PutsValue}
+use Rattle.straight_code.specs.Printing.{PutsValue}
 use Rattle.straight_code.specs.Typing.{Typing, HasWords, Works, WorksOnValue}
 use Rattle.thread_rooms.specs.Objects.{AreObjects, first_in}
 use Rattle.thread_rooms.specs.Values.{operand_count}

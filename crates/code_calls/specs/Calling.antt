@@ -1,5 +1,5 @@
 -- Calls of functions, and returns.
-use Rattle.std.specs.Prelude.{◌≡◌, ℕ, suc, ◌^◌, ◌<◌, true, false, List, length, Some, None, slice_get, slice_set, ◌⊎◌}
+use Rattle.std.specs.Prelude.{◌≡◌, ℕ, suc, ◌^◌, ◌<◌, true, List, length, Some, None, slice_get, slice_set, ◌⊎◌}
 use Rattle.hls_ints.specs.Types.{IntegerType, long_int}
 use Rattle.c_program.specs.declared.tree.ReturnType.{ReturnType}
 use Rattle.c_program.specs.declared.tree.ReturnType.TheVariants.{Void, Integer, Pointer}
@@ -17,7 +17,7 @@ use Rattle.straight_code.specs.Closing.{HasNoted}
 use Rattle.straight_code.specs.Assigning.{Stores, Places}
 use Rattle.thread_rooms.specs.Housing.{homes_there, site_there}
 use Rattle.straight_code.specs.Passing.{Passes, WorksOnArguments}
-use Rattle.code_places.specs.Control.{with_label, Jumps, Begins, EndsCall}
+use Rattle.code_places.specs.Control.{with_label, Jumps, Begins, EndsCall, StaysOff}
 use Rattle.code_places.specs.Doing.{Proceeds, Leads}
 
 abbrev pub return_of : ℕ → Expression → Statement
@@ -66,16 +66,12 @@ abbrev pub ReturnsNothing : Lowering → Lowering → Type 0
 ReturnsNothing old new = EndsOutermost old new ⊎ StepsBack old new
 
 -- the same, where it is reached
-pub record ClosesNot (old new : Lowering) : Type 0 where
-  pub off : old.reached ≡ false
-  pub same : new ≡ old
-
 pub record ClosesThere (old new : Lowering) : Type 0 where
   pub on : old.reached ≡ true
   pub returns : ReturnsNothing old new
 
 abbrev pub Closes : Lowering → Lowering → Type 0
-Closes old new = ClosesNot old new ⊎ ClosesThere old new
+Closes old new = StaysOff old new ⊎ ClosesThere old new
 
 -- the code of a function's body, and its closing brace
 pub record LowersBody (P : Program) (s : Statement) (old new : Lowering) : Type 0 where

@@ -1,5 +1,6 @@
 -- The labels of an if and of loops get their places.
 use Rattle.std.proofs.Common.{◌≡◌, ℕ, suc, ◌<◌, [], ◌∷◌, length, None, sym, ap, ◌∙◌, subst, inl, inr, arith, length-append}
+use Rattle.std.proofs.lemmas.Option.{slice_get_within}
 use Rattle.c_program.specs.Tree.{Condition}
 use Rattle.code_control.specs.declared.branching.ChoiceLabels.{ChoiceLabels}
 use Rattle.code_control.specs.declared.branching.LoopLabels.{LoopLabels}
@@ -10,17 +11,27 @@ use Rattle.code_places.specs.Control.{with_label, Binds, Leaps}
 use Rattle.code_control.specs.Deciding.{Decides}
 use Rattle.code_places.specs.Doing.{Relabels, at_site}
 use Rattle.code_control.specs.Branching.{IsNewLabel, AreTwo, AreChoice, AreLoop, OpensLoop, Asks}
-use Rattle.straight_code.proofs.Cells.{get_within}
 use Rattle.code_places.proofs.Advancing.{None_, advances_refl, labels_more}
 use Rattle.code_places.proofs.Opening.{label_open, begins_advance, binds_advance, leaps_advance}
+use Rattle.code_places.specs.declared.targets.Loop.{Loop}
+
+-- ---- the labels of a loop, of which break and continue know
+
+-- of a while, whose continue goes to its head
+abbrev pub while_labels : LoopLabels → Loop
+while_labels l = record { leaving = l.leaving; turning = l.head }
+
+-- of a do and of a for
+abbrev pub labels_of : LoopLabels → Loop
+labels_of l = record { leaving = l.leaving; turning = l.turning }
 
 -- ---- new labels
 
-new_more : (label : ℕ) (a b c : Lowering) → Advances None_ b.stages c.stages → IsNewLabel label a b → IsNewLabel label a c
+pub new_more : (label : ℕ) (a b c : Lowering) → Advances None_ b.stages c.stages → IsNewLabel label a b → IsNewLabel label a c
 new_more label a b c h n = record { after = n.after; open_ = h.open_ label (λ m. m) n.open_ }
 
 within : (label : ℕ) (a b : Lowering) → IsNewLabel label a b → label < length b.stages.labels
-within label a b n = get_within b.stages.labels label None n.open_
+within label a b n = slice_get_within b.stages.labels label None n.open_
 
 label_advance : (a b : Lowering) → b ≡ with_label a → Advances None_ a.stages b.stages
 label_advance a b is = labels_more a.stages b.stages (ap (λ (z : Lowering). z.stages) is)

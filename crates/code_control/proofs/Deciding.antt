@@ -2,6 +2,7 @@
 use Rattle.std.proofs.Common.{◌≡◌, ℕ, suc, ◌+◌, ◌*◌, ◌<◌, Bool, true, false, not, List, [], ◌∷◌, ◌++◌, length, ℤ, Some, None, refl, sym, ap, ◌∙◌, subst, inl, inr, arith}
 use Rattle.std.proofs.Common.{append-nil}
 use Rattle.std.specs.Prelude.{if◌then◌else◌, slice_get}
+use Rattle.std.proofs.lemmas.Option.{slice_get_within}
 use Rattle.lists.proofs.Places.{get_front}
 use Rattle.hls_ints.specs.Operators.{is_zero}
 use Rattle.c_program.specs.Tree.{Expression, Condition}
@@ -22,21 +23,20 @@ use Rattle.code_following.specs.Following.{reads_of, AfterMove, Follows}
 use Rattle.straight_code.specs.declared.homes.Home.{Home}
 use Rattle.straight_code.specs.declared.open_block.OpenBlock.{OpenBlock}
 use Rattle.code_places.specs.declared.lowering.Lowering.{Lowering}
-use Rattle.straight_code.specs.Evaluating.{local_value, Reads, Evaluates}
+use Rattle.straight_code.specs.Evaluating.{local_value, Reads, Evaluates, held_by}
 use Rattle.straight_code.specs.Closing.{HasNoted, IsFresh}
 use Rattle.code_following.specs.Typed.{IsTypedOperand}
 use Rattle.straight_code.specs.Typing.{Typing, Fits, IsTypedOpen}
 use Rattle.code_places.specs.Apart.{IsTypedNow, IsGood}
-use Rattle.straight_code.specs.Printing.{held_by}
 use Rattle.code_places.specs.Resuming.{nothing_kept, AreHeld, CallersResume, IsMid, Comes, InBlock, IsSound}
 use Rattle.code_places.specs.Labels.{IsHere, led_next, led, with_used, is_used, IsAt, Advances, IsFirst}
 use Rattle.code_places.specs.Control.{marked, Begun, EndsAt, Begins, Branches, Keeps, StaysTyped, with_label, Whole, IsIn, AtLabel, GoesOn}
 use Rattle.code_control.specs.Deciding.{side, Tests, Decides}
 use Rattle.straight_code.proofs.Steps.{hold_on, read_held}
+use Rattle.straight_code.proofs.Running.{same_function}
 use Rattle.code_places.proofs.Controlling.{whole_placed, begin_at, after_held, after_local, whole_pushed, pushed_at, goes_of_in}
-use Rattle.code_places.proofs.Resuming.{same_function, fresh_sound}
+use Rattle.code_places.proofs.Resuming.{fresh_sound}
 use Rattle.code_places.proofs.Staying.{anywhere_more, now_more, ends_typed}
-use Rattle.straight_code.proofs.Cells.{get_within}
 use Rattle.code_places.proofs.Advancing.{None_, advances_both, advances_new, first_after, labels_more, marks, pushes_advance, pushed_here, pushed_is}
 use Rattle.code_places.proofs.Opening.{marks_keep, is_marked, pushed_begun, label_begun, begins_advance}
 use Rattle.code_places.proofs.NewLabel.{label_keeps, goes_before_label}
@@ -342,7 +342,7 @@ module _ (c d : Condition) (next t f x y : ℕ) (old a m b new : Lowering) (numb
   all_advances : Advances None_ old.stages new.stages
   all_advances =
       advances_new None_ (λ other. other ≡ next) old.stages m.stages new.stages (advances_both None_ old.stages a.stages m.stages old_a first.advances) m_new
-      (λ other e o. absurd (let lt = get_within old.stages.labels other None o in omega (arith, lt, e, number)))
+      (λ other e o. absurd (let lt = slice_get_within old.stages.labels other None o in omega (arith, lt, e, number)))
 
   all_first : (start : ℕ) → Begun start old → IsFirst start new.stages
   all_first start begun =
@@ -453,5 +453,3 @@ either_decides e c d next t f old a m b new is number label first begins second 
         AtLabel W homes j (side t next truth) (decided truth (ThenEither d ∷ k))
     by W homes k j on off true = on
     by W homes k j on off false = off
-
-pub ruleset condition_steps = (operand_decides, opposite_decides, both_decides, either_decides)

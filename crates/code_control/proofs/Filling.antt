@@ -29,7 +29,8 @@ use Rattle.straight_code.proofs.Room.{full_more}
 use Rattle.thread_rooms.proofs.Sites.{formats_length, part_sites}
 use Rattle.code_places.proofs.Growing.{grows_refl, grows_both, site_grows, site_typed, label_relabels, begins_shifts, binds_shifts, leaps_shifts}
 use Rattle.code_control.proofs.Growing.{decides_grows}
-use Rattle.code_control.proofs.Nesting.{typing_part, loop_shifts, turn_grows, turn_site, turn_typed, labels_of}
+use Rattle.code_control.proofs.Nesting.{typing_part, loop_shifts, turn_grows, turn_site, turn_typed}
+use Rattle.code_control.proofs.Binding.{labels_of}
 
 -- Conditions.
 

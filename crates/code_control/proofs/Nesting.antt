@@ -1,5 +1,5 @@
 -- Statements with others in them: lists, ifs and loops.
-use Rattle.std.proofs.Common.{◌≡◌, ℕ, zero, suc, ◌+◌, ◌<◌, ◌≤◌, Bool, true, false, ◌&&◌, List, [], ◌∷◌, ◌++◌, Option, Some, None, refl, sym, ap, ◌∙◌, subst, inl, inr, arith}
+use Rattle.std.proofs.Common.{◌≡◌, ℕ, zero, suc, ◌+◌, ◌<◌, ◌≤◌, Bool, true, false, List, [], ◌∷◌, ◌++◌, Option, Some, None, refl, sym, ap, ◌∙◌, subst, inl, inr, arith}
 use Rattle.std.proofs.Common.{append-nil, append_assoc, length-append}
 use Rattle.c_program.specs.Tree.{Condition, Statement, Program}
 use Rattle.std.specs.Prelude.{Contains}
@@ -34,6 +34,7 @@ use Rattle.code_places.proofs.Controlling.{begin_at, begun_idle, begin_goes_on}
 use Rattle.code_places.proofs.Growing.{grows_refl, grows_both, site_grows, site_typed, begins_shifts, begun_reached, binds_shifts, leaps_shifts, goes_relabelled, binds_at}
 use Rattle.code_places.proofs.Growing.{binds_goes, leaps_goes}
 use Rattle.code_control.proofs.Growing.{decides_grows}
+use Rattle.code_control.proofs.Binding.{while_labels, labels_of}
 
 -- ---- parts of statements
 
@@ -404,12 +405,6 @@ module _ (l : LoopLabels) (old new : Lowering) (closes : ClosesTurn l old new) w
 -- the numbers of printf calls say nothing of it
 site_goes : (W : Whole) (homes : List Home) (n : ℕ) (k : List Work) (site : ℕ) (c : Lowering) → OnwardUpTo W homes n (at_site site c) k → OnwardUpTo W homes n c k
 site_goes W homes n k site c g = λ on j le. let h = g on j le in record { fresh = h.fresh; busy = h.busy; here = h.here }
-
-abbrev pub while_labels : LoopLabels → Loop
-while_labels l = record { leaving = l.leaving; turning = l.head }
-
-abbrev pub labels_of : LoopLabels → Loop
-labels_of l = record { leaving = l.leaving; turning = l.turning }
 
 less_label : (W : Whole) (homes : List Home) (n i label : ℕ) (k : List Work) → i ≤ n → AtLabelUpTo W homes n label k → AtLabelUpTo W homes i label k
 less_label W homes n i label k le at = λ j below. at j (omega arith)

@@ -15,16 +15,13 @@ use Rattle.code_places.proofs.Controlling.{open_ended, placed_here}
 use Rattle.code_places.proofs.Growing.{begins_shifts, binds_shifts, leaps_shifts}
 use Rattle.code_control.proofs.Growing.{decides_grows}
 use Rattle.code_places.proofs.Opening.{begins_advance, begins_begun, binds_advance, binds_begun, leaps_advance}
-use Rattle.code_control.proofs.Binding.{begun_new, asks_advance}
+use Rattle.code_control.proofs.Binding.{begun_new, asks_advance, new_more, while_labels, labels_of}
 use Rattle.code_places.proofs.Proceeding.{bound_new, back_after, targets_after, begun_proceeds, reached_begun, advances_same, begun_same}
 
 -- ---- new labels get their places
 
 new_bound : (label other : ℕ) (a b c : Lowering) → (other ≡ label → ⊥) → Advances (λ l. l ≡ label) b.stages c.stages → IsNewLabel other a b → IsNewLabel other a c
 new_bound label other a b c apart h n = record { after = n.after; open_ = h.open_ other apart n.open_ }
-
-new_kept : (label : ℕ) (a b c : Lowering) → Advances None_ b.stages c.stages → IsNewLabel label a b → IsNewLabel label a c
-new_kept label a b c h n = record { after = n.after; open_ = h.open_ label (λ m. m) n.open_ }
 
 -- ---- an if
 
@@ -45,12 +42,12 @@ module _ (d : Condition) (l : ChoiceLabels) (old a : Lowering) (opens : OpensCho
   pub choice_false : IsNewLabel l.if_false old a
   choice_false =
       new_bound l.if_true l.if_false old opens.decided a (λ e. absurd (let lt = opens.labels.first in omega (arith, lt, e))) decided_a
-      (new_kept l.if_false old opens.labelled opens.decided opens.decides.advances opens.labels.if_false)
+      (new_more l.if_false old opens.labelled opens.decided opens.decides.advances opens.labels.if_false)
 
   pub choice_join : IsNewLabel l.join old a
   choice_join =
       new_bound l.if_true l.join old opens.decided a (λ e. absurd (let lt = opens.labels.first in let more = opens.labels.second in omega (arith, lt, more, e))) decided_a
-      (new_kept l.join old opens.labelled opens.decided opens.decides.advances opens.labels.join)
+      (new_more l.join old opens.labelled opens.decided opens.decides.advances opens.labels.join)
 
 choice_back : (d : Condition) (l : ChoiceLabels) (old a : Lowering) → OpensChoice d l old a → a.back ≡ old.back
 choice_back d l old a opens =
@@ -174,12 +171,12 @@ module _ (d : Condition) (l : LoopLabels) (old a : Lowering) (opens : OpensTurn 
   pub turn_turning : IsNewLabel l.turning old a
   turn_turning =
       new_bound l.body l.turning old opens.decided a (λ e. absurd (let lt = opens.opens.labels.second in omega (arith, lt, e))) to_body
-      (new_kept l.turning old opens.begun opens.decided opens.decides.advances (loop_turning l old opens.begun opens.opens))
+      (new_more l.turning old opens.begun opens.decided opens.decides.advances (loop_turning l old opens.begun opens.opens))
 
   pub turn_leaving : IsNewLabel l.leaving old a
   turn_leaving =
       new_bound l.body l.leaving old opens.decided a (λ e. absurd (let lt = opens.opens.labels.second in let more = opens.opens.labels.third in omega (arith, lt, more, e))) to_body
-      (new_kept l.leaving old opens.begun opens.decided opens.decides.advances (loop_leaving l old opens.begun opens.opens))
+      (new_more l.leaving old opens.begun opens.decided opens.decides.advances (loop_leaving l old opens.begun opens.opens))
 
   pub turn_target : IsTarget l.head a.stages
   turn_target = inr (length opens.begun.stages.stages.items, turn_head)
@@ -192,9 +189,6 @@ closes_advance l b new closes =
     advances_label (λ other. other ≡ l.leaving) b.stages closes.mid.stages new.stages (leaps_advance l.head b closes.mid closes.leaps) (binds_advance l.leaving closes.mid new closes.binds)
 
 -- ---- while
-
-abbrev while_labels : LoopLabels → Loop
-while_labels l = record { leaving = l.leaving; turning = l.head }
 
 pub while_targets : (d : Condition) (l : LoopLabels) (old a : Lowering) → OpensTurn d l old a → AreTargets (Some (while_labels l)) a.stages
 while_targets d l old a opens = (inl (turn_leaving d l old a opens).open_, turn_target d l old a opens)
@@ -216,9 +210,6 @@ while_proceeds around inside d l old a b new on opens inner closes =
     (first_after None_ a.stages b.stages start inner.advances (turn_first d l old a opens start begun))))
 
 -- ---- do
-
-abbrev labels_of : LoopLabels → Loop
-labels_of l = record { leaving = l.leaving; turning = l.turning }
 
 pub do_targets : (l : LoopLabels) (old a : Lowering) → OpensLoop l old a → AreTargets (Some (labels_of l)) a.stages
 do_targets l old a opens = (inl (loop_leaving l old a opens).open_, inl (loop_turning l old a opens).open_)

@@ -1,11 +1,11 @@
 -- The parts of an if and of loops.
-use Rattle.std.specs.Prelude.{◌≡◌, ℕ, ◌<◌, ◌≤◌, true, false, length, ◌⊎◌}
+use Rattle.std.specs.Prelude.{◌≡◌, ℕ, ◌<◌, ◌≤◌, true, length, ◌⊎◌}
 use Rattle.c_program.specs.Tree.{Condition}
 use Rattle.code_control.specs.declared.branching.ChoiceLabels.{ChoiceLabels}
 use Rattle.code_control.specs.declared.branching.LoopLabels.{LoopLabels}
 use Rattle.code_places.specs.declared.lowering.Lowering.{Lowering}
 use Rattle.code_places.specs.Labels.{IsOpen}
-use Rattle.code_places.specs.Control.{Begins, Binds, Leaps}
+use Rattle.code_places.specs.Control.{Begins, Binds, Leaps, StaysOff}
 use Rattle.code_control.specs.Deciding.{Decides}
 use Rattle.code_places.specs.Doing.{Relabels}
 
@@ -70,16 +70,12 @@ pub record ClosesTurn (l : LoopLabels) (old new : Lowering) : Type 0 where
   pub leaps : Leaps l.head old mid
   pub binds : Binds l.leaving mid new
 
-pub record AsksNot (old new : Lowering) : Type 0 where
-  pub off : old.reached ≡ false
-  pub same : new ≡ old
-
 pub record AsksThere (d : Condition) (l : LoopLabels) (old new : Lowering) : Type 0 where
   pub on : old.reached ≡ true
   pub decides : Decides d l.head l.leaving old new
 
 abbrev pub Asks : Condition → LoopLabels → Lowering → Lowering → Type 0
-Asks d l old new = AsksNot old new ⊎ AsksThere d l old new
+Asks d l old new = StaysOff old new ⊎ AsksThere d l old new
 
 pub record ClosesDo (d : Condition) (l : LoopLabels) (old new : Lowering) : Type 0 where
   pub turned : Lowering

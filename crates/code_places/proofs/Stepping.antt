@@ -21,11 +21,10 @@ use Rattle.straight_code.specs.declared.open_block.OpenBlock.{OpenBlock}
 use Rattle.code_places.specs.declared.targets.Loop.{Loop}
 use Rattle.code_places.specs.declared.stages.Stages.{Stages}
 use Rattle.code_places.specs.declared.lowering.Lowering.{Lowering}
-use Rattle.straight_code.specs.Evaluating.{Holds}
+use Rattle.straight_code.specs.Evaluating.{Holds, held_by}
 use Rattle.straight_code.specs.Assigning.{HaveHomes, IsThere, memory_after, writes_of, Assigned, Assigns}
 use Rattle.code_places.specs.Labels.{IsHere, is_used}
 use Rattle.straight_code.specs.Typing.{Typing}
-use Rattle.straight_code.specs.Printing.{held_by}
 use Rattle.code_following.specs.Following.{reads_of, AfterMove, IsEnd, DoesStage, Follows}
 use Rattle.code_places.specs.Resuming.{HasShape, Caller, in_call, Keeping, nothing_kept, AreHeld, CallersResume, IsMid, InBlock, AtFresh, IsSound}
 use Rattle.code_places.specs.Apart.{IsTypedNow, IsGood}

@@ -15,9 +15,9 @@ use Rattle.straight_code.specs.declared.homes.Home.{Home}
 use Rattle.straight_code.specs.declared.homes.Home.TheVariants as home
 use Rattle.straight_code.specs.declared.open_block.OpenBlock.{OpenBlock}
 use Rattle.straight_code.specs.Needs.{AreBelow}
-use Rattle.straight_code.specs.Evaluating.{Holds}
+use Rattle.straight_code.specs.Evaluating.{Holds, held_by}
 use Rattle.straight_code.specs.Closing.{HasNoted, IsFresh}
-use Rattle.straight_code.specs.Printing.{HoldWords, held_by}
+use Rattle.straight_code.specs.Printing.{HoldWords}
 
 -- a call's locals have as many elements as they were declared with
 abbrev pub HasShape : List LocalVariable → List (List (Option ℤ)) → Type 0

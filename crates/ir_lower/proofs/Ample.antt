@@ -2,7 +2,8 @@
 use Rattle.std.proofs.Common.{◌≡◌, ℕ, ◌+◌, ◌<◌, ◌≤◌, false, [], ◌++◌, length, map, replicate, Option, Some, None, refl, sym, ap, ◌∙◌, subst, arith, inl}
 use Rattle.std.specs.Prelude.{slice_get, Contains}
 use Rattle.std.proofs.lemmas.List.{length-map}
-use Rattle.lists.proofs.Places.{get_front}
+use Rattle.std.proofs.lemmas.Option.{slice_get_within}
+use Rattle.lists.proofs.Places.{get_front, get_mapped}
 use Rattle.hls_ints.specs.Types.{long_int}
 use Rattle.c_program.specs.declared.tree.LocalVariable.{LocalVariable}
 use Rattle.c_program.specs.declared.tree.Function.{Function as FunctionTree}
@@ -31,16 +32,15 @@ use Rattle.code_places.specs.Doing.{Shifts, SuitsTyping, IsNew, Starts}
 use Rattle.straight_code.specs.Room.{IsFull}
 use Rattle.code_places.specs.Needing.{needed, IsFullFor}
 use Rattle.ir_lower.specs.Codes.{function_needs}
-use Rattle.straight_code.proofs.Cells.{get_within}
 use Rattle.straight_code.proofs.Room.{full_more}
 use Rattle.code_places.proofs.Staying.{fresh_typed, words_less}
 use Rattle.code_places.proofs.Resuming.{fresh_sound}
 use Rattle.code_places.proofs.Growing.{shifts_both, begins_shifts}
 use Rattle.code_places.proofs.Weighing.{body_weighs}
-use Rattle.code_calls.proofs.Callees.{function_in}
-use Rattle.ir_lower.proofs.Whole.{get_map, get_none, values_among, word_at}
+use Rattle.ir_lower.proofs.Whole.{get_none, values_among, word_at}
 use Rattle.ir_lower.proofs.Roots.{thread_function, holds_of}
 use Rattle.thread_rooms.proofs.Sites.{formats_count}
+use Rattle.thread_rooms.proofs.Reached.{is_function}
 
 -- a thread function, whose code begins
 module _ (p : ProgramTree) (r : ℕ) (f : FunctionTree) (at : slice_get p.functions.items r ≡ Some f) (H : Rooms) (first begun : Lowering) (start : ℕ)
@@ -56,10 +56,10 @@ module _ (p : ProgramTree) (r : ℕ) (f : FunctionTree) (at : slice_get p.functi
   size = length H.variables
 
   found : slice_get P.functions r ≡ Some (function_of f)
-  found = get_map function_of p.functions.items r f at
+  found = get_mapped function_of p.functions.items r f at
 
   is : IsFunction P (function_of f)
-  is = function_in P P.functions r (function_of f) resolved.functions found
+  is = is_function P P.functions r (function_of f) resolved.functions found
 
   runs : Runs P r r
   runs = inl refl
@@ -149,7 +149,7 @@ module _ (p : ProgramTree) (r : ℕ) (f : FunctionTree) (at : slice_get p.functi
     where
       low : (acyclic : IsAcyclic P.functions) (g : ℕ) → Contains (calls_of body) g → acyclic.rank g < depth
       low acyclic g called =
-          let below = acyclic.below r (get_within P.functions r (function_of f) found) in
+          let below = acyclic.below r (slice_get_within P.functions r (function_of f) found) in
           let falls = acyclic.falls r g (record { code = function_of f; found = found; called = called }) in
           let long = length-map p.functions.items function_of in
           omega (arith, below, falls, deep, long)

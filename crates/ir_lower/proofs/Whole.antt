@@ -5,7 +5,7 @@ use Rattle.std.specs.List.{AllByRecursion}
 use Rattle.std.proofs.lemmas.Bool.Decides.{eqb_tells}
 use Rattle.std.specs.Prelude.{slice_get, slice_index, string_bytes, Contains, ◌⊎◌}
 use Rattle.std.proofs.lemmas.List.{length-map, length-replicate}
-use Rattle.lists.proofs.Places.{get_front, copies_there}
+use Rattle.lists.proofs.Places.{get_front, copies_there, get_mapped}
 use Rattle.hls_ints.specs.Types.{IntegerType, long_int, wrapped}
 use Rattle.straight_code.specs.Passing.{IsPassed, ArePassed}
 use Rattle.block_ir.specs.Run.{Cells}
@@ -35,6 +35,7 @@ use Rattle.thread_rooms.specs.declared.rooms.Rooms.{Rooms}
 use Rattle.thread_rooms.specs.Housing.{IsHomeOf, homes_in, Runs, types_in, IsHousing}
 use Rattle.thread_rooms.specs.Objects.{AreObjects}
 use Rattle.thread_rooms.specs.Values.{most_values, all_values}
+use Rattle.thread_rooms.proofs.Reached.{is_function}
 use Rattle.code_places.specs.Weighing.{inlined_weight}
 use Rattle.code_following.specs.Typed.{types_of, IsTypedStage, BeginsWith, IsNameIfAny, IsTypedCode, IsThreadCode}
 use Rattle.code_following.proofs.Arguments.{none_given, none_named}
@@ -45,16 +46,11 @@ use Rattle.code_places.proofs.Controlling.{led_length, begin_at, begun_idle}
 use Rattle.code_places.proofs.Growing.{grows_both, shifts_both, begins_shifts, begun_reached}
 use Rattle.code_places.proofs.Seating.{seat_on}
 use Rattle.code_calls.proofs.Backing.{closes_shifts, closes_goes}
-use Rattle.code_calls.proofs.Callees.{AreScalars, shape_passed, locals_passed, function_in}
+use Rattle.code_calls.proofs.Callees.{AreScalars, shape_passed, locals_passed}
 use Rattle.code_places.proofs.Weighing.{body_weighs}
 use Rattle.code_places.proofs.Shapes.{shape_fresh, nothing_written}
 use Rattle.straight_code.proofs.Arguments.{passed_none}
 use Rattle.ir_lower.proofs.Roots.{thread_function, function_weighs}
-
-pub get_map : {A B : Type 0} (g : A → B) (xs : List A) (n : ℕ) (x : A) → slice_get xs n ≡ Some x → slice_get (map g xs) n ≡ Some (g x)
-get_map g [] n x at = absurd cc
-get_map g (y ∷ ys) zero x at = ap (λ z. Some (g z)) (let same : y ≡ x = cc in same)
-get_map g (y ∷ ys) (suc n) x at = get_map g ys n x at
 
 pub get_none : {A B : Type 0} (g : A → B) (xs : List A) (n : ℕ) → slice_get xs n ≡ None → slice_get (map g xs) n ≡ None
 get_none g [] n at = refl
@@ -148,7 +144,7 @@ module _ (p : ProgramTree) (r : ℕ) (code : ThreadCode) (made : IsCodeOf p r co
   size = length H.variables
 
   found : slice_get P.functions r ≡ Some (function_of f)
-  found = get_map function_of p.functions.items r f made.at
+  found = get_mapped function_of p.functions.items r f made.at
 
   leads : Leads P None body made.begun made.lowered
   leads = made.lowers
@@ -187,7 +183,7 @@ module _ (p : ProgramTree) (r : ℕ) (code : ThreadCode) (made : IsCodeOf p r co
 
   module _ (resolved : IsResolved P) (among : Contains (thread_functions P) r) where
     is : IsFunction P (function_of f)
-    is = function_in P P.functions r (function_of f) resolved.functions found
+    is = is_function P P.functions r (function_of f) resolved.functions found
 
     housed : IsHousing P r H
     housed = made.housed resolved

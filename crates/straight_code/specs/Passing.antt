@@ -14,10 +14,10 @@ use Rattle.straight_code.specs.declared.homes.Home.{Home}
 use Rattle.straight_code.specs.declared.homes.Home.TheVariants as home
 use Rattle.straight_code.specs.declared.open_block.OpenBlock.{OpenBlock}
 use Rattle.straight_code.specs.Needs.{AreBelow}
-use Rattle.straight_code.specs.Evaluating.{Holds, Reads}
+use Rattle.straight_code.specs.Evaluating.{Holds, Reads, held_by}
 use Rattle.straight_code.specs.Closing.{HasNoted}
 use Rattle.straight_code.specs.Typing.{Typing, IsTypedHome, Works}
-use Rattle.straight_code.specs.Assigning.{HaveHomes, StoresVariable, Spares, now_held}
+use Rattle.straight_code.specs.Assigning.{HaveHomes, StoresVariable, Spares}
 
 -- a value goes there
 abbrev pub PutsThere : Home → IntegerType → Operand → OpenBlock → OpenBlock → Type 0
@@ -46,8 +46,8 @@ pub record Passed (homes room : List Home) (locals : List LocalVariable) (before
     (ls : List Location) : Type 0 where
   pub reads : Reads r s ls
   pub holds : Holds homes current variables m s
-  pub passed : ArePassed (now_held current variables s.values) room locals vs
-  pub spares : (size : ℕ) → Spares room size (now_held before variables r.values) (now_held current variables s.values) r.arrays s.arrays
+  pub passed : ArePassed (held_by current variables s.values) room locals vs
+  pub spares : (size : ℕ) → Spares room size (held_by before variables r.values) (held_by current variables s.values) r.arrays s.arrays
 
 -- operations were added that pass the values of the expressions
 pub record Passes (homes room : List Home) (locals : List LocalVariable) (es : List Expression) (old new : OpenBlock) : Type 0 where

@@ -7,6 +7,7 @@ use Rattle.std.proofs.lemmas.Bool.Decides.{eqb_tells}
 use Rattle.std.proofs.lemmas.List.Elements.{Contains-append_left, Contains-append_right, Contains-append_cases, Contains-push}
 use Rattle.std.proofs.lemmas.List.{length-set, drop_all, length-replicate}
 use Rattle.std.proofs.lemmas.List.Sums.{sum_by-cons, sum_by-le-sum_by}
+use Rattle.std.proofs.lemmas.Option.{slice_get_within}
 use Rattle.lists.proofs.Places.{set_other, set_same, in_one, in_none}
 use Rattle.c_program.specs.declared.tree.LocalVariable.{LocalVariable}
 use Rattle.c_program.specs.Tree.{Function, Program}
@@ -17,7 +18,6 @@ use Rattle.c_program.specs.Resolved.{IsFunction, IsResolved}
 use Rattle.thread_rooms.specs.Reaching.{has, callees, mark_all, mark_from, marks_of, kept, with_marks}
 use Rattle.thread_rooms.specs.Locals.{all_locals}
 use Rattle.thread_rooms.specs.Housing.{Runs}
-use Rattle.straight_code.proofs.Cells.{get_within}
 
 -- ---- marks
 
@@ -25,7 +25,7 @@ has_within : (marks : List Bool) (g : ℕ) → has marks g ≡ true → g < leng
 has_within marks g e = by (slice_get marks g) refl
   where
     by : (o : Option Bool) → slice_get marks g ≡ o → g < length marks
-    by (Some b) at = get_within marks g b at
+    by (Some b) at = slice_get_within marks g b at
     by None at = absurd (let none = ap (λ z. unwrap_or z false) at in cc)
 
 marked_same : (marks : List Bool) (g : ℕ) → g < length marks → has (slice_set marks g true) g ≡ true
@@ -136,15 +136,15 @@ module _ (P : Program) (resolved : IsResolved P) (root : ℕ) (code : Function) 
   all_reached : MarksAll P.functions resolved.acyclic (root ∷ []) (replicate (length P.functions) false) (marks_of P.functions root)
   all_reached =
       from_marked P.functions resolved.acyclic (length P.functions) (replicate (length P.functions) false) root (length-replicate (length P.functions) false)
-      (resolved.acyclic.below root (get_within P.functions root code found))
+      (resolved.acyclic.below root (slice_get_within P.functions root code found))
 
   root_reached : has (marks_of P.functions root) root ≡ true
-  root_reached = all_reached.each root (Contains-push [] root) (get_within P.functions root code found)
+  root_reached = all_reached.each root (Contains-push [] root) (slice_get_within P.functions root code found)
 
   callee_reached : (f g : ℕ) (d : Function) → has (marks_of P.functions root) f ≡ true → Calls P.functions f g → slice_get P.functions g ≡ Some d →
       has (marks_of P.functions root) g ≡ true
   callee_reached f g d e call at =
-      all_reached.marks.closed (λ x y marked c lt. absurd (none_marked (length P.functions) x marked)) f g e call (get_within P.functions g d at)
+      all_reached.marks.closed (λ x y marked c lt. absurd (none_marked (length P.functions) x marked)) f g e call (slice_get_within P.functions g d at)
 
   further_reached : (f g : ℕ) (d : Function) → Reaches P.functions f g → has (marks_of P.functions root) f ≡ true → slice_get P.functions g ≡ Some d →
       has (marks_of P.functions root) g ≡ true
@@ -262,7 +262,7 @@ elements_many (l ∷ ls) all =
     let own = all.0 in
     omega (arith, s, h, own)
 
-is_function : (P : Program) (fs : List Function) (n : ℕ) (f : Function) → AllByRecursion (IsFunction P) fs → slice_get fs n ≡ Some f → IsFunction P f
+pub is_function : (P : Program) (fs : List Function) (n : ℕ) (f : Function) → AllByRecursion (IsFunction P) fs → slice_get fs n ≡ Some f → IsFunction P f
 is_function P [] n f all at = absurd cc
 is_function P (g ∷ gs) zero f all at = subst (IsFunction P) (let same : g ≡ f = cc in same) all.0
 is_function P (g ∷ gs) (suc n) f all at = is_function P gs n f all.1 at

@@ -27,8 +27,9 @@ use Rattle.code_control.proofs.Filling.{behind_more, behind_first}
 use Rattle.code_calls.proofs.Overfull.{call_too_deep, call_unknown, call_body, call_closing, call_for, assigned_for, returned_for, delivery_for, handing_for}
 use Rattle.code_control.proofs.Nesting.{skips, simple_lowers, block_lowers, choice_lowers, while_lowers, do_lowers, for_lowers, via_more, via_last}
 use Rattle.ir_lower.proofs.Stepping.{match_ok, match_err}
-use Rattle.ir_lower.proofs.Whole.{get_map, get_none}
+use Rattle.ir_lower.proofs.Whole.{get_none}
 use Rattle.ir_lower.proofs.statements.+statements.Goals as goal
+use Rattle.lists.proofs.Places.{get_mapped}
 
 pub lower_statement-loop-rest-preserved : goal.lower_statement-loop-rest-preserved
 lower_statement-loop-rest-preserved t c =
@@ -586,7 +587,7 @@ pub lower_call-lower_statement-requires : goal.lower_call-lower_statement-requir
 lower_call-lower_statement-requires t c = (
   (let falls =
       measure_falls (program_of c.args.program.now).functions c.args.number c.args.depth (function_of c.in-Some.function.now)
-      (get_map function_of c.args.program.now.functions.items c.args.number c.in-Some.function.now (ap (λ l. slice_get l c.args.number) (sym c.deref.ensures.value) ∙ sym c.in-Some.ensures))
+      (get_mapped function_of c.args.program.now.functions.items c.args.number c.in-Some.function.now (ap (λ l. slice_get l c.args.number) (sym c.deref.ensures.value) ∙ sym c.in-Some.ensures))
       c.if-depth-eq0.false in
       let now = c.decreases in
       omega (arith, falls, now)),
@@ -620,7 +621,7 @@ lower_call-returns-in_err-lower_statement-clause-full t c =
     let p = err_from_is_err_and c.from_residual-in_err-lower_statement.result c.from_residual-in_err-lower_statement.ensures.1 in
     rw (p.1, p.2)
     (call_body (program_of c.args.program.now) c.args.depth c.args.number (expressions_of c.args.arguments.now) c.args.code.now _ (function_of c.in-Some.function.now)
-    (get_map function_of c.args.program.now.functions.items c.args.number c.in-Some.function.now (ap (λ l. slice_get l c.args.number) (sym c.deref.ensures.value) ∙ sym c.in-Some.ensures))
+    (get_mapped function_of c.args.program.now.functions.items c.args.number c.in-Some.function.now (ap (λ l. slice_get l c.args.number) (sym c.deref.ensures.value) ∙ sym c.in-Some.ensures))
     c.in_ok-caller.caller c.open_call.new.code c.in_ok-caller.ensures.opens c.requires.reached (c.args.depth - 1)
     (let some = c.if-depth-eq0.false in omega (arith, some)) c.in_err-lower_statement.ensures.full)
 
@@ -1082,7 +1083,7 @@ lower_call-returns t c = record {
       (λ closes.
       record {
         function = function_of c.in-Some.function.now;
-        found = get_map function_of c.args.program.now.functions.items c.args.number c.in-Some.function.now (ap (λ l. slice_get l c.args.number) (sym c.deref.ensures.value) ∙ sym c.in-Some.ensures);
+        found = get_mapped function_of c.args.program.now.functions.items c.args.number c.in-Some.function.now (ap (λ l. slice_get l c.args.number) (sym c.deref.ensures.value) ∙ sym c.in-Some.ensures);
         caller = c.in_ok-caller.caller;
         begun = c.open_call.new.code;
         opens = c.in_ok-caller.ensures.opens;
@@ -1095,7 +1096,7 @@ lower_call-returns t c = record {
       IfErr-weaker c.close_call.result _ _
       (λ fault full.
       call_closing (program_of c.args.program.now) c.args.depth c.args.number (expressions_of c.args.arguments.now) c.args.code.now _ (function_of c.in-Some.function.now)
-      (get_map function_of c.args.program.now.functions.items c.args.number c.in-Some.function.now (ap (λ l. slice_get l c.args.number) (sym c.deref.ensures.value) ∙ sym c.in-Some.ensures))
+      (get_mapped function_of c.args.program.now.functions.items c.args.number c.in-Some.function.now (ap (λ l. slice_get l c.args.number) (sym c.deref.ensures.value) ∙ sym c.in-Some.ensures))
       c.in_ok-caller.caller c.open_call.new.code c.in_ok-caller.ensures.opens c.requires.reached c.lower_statement.new.code c.in_ok-lower_statement.ensures.lowers full)
       c.close_call.ensures.full;
 }
