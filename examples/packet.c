@@ -1,0 +1,75 @@
+/* Headers of IPv4 in two stages: one thread sums a header and finds its port, the other counts by port. A mailbox of
+   two entries is handed on at a barrier. */
+#include <pthread.h>
+#include <stdio.h>
+
+#define PACKETS 16
+#define HDR 20
+#define LEN 24
+#define BYTES 384
+
+static unsigned char mem[BYTES];
+static unsigned short sums[2];
+static unsigned short ports[2];
+static pthread_t a, b;
+static pthread_barrier_t step;
+static unsigned good, bad, web, dns, other;
+
+static void *parse(void *arg) {
+  for (int p = 0; p < PACKETS; p++) {
+    unsigned s = 0;
+    for (int i = 0; i < HDR; i += 2)
+      s += (unsigned)mem[p * LEN + i] << 8 | mem[p * LEN + i + 1];
+    while (s >> 16) s = (s & 0xffff) + (s >> 16);
+    sums[p & 1] = (unsigned short)~s;
+    ports[p & 1] = (unsigned short)(mem[p * LEN + 22] << 8 | mem[p * LEN + 23]);
+    pthread_barrier_wait(&step);
+  }
+  return NULL;
+}
+
+static void *classify(void *arg) {
+  for (int p = 0; p < PACKETS; p++) {
+    pthread_barrier_wait(&step);
+    if (sums[p & 1]) { bad++; continue; }
+    good++;
+    unsigned d = ports[p & 1];
+    if (d == 80 || d == 443) web++;
+    else if (d == 53) dns++;
+    else other++;
+  }
+  return NULL;
+}
+
+int main(void) {
+  unsigned r = 1;
+  for (int p = 0; p < PACKETS; p++) {
+    unsigned s = 0;
+    for (int i = 0; i < LEN; i++) {
+      r = r * 1664525u + 1013904223u;
+      mem[p * LEN + i] = r >> 24;
+    }
+    /* every fourth packet keeps a bad sum */
+    if (p % 4 != 3) {
+      mem[p * LEN + 10] = 0;
+      mem[p * LEN + 11] = 0;
+      for (int i = 0; i < HDR; i += 2)
+        s += (unsigned)mem[p * LEN + i] << 8 | mem[p * LEN + i + 1];
+      while (s >> 16) s = (s & 0xffff) + (s >> 16);
+      s = ~s;
+      mem[p * LEN + 10] = s >> 8;
+      mem[p * LEN + 11] = s;
+    }
+    mem[p * LEN + 22] = 0;
+    if (p % 3 == 0) mem[p * LEN + 23] = 80;
+    else if (p % 3 == 1) mem[p * LEN + 23] = 53;
+  }
+  pthread_barrier_init(&step, NULL, 2);
+  pthread_create(&a, NULL, parse, NULL);
+  pthread_create(&b, NULL, classify, NULL);
+  pthread_join(a, NULL);
+  pthread_join(b, NULL);
+  printf("good %u bad %u web %u ", good, bad, web);
+  printf("dns %u other %u\n", dns, other);
+  return 0;
+}
