@@ -1,7 +1,7 @@
 -- The table of a bank keeps the promise of the bank's machine.
-use Rattle.std.proofs.Common.{◌∷◌, ◌++◌, subst, ◌≡◌, ℕ, zero, suc, ◌+◌, ◌-◌, ◌^◌, ◌<◌, ◌≤◌, List, [], length, slice_get, Option, Some, None, Bool, true, false, nat_eq, nat_lt}
+use Rattle.std.proofs.Common.{◌∷◌, ◌++◌, subst, ◌≡◌, ℕ, zero, suc, ◌+◌, ◌-◌, ◌^◌, ◌<◌, ◌≤◌, List, [], length, slice_get, Option, Some, None, true, nat_eq, nat_lt}
 use Rattle.std.proofs.Common.{if◌then◌else◌, refl, sym, ap, ◌∙◌, arith}
-use Rattle.std.specs.Prelude.{◌&&◌, nat_le, slice_index}
+use Rattle.std.specs.Prelude.{◌&&◌, slice_index}
 use Rattle.std.proofs.lemmas.Nat.{pow_pos}
 use Rattle.std.proofs.lemmas.Bool.{lt-ltb, le-leb, eq-eqb}
 use Rattle.std.proofs.lemmas.List.{length-replicate}

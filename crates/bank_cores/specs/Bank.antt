@@ -33,6 +33,9 @@ grants n = at n row.grants
 abbrev pub kept : ℕ → ℕ
 kept n = at n row.kept
 
+abbrev pub next : ℕ → ℕ
+next n = at n row.next
+
 abbrev pub address_chain : ℕ → ℕ
 address_chain n = at n row.address
 
@@ -48,7 +51,7 @@ store_under test address source = record { conditions = test ∷ []; effect = St
 
 -- each register takes its next number, and the granted thread's value is stored where it writes
 abbrev pub statements : ℕ → List Action
-statements n = sets (kept n) (at n row.next) n ++ store_under (end n row.stores) (end n row.address) (end n row.value) ∷ []
+statements n = sets (kept n) (next n) n ++ store_under (end n row.stores) (end n row.address) (end n row.value) ∷ []
 
 abbrev pub memory_of : Shape → Memory
 memory_of s = record { name = bank_name s.name s.number; width = s.width; initial = s.initial }

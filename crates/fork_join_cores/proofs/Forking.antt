@@ -1,5 +1,5 @@
 -- The table of the fork and join core keeps the promise of its machine.
-use Rattle.std.proofs.Common.{◌∷◌, subst, ◌≡◌, ℕ, zero, suc, ◌+◌, ◌^◌, ◌<◌, ◌≤◌, List, [], length, replicate, slice_get, slice_set, Option, Some, None, Bool, true, false}
+use Rattle.std.proofs.Common.{◌∷◌, subst, ◌≡◌, ℕ, zero, suc, ◌+◌, ◌^◌, ◌<◌, List, [], length, replicate, slice_get, slice_set, Option, Some, None, true, false}
 use Rattle.std.proofs.Common.{nat_eq, nat_lt, if◌then◌else◌, refl, sym, ap, ◌∙◌, arith, lit<, add-zero, zero-add}
 use Rattle.std.specs.Prelude.{not, ◌&&◌, slice_index}
 use Rattle.std.proofs.lemmas.List.{length-replicate}
@@ -11,7 +11,6 @@ use Rattle.verilog_meaning.specs.Readings.{Reading, written, action_bytes, initi
 use Rattle.circuit.specs.Rows.{EachOf}
 use Rattle.circuit.specs.Modules.{FitsAction, FitsMemory, Obeys, Agree, Has, HasInput, IsLeaf}
 use Rattle.circuit.specs.Machines.{Grants, IsCore, asked, printed, after_grant}
-use Rattle.circuit.specs.Table.{place}
 use Rattle.circuit.specs.Fits.{is_late_row, fits, Words}
 use Rattle.circuit.proofs.Tables.{Told}
 use Rattle.circuit.proofs.TableRows.{ByRow, IsListed, listed}

@@ -1,5 +1,5 @@
 -- The table of a mutex keeps the promise of the mutex's machine.
-use Rattle.std.proofs.Common.{subst, ◌≡◌, ℕ, zero, suc, ◌+◌, ◌^◌, ◌<◌, ◌≤◌, List, [], slice_get, Option, Some, None, Bool, true, false, nat_eq, nat_lt}
+use Rattle.std.proofs.Common.{subst, ◌≡◌, ℕ, zero, suc, ◌+◌, ◌<◌, ◌≤◌, List, [], slice_get, Option, Some, None, Bool, true, false, nat_eq, nat_lt}
 use Rattle.std.proofs.Common.{if◌then◌else◌, refl, sym, ap, ◌∙◌, arith, add-zero}
 use Rattle.std.specs.Prelude.{◌&&◌}
 use Rattle.std.proofs.lemmas.Option.{none-some}
@@ -13,7 +13,7 @@ use Rattle.circuit.specs.Rows.{EachOf, set_at}
 use Rattle.circuit.specs.Modules.{FitsAction, FitsMemory, Obeys, Agree, Has, HasInput, HasRegister, IsLeaf}
 use Rattle.circuit.specs.Machines.{Grants, IsCore, asked, printed, after_grant}
 use Rattle.circuit.specs.Table.{place}
-use Rattle.circuit.specs.Fits.{is_late_row, registers, fits, Words}
+use Rattle.circuit.specs.Fits.{is_late_row, registers, fits}
 use Rattle.circuit.proofs.Tables.{Told}
 use Rattle.circuit.proofs.TableRows.{ByRow, IsListed, listed}
 use Rattle.circuit.proofs.TableSound as sound
@@ -22,7 +22,7 @@ use Rattle.circuit.proofs.Edges.{one_after, tested, both_bits, a_bit}
 use Rattle.core_states.specs.Machines.{Lock, Unset, Free, Owned, is_owned, lock_eligible, lock_after}
 use Rattle.mutex_cores.specs.declared.mutex.Shape.{Shape}
 use Rattle.mutex_cores.specs.Rows as row
-use Rattle.mutex_cores.specs.Mutex.{first_word, rows, at, owner, grants, chain, statements, IsShape, IsMutex}
+use Rattle.mutex_cores.specs.Mutex.{rows, at, owner, grants, chain, IsShape, IsMutex}
 use Rattle.mutex_cores.specs.Machine.{Ask, ask_of, mutex_machine, mutex_places, first_lock, word_of_lock, Shows, part_place, inputs, is_late}
 use Rattle.mutex_cores.proofs.Locks.{is_taken, word_if, first_is, offered}
 
