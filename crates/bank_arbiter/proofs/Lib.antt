@@ -1,2 +1,3 @@
 pub mod Granting
 pub mod Standing
+pub mod Stateless

@@ -1,18 +1,22 @@
 // The arbiter's module.
 
 ghost use Rattle.std.specs.Prelude.{◌≡◌, ◌≤◌, IfOk};
-ghost use Rattle.circuit.specs.Rows.{laid};
+ghost use Rattle.circuit.specs.Table.{laid};
 ghost use Rattle.circuit.specs.Modules.{IsLeaf};
 ghost use Rattle.circuit.specs.Interfaces.{IsTableModule};
 ghost use Rattle.circuit.specs.Arbitration.{Arbitrates};
 ghost use Rattle.bank_arbiter.specs.Arbiter.{rows, places, inputs, input_widths, output_widths, never, IsArbiter};
 
-use circuit::rows::{Form, Operand, Role, Row, lay};
+use circuit::rows::Role::{Ask, Clock, Grant, Preference, Wire};
+use circuit::table::Form::{Binary, Conditional, Constant, Count, Input, Output, Pair};
+use circuit::table::Operand::{Before, Last, Only, Same};
+use circuit::table::Row::{Chain, Each, One};
+use circuit::table::{Row, lay};
 use netlist::netlist::{Module, Signal};
 use sqlite_items::Items;
 use std::alloc::{AllocError, Global};
 use verilog_tree::name::Identifier;
-use verilog_tree::tree::BinaryOperator;
+use verilog_tree::tree::BinaryOperator::Less;
 
 /// An arbiter of this many threads: it grants the first thread that asks at or after the preferred one, and where there
 /// is none the first of all; it grants none exactly where none asks.
@@ -42,149 +46,60 @@ fn table(alloc: Global, threads: usize) -> Result<Module, AllocError>
     })
 }
 
-/// A thread that asks at or after the preferred one is preferred. Where there is one, the candidates are the preferred
-/// threads, else all that ask; the first candidate is granted.
 fn signals(alloc: Global, threads: usize) -> Result<Items<Signal>, AllocError>
     requires few { threads ≤ 64 }
-    ensures { IfOk result (λ signals. signals ≡ laid 0 (rows threads)) }
+    ensures { IfOk result (λ signals. signals ≡ laid threads rows) }
+{
+    lay(alloc, threads, &rows())
+}
+
+/// The table. A thread that asks at or after the preferred one is preferred. Where there is one, the candidates are the preferred
+/// threads, else all that ask; the first candidate is granted.
+fn rows() -> [Row; 15]
+    ensures { result ≡ rows }
 {
     let preference = 1;
-    let asks = preference + 1;
-    let zeros = asks + threads;
-    let wide = zeros + 1;
-    let none = wide + 1;
-    let one = none + 1;
-    let numbers = one + 1;
-    let earlier = numbers + threads;
-    let preferred = earlier + threads;
-    let any = preferred + threads;
-    let candidates = any + 1 + threads;
-    let taken = candidates + threads;
-    let chosen = taken + 1 + threads;
-    let rows = [
-        Row::One {
-            role: Role::Clock,
-            width: 1,
-            form: Form::Input,
-        },
-        Row::One {
-            role: Role::Preference,
-            width: 6,
-            form: Form::Input,
-        },
-        Row::Each {
-            count: threads,
-            role: Role::Ask,
-            width: 1,
-            form: Form::Input,
-        },
-        Row::One {
-            role: Role::Wire,
-            width: 2,
-            form: Form::Constant { number: 0 },
-        },
-        Row::One {
-            role: Role::Wire,
-            width: 8,
-            form: Form::Pair(
-                Operand::Fixed { place: zeros },
-                Operand::Fixed { place: preference },
-            ),
-        },
-        Row::One {
-            role: Role::Wire,
-            width: 1,
-            form: Form::Constant { number: 0 },
-        },
-        Row::One {
-            role: Role::Wire,
-            width: 1,
-            form: Form::Constant { number: 1 },
-        },
-        Row::Each {
-            count: threads,
-            role: Role::Wire,
-            width: 8,
-            form: Form::Count { first: 0 },
-        },
-        Row::Each {
-            count: threads,
-            role: Role::Wire,
-            width: 1,
-            form: Form::Binary {
-                operator: BinaryOperator::Less,
-                left: Operand::Each { first: numbers },
-                right: Operand::Fixed { place: wide },
-            },
-        },
-        Row::Each {
-            count: threads,
-            role: Role::Wire,
-            width: 1,
-            form: Form::Conditional {
-                condition: Operand::Each { first: earlier },
-                if_true: Operand::Fixed { place: none },
-                if_false: Operand::Each { first: asks },
-            },
-        },
-        Row::One {
-            role: Role::Wire,
-            width: 1,
-            form: Form::Constant { number: 0 },
-        },
-        Row::Each {
-            count: threads,
-            role: Role::Wire,
-            width: 1,
-            form: Form::Conditional {
-                condition: Operand::Each { first: preferred },
-                if_true: Operand::Fixed { place: one },
-                if_false: Operand::Each { first: any },
-            },
-        },
-        Row::Each {
-            count: threads,
-            role: Role::Wire,
-            width: 1,
-            form: Form::Conditional {
-                condition: Operand::Fixed {
-                    place: any + threads,
-                },
-                if_true: Operand::Each { first: preferred },
-                if_false: Operand::Each { first: asks },
-            },
-        },
-        Row::One {
-            role: Role::Wire,
-            width: 1,
-            form: Form::Constant { number: 0 },
-        },
-        Row::Each {
-            count: threads,
-            role: Role::Wire,
-            width: 1,
-            form: Form::Conditional {
-                condition: Operand::Each { first: candidates },
-                if_true: Operand::Fixed { place: one },
-                if_false: Operand::Each { first: taken },
-            },
-        },
-        Row::Each {
-            count: threads,
-            role: Role::Wire,
-            width: 1,
-            form: Form::Conditional {
-                condition: Operand::Each { first: taken },
-                if_true: Operand::Fixed { place: none },
-                if_false: Operand::Each { first: candidates },
-            },
-        },
-        Row::Each {
-            count: threads,
-            role: Role::Grant,
-            width: 1,
-            form: Form::Output(Operand::Each { first: chosen }),
-        },
-    ];
-    lay(alloc, &rows)
+    let asks = 2;
+    let zeros = 3;
+    let wide = 4;
+    let none = 5;
+    let one = 6;
+    let numbers = 7;
+    let earlier = 8;
+    let preferred = 9;
+    let any = 10;
+    let candidates = 11;
+    let taken = 12;
+    let chosen = 13;
+    [
+        One(Clock, 1, Input),
+        One(Preference, 6, Input),
+        Each(Ask, 1, Input),
+        One(Wire, 2, Constant(0)),
+        One(Wire, 8, Pair(Only(zeros), Only(preference))),
+        One(Wire, 1, Constant(0)),
+        One(Wire, 1, Constant(1)),
+        Each(Wire, 8, Count(0)),
+        Each(Wire, 1, Binary(Less, Same(numbers), Only(wide))),
+        Each(Wire, 1, Conditional(Same(earlier), Only(none), Same(asks))),
+        Chain(
+            Wire,
+            1,
+            Constant(0),
+            Conditional(Same(preferred), Only(one), Before(any)),
+        ),
+        Each(Wire, 1, Conditional(Last(any), Same(preferred), Same(asks))),
+        Chain(
+            Wire,
+            1,
+            Constant(0),
+            Conditional(Same(candidates), Only(one), Before(taken)),
+        ),
+        Each(
+            Wire,
+            1,
+            Conditional(Before(taken), Only(none), Same(candidates)),
+        ),
+        Each(Grant, 1, Output(Same(chosen))),
+    ]
 }
