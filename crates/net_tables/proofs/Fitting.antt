@@ -9,7 +9,7 @@ use Rattle.lists.proofs.Places.{get_front, get_middle}
 use Rattle.netlist.specs.declared.netlist.Module.{Module}
 use Rattle.circuit.specs.Modules.{IsLeaf}
 use Rattle.circuit.specs.Interfaces.{first_of}
-use Rattle.circuit.proofs.Growth.{length-laid}
+use Rattle.circuit.proofs.TableRows.{length-laid}
 use Rattle.top_parts.specs.declared.layout.Core.{Core}
 use Rattle.top_wiring.specs.Ports.{EachModule, arbiter_inputs}
 use Rattle.top_wiring.specs.Leaves.{IsThreadLeaf, IsCoreLeaf, IsArbiterLeaf, AreLeaves}
@@ -92,7 +92,7 @@ module _ (t : Table) (has : HasCores t) where
     where
       first : arbiter.grants T ≡ first_of t.arbiter (replicate T 1)
       first =
-          let a = ap length has.granting.table.signals in let b = length-laid 0 (arbiter.rows T) in let c = length-replicate {A = ℕ} T 1 in
+          let a = ap length has.granting.table.signals in let b = length-laid T arbiter.rows in let c = length-replicate {A = ℕ} T 1 in
           omega (arith, a, b, c)
 
   arbiter_leaf : IsArbiterLeaf (layout_of t) arbiter.never t.arbiter
