@@ -3,11 +3,9 @@ use Rattle.std.proofs.Common.{◌≡◌, ℕ, zero, suc, ◌+◌, List, [], ◌�
 use Rattle.netlist.specs.declared.netlist.Signal.{Signal}
 use Rattle.netlist.specs.declared.netlist.Module.{Module}
 use Rattle.verilog_meaning.specs.Cycles.{IsRegister}
-use Rattle.circuit.specs.declared.rows.Form.{Form}
-use Rattle.circuit.specs.declared.rows.Row.{Row}
-use Rattle.circuit.specs.declared.rows.Row.TheVariants as row
-use Rattle.circuit.specs.Rows.{EachOf, spread, source_at, row_end, row_signals, laid, signal_at}
-use Rattle.bank_arbiter.specs.Arbiter.{IsArbiter, rows}
+use Rattle.circuit.specs.Rows.{EachOf, spread}
+use Rattle.bank_arbiter.specs.Arbiter.{IsArbiter}
+use Rattle.bank_arbiter.proofs.Stateless.{no_register}
 use Rattle.top_parts.specs.declared.layout.Layout.{Layout}
 use Rattle.top_parts.specs.declared.wires.Wire.{Wire}
 use Rattle.top_parts.specs.declared.wires.Wire.TheVariants.{Whole, Bit, Port}
@@ -32,33 +30,10 @@ spread_each : (f : ℕ → Signal) (i n : ℕ) → ((k : ℕ) → IsNoRegister (
 spread_each f i zero h = tt
 spread_each f i (suc n) h = (h i, spread_each f (i + 1) n h)
 
--- ---- tables
-
-abbrev IsPlain : Form → Type 0
-IsPlain f = (k : ℕ) → IsRegister (source_at f k) → ⊥
-
-abbrev IsPlainRow : Row → Type 0
-IsPlainRow (row.One r width f) = IsPlain f
-IsPlainRow (row.Each count r width f) = IsPlain f
-
-row_each : (at : ℕ) (r : Row) → IsPlainRow r → EachOf IsNoRegister (row_signals at r)
-row_each at (row.One r width f) h = (h 0, tt)
-row_each at (row.Each count r width f) h = spread_each (λ k. signal_at (at + k) r width f k) 0 count h
-
-table_each : (at : ℕ) (all : List Row) → EachOf IsPlainRow all → EachOf IsNoRegister (laid at all)
-table_each at [] f = tt
-table_each at (r ∷ all) f = joined (row_signals at r) (laid (row_end at r) all) (row_each at r f.0) (table_each (row_end at r) all f.1)
-
-arbiter_rows : (n : ℕ) → EachOf IsPlainRow (rows n)
-arbiter_rows n =
-    let plain : ℕ → ⊥ → ⊥ = λ k i. i in
-    (plain, (plain, (plain, (plain, (plain, (plain, (plain, (plain, (plain, (plain, (plain, (plain, (plain, (plain, (plain, (plain, (plain, tt)))))))))))))))))
+-- ---- the arbiter
 
 pub arbiter_holds : (n : ℕ) (m : Module) → IsArbiter n m → HoldsNothing m
-arbiter_holds n m is = record {
-  registers = λ x s e. one_of (laid 0 (rows n)) x s (table_each 0 (rows n) (arbiter_rows n)) (ap (λ l. slice_get l x) (sym is.signals) ∙ e);
-  memories = is.memories;
-}
+arbiter_holds n m is = record { registers = no_register n m is; memories = is.memories }
 
 -- ---- the outermost module
 
