@@ -1,4 +1,5 @@
 pub mod Family
+pub mod Kinds
 pub mod Laws
 pub use Rattle.fork_join_cores.specs.Forks
 pub use Rattle.fork_join_cores.specs.Machine

@@ -1,4 +1,5 @@
 //! The kinds of cores of a net as one family: banks, mutexes, barriers, the core of the thread ids, the printer.
 #![tactic(auto)]
 
+pub mod cores;
 pub mod law;

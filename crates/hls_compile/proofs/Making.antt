@@ -17,23 +17,23 @@ use Rattle.bank_partition.specs.declared.banks.Spread.{Spread}
 use Rattle.block_refine.specs.Routines.{RoutineCode}
 use Rattle.netlist.specs.declared.netlist.Module.{Module}
 use Rattle.netlist.specs.declared.netlist.Netlist.{Netlist}
-use Rattle.table_text.specs.Wanted.{Wanted}
+use Rattle.table_text.specs.Cores.{Cores}
 use Rattle.thread_numbers.specs.Numbers.{place_in, number_in, module_numbers, has_idle, function_module}
 use Rattle.thread_numbers.proofs.Few.{no_more_modules}
 use Rattle.thread_numbers.proofs.Numbers as numbers
 use Rattle.table_text.specs.Written.{FitsTable, IsTextOf}
 use Rattle.program_cores.specs.Cores.{AreCoresOf}
-use Rattle.thread_bodies.specs.Parts.{code_at, AreBodies, IsGoodText}
-use Rattle.thread_bodies.proofs.Names.{same_function}
-use Rattle.thread_bodies.proofs.Parts.{parts_are_good}
+use Rattle.thread_bodies.specs.Parts.{code_at, thread_module, AreBodies, IsGoodText}
+use Rattle.thread_bodies.proofs.ModuleNames.{same_function}
+use Rattle.thread_bodies.proofs.PartsAreGood.{parts_are_good}
 use Rattle.thread_bodies.specs.PlannedFunction.{PlannedFunction}
 use Rattle.thread_bodies.specs.Plans.{routine_of}
 use Rattle.thread_bodies.specs.Bodies.{shape_of, IsLaid}
-use Rattle.thread_bodies.specs.Modules.{AreLaid, name_of, module_shape, bodies_of}
+use Rattle.thread_bodies.specs.Modules.{AreLaid, module_shape, bodies_of}
 use Rattle.thread_bodies.proofs.Served.{codes_are_served}
 use Rattle.hls_compile.specs.Banks.{AreBanksOf}
 use Rattle.hls_compile.specs.Plans.{RunsPlanned, RunPlanned}
-use Rattle.thread_bodies.proofs.Found.{first_named}
+use Rattle.thread_bodies.proofs.FirstNamed.{first_named}
 
 -- a program within the limits has few threads
 pub few_threads : (P : Program) → first_passed P ≡ None → thread_count P ≤ 64
@@ -46,12 +46,12 @@ code_there (q ∷ plans) zero p e = ap routine_of (same_Some q p e)
 code_there (q ∷ plans) (suc k) p e = code_there plans k p e
 
 -- what is made of a program beside these banks: its cores, and the modules of its threads
-pub record IsMade (P : Program) (spreads : List Spread) (w : Wanted) (plans : List PlannedFunction) (modules : List Module) : Type 0 where
+pub record IsMade (P : Program) (spreads : List Spread) (w : Cores) (plans : List PlannedFunction) (modules : List Module) : Type 0 where
   pub cores : AreCoresOf P spreads w
   pub laid : AreLaid P spreads w (map routine_of plans) (length (thread_functions P) + bit_of (has_idle P)) modules
   pub bodies : AreBodies P spreads w (map routine_of plans) (bodies_of P spreads w (map routine_of plans) modules) modules
 
-module _ (P : Program) (banks : Banks) (w : Wanted) (plans : List PlannedFunction) (modules : List Module) (R : IsResolved P) (limits : first_passed P ≡ None)
+module _ (P : Program) (banks : Banks) (w : Cores) (plans : List PlannedFunction) (modules : List Module) (R : IsResolved P) (limits : first_passed P ≡ None)
     (banked : AreBanksOf P banks) (made : IsMade P banks.spreads.items w plans modules) where
   abbrev FS : List ℕ
   FS = thread_functions P
@@ -136,7 +136,7 @@ module _ (P : Program) (banks : Banks) (w : Wanted) (plans : List PlannedFunctio
 
       laid_there : IsLaid (shape_of P banks.spreads.items w (nat_eq k 0) (function_module P f)) (routine_of p) there.0
       laid_there =
-          subst (λ (o : Option ℕ). IsLaid (shape_of P banks.spreads.items w (nat_eq k 0) (name_of P o)) (routine_of p) there.0) function
+          subst (λ (o : Option ℕ). IsLaid (shape_of P banks.spreads.items w (nat_eq k 0) (thread_module P o)) (routine_of p) there.0) function
           (subst (λ (c : RoutineCode). IsLaid (module_shape P banks.spreads.items w k) c there.0) (code_there plans k p plan) (made.laid.each k there.0 there.1))
 
       pub runs_planned : RunsPlanned P banks.spreads.items w n f p

@@ -8,7 +8,7 @@ use Rattle.global_naming.specs.Naming.{AreCounts}
 use Rattle.netlist.specs.declared.netlist.Module.{Module}
 use Rattle.netlist.specs.declared.netlist.Netlist.{Netlist}
 use Rattle.verilog_meaning.specs.Names.{module_named}
-use Rattle.table_text.specs.Wanted.{Wanted}
+use Rattle.table_text.specs.Cores.{Cores}
 use Rattle.program_cores.specs.Cores.{AreCoresOf}
 use Rattle.thread_numbers.specs.Numbers.{function_module}
 use Rattle.thread_bodies.specs.Thread.{IsServed}
@@ -17,7 +17,7 @@ use Rattle.thread_bodies.specs.Plans.{routine_of, ArePlanned}
 use Rattle.thread_bodies.specs.Bodies.{shape_of, IsLaid}
 
 -- beside these banks and cores, the module `fn_NAME` of the net, NAME being that of the thread function f, runs the function's code by its plan
-pub record RunsPlanned (P : Program) (spreads : List Spread) (w : Wanted) (n : Netlist) (f : ℕ) (p : PlannedFunction) : Type 0 where
+pub record RunsPlanned (P : Program) (spreads : List Spread) (w : Cores) (n : Netlist) (f : ℕ) (p : PlannedFunction) : Type 0 where
   pub module_ : Module
   pub listed : module_named n.modules (function_module P f) ≡ Some module_
   pub served : IsServed (shape_of P spreads w (nat_eq f P.main) (function_module P f)) p.code p.plan
@@ -28,7 +28,7 @@ pub record RunsPlanned (P : Program) (spreads : List Spread) (w : Wanted) (n : N
 pub record RunPlanned (P : Program) (n : Netlist) (plans : List PlannedFunction) : Type 0 where
   pub counts : List ℕ
   pub counted : AreCounts P counts
-  pub cores : Wanted
+  pub cores : Cores
   pub are_cores : AreCoresOf P (spreads_from counts 0 0 P.globals) cores
   pub each : (k f : ℕ) (p : PlannedFunction) → slice_get (thread_functions P) k ≡ Some f → slice_get plans k ≡ Some p →
       RunsPlanned P (spreads_from counts 0 0 P.globals) cores n f p

@@ -33,7 +33,8 @@ use Rattle.planned_threads.specs.Laws.{Stalls, AtAct, Rests_on as Rests_there}
 use Rattle.planned_threads.proofs.Counts.{past_states}
 use Rattle.planned_threads.proofs.Awake.{starts_below}
 use Rattle.planned_threads.proofs.Blocking.{what_blocks}
-use Rattle.net_cycle.specs.Built.{Parts, IsBuilt, numbers_of}
+use Rattle.net_cycle.specs.Built.{Parts, IsBuilt}
+use Rattle.net_cycle.specs.Bodies.{numbers_of}
 use Rattle.net_cycle.specs.Stage.{Stage, look}
 use Rattle.net_cycle.specs.Cycle.{FitsTheory, threads_of, Stalled, NoCore, Refused, Rests_on}
 use Rattle.net_cycle.specs.Clock.{Cycles, cycle, moving, counts, EnablesAll, NetIsClocked}
@@ -73,7 +74,7 @@ blocked_is (Blocks cause) e = refl
 blocked_is (Undefines offset cause) e = absurd cc
 
 module _ (P : Program) (K : Parts) (built : IsBuilt P K) (known : FitsTheory P K built.chain) (cycles : Cycles P K built.chain known) (is_full : Choice → Bool)
-    (full : EnablesAll K.threads is_full) (good : IsGood (c_source P)) where
+    (full : EnablesAll K.cores.threads is_full) (good : IsGood (c_source P)) where
   abbrev M : PlannedThreads
   M = threads_of P K built.chain known
 
@@ -84,7 +85,7 @@ module _ (P : Program) (K : Parts) (built : IsBuilt P K) (known : FitsTheory P K
   moves_now h c = moving P K built.chain known cycles h c
 
   -- where no slot changes nobody moves
-  unmoved : (h : Stage P K) (c : Choice) → ((i : ℕ) → (next h c).slots i ≡ h.slots i) → (i : ℕ) → i < K.threads → moves_now h c i ≡ false
+  unmoved : (h : Stage P K) (c : Choice) → ((i : ℕ) → (next h c).slots i ≡ h.slots i) → (i : ℕ) → i < K.cores.threads → moves_now h c i ≡ false
   unmoved h c same i lt = by (moves_now h c i) refl
     where
       by : (b : Bool) → moves_now h c i ≡ b → b ≡ false
@@ -109,14 +110,14 @@ module _ (P : Program) (K : Parts) (built : IsBuilt P K) (known : FitsTheory P K
 
       -- the slot begins a stage or waits, where it is at a stage that has no block
       no_flight : (plan_of_stage : (plan_at (stage_at K.codes q.routine q.stage) (slice_get (K.codes q.routine).plan.stages q.stage)).states ≡ 0) →
-          Begins (bank_of K.spreads) (hardware_code K.codes built.chain) (around P K.codes (numbers_of K) K.threads) (bound P) (local_of s i) q
-          ⊎ Waits P K.codes (numbers_of K) K.threads (look P K h).cores i (local_of s i) q
+          Begins (bank_of K.spreads) (hardware_code K.codes built.chain) (around P K.codes (numbers_of K.cores) K.cores.threads) (bound P) (local_of s i) q
+          ⊎ Waits P K.codes (numbers_of K.cores) K.cores.threads (look P K h).cores i (local_of s i) q
       no_flight none =
           ⊎_elim (λ rests. rests.2) (λ flies. let lt = flies.flight.inside in absurd (omega (arith, lt, none))) (l.places i)
 
-      blocked : Stalls P K.codes (numbers_of K) K.threads K.spreads built.chain (look P K h).cores i (local_of s i) q → (c_source P).step s i ≡ Blocked
+      blocked : Stalls P K.codes (numbers_of K.cores) K.cores.threads K.spreads built.chain (look P K h).cores i (local_of s i) q → (c_source P).step s i ≡ Blocked
       blocked stalls =
-          what_blocks P K.codes (numbers_of K) K.threads K.spreads built.chain built.resolved (numbers P K built) built.coded s i (look P K h).cores q reached defined
+          what_blocks P K.codes (numbers_of K.cores) K.cores.threads K.spreads built.chain built.resolved (numbers P K built) built.coded s i (look P K h).cores q reached defined
           l.stands stalls
 
       -- at an act
@@ -127,20 +128,20 @@ module _ (P : Program) (K : Parts) (built : IsBuilt P K) (known : FitsTheory P K
         not_past : rest_of K.codes q.routine ≤ q.stage → ⊥
         not_past le = let z = sym listed ∙ slice_get_past (K.codes q.routine).code.stages q.stage le in cc
 
-        not_waiting : Waits P K.codes (numbers_of K) K.threads (look P K h).cores i (local_of s i) q → ⊥
+        not_waiting : Waits P K.codes (numbers_of K.cores) K.cores.threads (look P K h).cores i (local_of s i) q → ⊥
         not_waiting (Absent beyond at) = not_past (omega (arith, at))
         not_waiting (Over main at over) = not_past (omega (arith, at))
         not_waiting (Idle thread own at none status) = not_past (omega (arith, at))
         not_waiting (Handed thread own at r v runs it status argument) = not_past (omega (arith, at))
         not_waiting (Meeting k n b at there meets) = not_past (omega (arith, at))
 
-        begun : Begins (bank_of K.spreads) (hardware_code K.codes built.chain) (around P K.codes (numbers_of K) K.threads) (bound P) (local_of s i) q
+        begun : Begins (bank_of K.spreads) (hardware_code K.codes built.chain) (around P K.codes (numbers_of K.cores) K.cores.threads) (bound P) (local_of s i) q
         begun = ⊎_elim (λ begins. begins) (λ waits. absurd (not_waiting waits)) (no_flight no_plan)
 
-        has_core : core_of (numbers_of K) asks ≡ None → ⊥
+        has_core : core_of (numbers_of K.cores) asks ≡ None → ⊥
         has_core none =
             let serves =
-            all_are_steps P K.codes (numbers_of K) K.threads built.resolved (numbers P K built) s i q.routine q.stage m q.variables q.arrays a asks (look P K h).cores
+            all_are_steps P K.codes (numbers_of K.cores) K.cores.threads built.resolved (numbers P K built) s i q.routine q.stage m q.variables q.arrays a asks (look P K h).cores
             (record { reached = reached; defined = defined; cores = l.stands; starts = begun.starts; listed = listed; asks = is }) in
             let z = sym none ∙ serves.is in
             cc
@@ -155,27 +156,27 @@ module _ (P : Program) (K : Parts) (built : IsBuilt P K) (known : FitsTheory P K
           (λ waits. blocked (Rests_there waits still))
           (no_flight (past_states P K.codes built.chain built.coded.chained q at))
 
-    stuck_all : counts P K built.chain known cycles is_full h c ≡ true → movers (moves_now h c) K.threads 0 ≡ [] → IsStuck (c_source P) s
+    stuck_all : counts P K built.chain known cycles is_full h c ≡ true → movers (moves_now h c) K.cores.threads 0 ≡ [] → IsStuck (c_source P) s
     stuck_all count none i =
         ⊎_elim
-        (λ (lt : i < K.threads). stuck i ((cycles c h).stalls nobody i lt (full c full_now i lt)))
-        (λ (le : K.threads ≤ i). blocked_is (step P s i) ((orderly P built.resolved s reached).beyond i (subst (λ (n : ℕ). n ≤ i) built.threads le)))
-        (cases_lt i K.threads)
+        (λ (lt : i < K.cores.threads). stuck i ((cycles c h).stalls nobody i lt (full c full_now i lt)))
+        (λ (le : K.cores.threads ≤ i). blocked_is (step P s i) ((orderly P built.resolved s reached).beyond i (subst (λ (n : ℕ). n ≤ i) built.threads le)))
+        (cases_lt i K.cores.threads)
       where
-        nobody : (j : ℕ) → j < K.threads → moves_now h c j ≡ false
-        nobody j lt = none_moves (moves_now h c) K.threads 0 none j (omega arith) (omega (arith, lt))
+        nobody : (j : ℕ) → j < K.cores.threads → moves_now h c j ≡ false
+        nobody j lt = none_moves (moves_now h c) K.cores.threads 0 none j (omega arith) (omega (arith, lt))
 
         full_now : is_full c ≡ true
-        full_now = left_true (is_full c) (any_below (moves_now h c) K.threads) count (any_false (moves_now h c) K.threads nobody)
+        full_now = left_true (is_full c) (any_below (moves_now h c) K.cores.threads) count (any_false (moves_now h c) K.cores.threads nobody)
 
 pub net_is_clocked : NetIsClocked
 net_is_clocked P K built known cycles is_full full good = record {
   chain = λ L h c l. (
-    movers (moving P K built.chain known cycles h c) K.threads 0,
-    is_chain (threads_of P K built.chain known) (look P K h) (look P K (cycle P K built.chain known cycles h c)) (cycles c h).grants K.threads (cycles c h).cycle,
+    movers (moving P K built.chain known cycles h c) K.cores.threads 0,
+    is_chain (threads_of P K built.chain known) (look P K h) (look P K (cycle P K built.chain known cycles h c)) (cycles c h).grants K.cores.threads (cycles c h).cycle,
   );
   still = λ L h c l same.
-      movers_none (moving P K built.chain known cycles h c) K.threads 0
+      movers_none (moving P K built.chain known cycles h c) K.cores.threads 0
       (λ i le lt. unmoved P K built known cycles is_full full good h c same i (omega (arith, lt)));
   lively = λ L h c l count none. stuck_all P K built known cycles is_full full good L h c l count none;
 }

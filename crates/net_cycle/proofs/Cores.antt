@@ -10,11 +10,13 @@ use Rattle.bank_cores.specs.Machine.{ask_of, begun}
 use Rattle.mutex_cores.specs.declared.mutex.Shape.{Shape as MutexShape}
 use Rattle.circuit.specs.Machines.{after_grant}
 use Rattle.block_ir.specs.Asked.{mutex_core, barrier_core, ids_core, printer_core}
+use Rattle.core_family.specs.declared.cores.Cores.{Cores}
+use Rattle.core_family.specs.Kinds.{barrier, forks, barrier_shapes, ids_shapes, act_cores, cores_of}
 use Rattle.core_family.specs.Family.{CoreShape, Bank, Mutex, Barrier, Forks, Prints, machine_of, words_of}
 use Rattle.bank_memory.specs.Cycle.{words_after}
 use Rattle.bank_memory.specs.Net.{HasBanks}
 use Rattle.bank_memory.proofs.Partitioned.{there}
-use Rattle.net_cycle.specs.Built.{Parts, barrier_shapes, ids_shapes, act_cores, cores_of, numbers_of, core_at, core_count, core_machine}
+use Rattle.net_cycle.specs.Bodies.{numbers_of, core_at, core_count, core_machine}
 
 -- ---- lists
 
@@ -89,7 +91,7 @@ takes_two (Prints c) = omega arith
 
 -- ---- numbers
 
-module _ (K : Parts) where
+module _ (K : Cores) where
   pub bank_at : (n : ℕ) (b : BankShape) → slice_get K.banks n ≡ Some b → core_at K n ≡ Some (Bank b)
   bank_at n b e = mapped_at Bank K.banks (act_cores K) n b e
 
@@ -104,12 +106,6 @@ module _ (K : Parts) where
     tells = λ n b s i j e. tells_as (core_at K n) b s i j (bank_at n b e);
   }
 
-  abbrev barrier : CoreShape
-  barrier = Barrier (record { threads = K.threads })
-
-  abbrev forks : CoreShape
-  forks = Forks (record { threads = K.threads })
-
   abbrev last_shapes : List CoreShape
   last_shapes = ids_shapes K ++ (Prints K.printer ∷ [])
 
@@ -121,27 +117,27 @@ module _ (K : Parts) where
       let e : length K.banks + length K.mutexes + n ≡ length K.banks + (length K.mutexes + n) = omega arith in
       ap (core_at K) e ∙ mapped_right Bank K.banks (act_cores K) (length K.mutexes + n) ∙ mapped_right Mutex K.mutexes (barrier_shapes K ++ last_shapes) n
 
-  pub barrier_at : (n : ℕ) → n < K.barriers → core_at K (barrier_core (numbers_of K) n) ≡ Some barrier
-  barrier_at n l = at_barriers n ∙ copies_front K.barriers n barrier last_shapes l
+  pub barrier_at : (n : ℕ) → n < K.barriers → core_at K (barrier_core (numbers_of K) n) ≡ Some (barrier K)
+  barrier_at n l = at_barriers n ∙ copies_front K.barriers n (barrier K) last_shapes l
 
   at_last : (n : ℕ) → core_at K (length K.banks + length K.mutexes + K.barriers + n) ≡ slice_get last_shapes n
   at_last n =
       let e : length K.banks + length K.mutexes + K.barriers + n ≡ length K.banks + length K.mutexes + (K.barriers + n) = omega arith in
-      ap (core_at K) e ∙ at_barriers (K.barriers + n) ∙ repeated_right K.barriers barrier last_shapes n
+      ap (core_at K) e ∙ at_barriers (K.barriers + n) ∙ repeated_right K.barriers (barrier K) last_shapes n
 
-  ids_first : (c : Bool) → c ≡ true → slice_get ((if c then forks ∷ [] else []) ++ (Prints K.printer ∷ [])) 0 ≡ Some forks
+  ids_first : (c : Bool) → c ≡ true → slice_get ((if c then (forks K) ∷ [] else []) ++ (Prints K.printer ∷ [])) 0 ≡ Some (forks K)
   ids_first true e = refl
   ids_first false e = absurd cc
 
-  printer_last : (c : Bool) → slice_get ((if c then forks ∷ [] else []) ++ (Prints K.printer ∷ [])) (bit_of c) ≡ Some (Prints K.printer)
+  printer_last : (c : Bool) → slice_get ((if c then (forks K) ∷ [] else []) ++ (Prints K.printer ∷ [])) (bit_of c) ≡ Some (Prints K.printer)
   printer_last true = refl
   printer_last false = refl
 
-  last_length : (c : Bool) → length ((if c then forks ∷ [] else []) ++ (Prints K.printer ∷ [])) ≡ suc (bit_of c)
+  last_length : (c : Bool) → length ((if c then (forks K) ∷ [] else []) ++ (Prints K.printer ∷ [])) ≡ suc (bit_of c)
   last_length true = refl
   last_length false = refl
 
-  pub ids_at : K.ids ≡ true → core_at K (ids_core (numbers_of K)) ≡ Some forks
+  pub ids_at : K.ids ≡ true → core_at K (ids_core (numbers_of K)) ≡ Some (forks K)
   ids_at e =
       let s : ids_core (numbers_of K) ≡ length K.banks + length K.mutexes + K.barriers + 0 = omega arith in
       ap (core_at K) s ∙ at_last 0 ∙ ids_first K.ids e
@@ -154,7 +150,7 @@ module _ (K : Parts) where
   count_is =
       let a = mapped_length Bank K.banks (act_cores K) in
       let b = mapped_length Mutex K.mutexes (barrier_shapes K ++ last_shapes) in
-      let c = repeated_length K.barriers barrier last_shapes in
+      let c = repeated_length K.barriers (barrier K) last_shapes in
       let d = last_length K.ids in
       a ∙ omega (arith, b, c, d)
 
@@ -169,8 +165,8 @@ module _ (K : Parts) where
   pub data Kind (k : ℕ) : Type 0 where
     IsBank : (b : BankShape) (listed : slice_get K.banks k ≡ Some b) (core : core_at K k ≡ Some (Bank b)) → Kind k
     IsMutex : (n : ℕ) (s : MutexShape) (listed : slice_get K.mutexes n ≡ Some s) (at : k ≡ mutex_core (numbers_of K) n) (core : core_at K k ≡ Some (Mutex s)) → Kind k
-    IsBarrier : (n : ℕ) (below : n < K.barriers) (at : k ≡ barrier_core (numbers_of K) n) (core : core_at K k ≡ Some barrier) → Kind k
-    IsForks : (on : K.ids ≡ true) (at : k ≡ ids_core (numbers_of K)) (core : core_at K k ≡ Some forks) → Kind k
+    IsBarrier : (n : ℕ) (below : n < K.barriers) (at : k ≡ barrier_core (numbers_of K) n) (core : core_at K k ≡ Some (barrier K)) → Kind k
+    IsForks : (on : K.ids ≡ true) (at : k ≡ ids_core (numbers_of K)) (core : core_at K k ≡ Some (forks K)) → Kind k
     IsPrinter : (at : k ≡ printer_core (numbers_of K)) (core : core_at K k ≡ Some (Prints K.printer)) → Kind k
     IsPast : (past : core_count K ≤ k) (core : core_at K k ≡ None) → Kind k
 

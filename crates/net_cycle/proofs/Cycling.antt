@@ -45,7 +45,8 @@ use Rattle.net_cycle.specs.Asks.{AsksAct}
 use Rattle.net_cycle.specs.Moved as moved
 use Rattle.net_cycle.specs.Moved.{Moved, IsRefused, Lost, Ungranted}
 use Rattle.net_cycle.proofs.Moving.{core_in_is, beats}
-use Rattle.net_cycle.specs.Built.{Parts, IsBuilt, numbers_of, core_machine, core_count, thread_at}
+use Rattle.net_cycle.specs.Built.{Parts, IsBuilt, thread_at}
+use Rattle.net_cycle.specs.Bodies.{numbers_of, core_machine, core_count}
 use Rattle.net_cycle.specs.Stage.{Stage, cores_shown, look, news, winner, asks_of, granted_to, next_net, printed_now}
 use Rattle.net_cycle.specs.Going.{in_block, IsAdvance, Goes, Keeps, Advanced, Woke, Acted, Returned}
 use Rattle.net_cycle.specs.Laws.{Next, Wins, WinsBank, WinsCore}
@@ -133,18 +134,18 @@ module _ (P : Program) (K : Parts) (built : IsBuilt P K) (chain : ℕ → ℕ �
   won = winner P K c h.net
 
   abbrev core_owner : ℕ → ℕ
-  core_owner k = owner_of K.threads (won k)
+  core_owner k = owner_of K.cores.threads (won k)
 
   abbrev place_owner : Location → ℕ
-  place_owner l = owner_of K.threads (won (bank_of K.spreads l))
+  place_owner l = owner_of K.cores.threads (won (bank_of K.spreads l))
 
-  below : (k i : ℕ) → won k ≡ Some i → i < K.threads
+  below : (k i : ℕ) → won k ≡ Some i → i < K.cores.threads
   below k i e = (won_by P K built c h k i e).0
 
-  memory_by : (i : ℕ) (l : Location) → i < K.threads → place_owner l ≡ i → v.memory l ≡ memory_after (left.made i) h.memory l
-  memory_by i l lt e = (places_are_owned K.spreads K.threads won h.memory left.made below).by i l lt e
+  memory_by : (i : ℕ) (l : Location) → i < K.cores.threads → place_owner l ≡ i → v.memory l ≡ memory_after (left.made i) h.memory l
+  memory_by i l lt e = (places_are_owned K.spreads K.cores.threads won h.memory left.made below).by i l lt e
 
-  module _ (i : ℕ) (lt : i < K.threads) where
+  module _ (i : ℕ) (lt : i < K.cores.threads) where
     abbrev t : Thread
     t = thread_at P K i
 
@@ -179,7 +180,7 @@ module _ (P : Program) (K : Parts) (built : IsBuilt P K) (chain : ℕ → ℕ �
     -- ---- who is granted a core of acts moves
 
     module _ (k : ℕ) (e : won k ≡ Some i) (a : Act) (next : ℕ) (asks : Asked) (listed : stage_at K.codes q.routine q.stage ≡ Some (stage.Act a next))
-        (is : asked (nat_eq i 0) a q.variables ≡ Some asks) (names : core_of (numbers_of K) asks ≡ Some k) where
+        (is : asked (nat_eq i 0) a q.variables ≡ Some asks) (names : core_of (numbers_of K.cores) asks ≡ Some k) where
       listed_here : slice_get t.code.stages q.stage ≡ Some (stage.Act a next)
       listed_here = ap (λ (f : ℕ). stage_at K.codes f q.stage) (sym own) ∙ listed
 
@@ -187,9 +188,9 @@ module _ (P : Program) (K : Parts) (built : IsBuilt P K) (chain : ℕ → ℕ �
       not_past l = let z = sym listed_here ∙ slice_get_past t.code.stages q.stage (omega arith) in cc
 
       not_refused : (asks' : Asked) → asks' ≡ asks → IsRefused t (granted_to P K c h.net i) asks' → ⊥
-      not_refused asks' same (Lost none) = let z = sym none ∙ ap (core_of (numbers_of K)) same ∙ names in cc
+      not_refused asks' same (Lost none) = let z = sym none ∙ ap (core_of (numbers_of K.cores)) same ∙ names in cc
       not_refused asks' same (Ungranted m core lost) =
-          let one : Some m ≡ Some k = sym core ∙ ap (core_of (numbers_of K)) same ∙ names in
+          let one : Some m ≡ Some k = sym core ∙ ap (core_of (numbers_of K.cores)) same ∙ names in
           let at : m ≡ k = cc in
           both_ways (is_granted (won k) i) (ap (λ (z : ℕ). is_granted (won z) i) (sym at) ∙ lost) (ap (λ (o : Option ℕ). is_granted o i) e ∙ same_is i i refl)
 
@@ -225,7 +226,7 @@ module _ (P : Program) (K : Parts) (built : IsBuilt P K) (chain : ℕ → ℕ �
     cores_stay out k o = by (who_wins P K built c h k i e).1
       where
         e : won k ≡ Some i
-        e = owner_is K.threads (won k) i lt o
+        e = owner_is K.cores.threads (won k) i lt o
 
         by : Wins P K c h k i → v.cores k ≡ w.cores k
         by (WinsBank bank on in_it) = bank_stays P K built c h k bank
@@ -235,7 +236,7 @@ module _ (P : Program) (K : Parts) (built : IsBuilt P K) (chain : ℕ → ℕ �
     -- a thread at no block and no act that asks owns none
     owns_none : in_block K q ≡ false → ((a : Act) (next : ℕ) (asks : Asked) → stage_at K.codes q.routine q.stage ≡ Some (stage.Act a next) →
         asked (nat_eq i 0) a q.variables ≡ Some asks → ⊥) → (k : ℕ) → core_owner k ≢ i
-    owns_none off never k o = by (who_wins P K built c h k i (owner_is K.threads (won k) i lt o)).1
+    owns_none off never k o = by (who_wins P K built c h k i (owner_is K.cores.threads (won k) i lt o)).1
       where
         by : Wins P K c h k i → ⊥
         by (WinsBank bank on in_it) = both_ways (in_block K q) off in_it
@@ -279,7 +280,7 @@ module _ (P : Program) (K : Parts) (built : IsBuilt P K) (chain : ℕ → ℕ �
       off = λ e. absurd (both_ways (g.enabled i) e (ap₂ (λ (a b : Bool). a && b) on in_it));
       within = is.within;
       owned = λ k l e a touches.
-          ap (owner_of K.threads)
+          ap (owner_of K.cores.threads)
           (granted_is (won (bank_of K.spreads l)) i
           (is.owned k l (is.within k (both_true (requests block plan q k) (left.grant i k) a).1) a touches));
       memory = λ l o.
@@ -292,7 +293,7 @@ module _ (P : Program) (K : Parts) (built : IsBuilt P K) (chain : ℕ → ℕ �
     abbrev GoesNow : Type 0
     GoesNow = Goes P K i on_now (asks_of P K c h.net i) (granted_to P K c h.net i) h.memory q r (left.grant i) (left.made i) (cores_shown P K h.net h.out)
 
-    woken_beat : Wakes P K.codes (numbers_of K) K.threads (cores_shown P K h.net h.out) i q r → r.beat ≡ not q.beat
+    woken_beat : Wakes P K.codes (numbers_of K.cores) K.cores.threads (cores_shown P K h.net h.out) i q r → r.beat ≡ not q.beat
     woken_beat (Sets_out thread below at status slot) = ap (λ (z : Slot). z.beat) slot
     woken_beat (Goes_on l next b at listed bit slot) = ap (λ (z : Slot). z.beat) slot
 
@@ -312,7 +313,7 @@ module _ (P : Program) (K : Parts) (built : IsBuilt P K) (chain : ℕ → ℕ �
         asked (nat_eq i 0) a q.variables ≡ Some asks → ⊥
     past_acts l a next asks listed is = let z = sym listed ∙ slice_get_past (K.codes q.routine).code.stages q.stage (omega arith) in cc
 
-    woken_acts : Wakes P K.codes (numbers_of K) K.threads (cores_shown P K h.net h.out) i q r → (a : Act) (next : ℕ) (asks : Asked) →
+    woken_acts : Wakes P K.codes (numbers_of K.cores) K.cores.threads (cores_shown P K h.net h.out) i q r → (a : Act) (next : ℕ) (asks : Asked) →
         stage_at K.codes q.routine q.stage ≡ Some (stage.Act a next) → asked (nat_eq i 0) a q.variables ≡ Some asks → ⊥
     woken_acts (Sets_out thread below at status slot) a next asks listed is = past_acts (omega (arith, at)) a next asks listed is
     woken_acts (Goes_on l m b at listed' bit slot) a next asks listed is = past_acts (omega (arith, at)) a next asks listed is
@@ -330,7 +331,7 @@ module _ (P : Program) (K : Parts) (built : IsBuilt P K) (chain : ℕ → ℕ �
     GoesInCycle = TurnsInCycle M.source (hardware_of M) w v place_owner core_owner i ⊎ ActsInCycle M.source (hardware_of M) w v place_owner core_owner i
 
     acts_now : (a : Act) (next k : ℕ) (asks : Asked) → stage_at K.codes q.routine q.stage ≡ Some (stage.Act a next) → asked (nat_eq i 0) a q.variables ≡ Some asks →
-        core_of (numbers_of K) asks ≡ Some k → is_granted (won k) i ≡ true → r ≡ went_on (stage_after (rest_of K.codes q.routine) q.stage a next) q → left.made i ≡ [] → GoesInCycle
+        core_of (numbers_of K.cores) asks ≡ Some k → is_granted (won k) i ≡ true → r ≡ went_on (stage_after (rest_of K.codes q.routine) q.stage a next) q → left.made i ≡ [] → GoesInCycle
     acts_now a next k asks listed is core gained slot none = by (who_wins P K built c h k i e).1
       where
         e : won k ≡ Some i
@@ -340,13 +341,13 @@ module _ (P : Program) (K : Parts) (built : IsBuilt P K) (chain : ℕ → ℕ �
         only j o = one (who_wins P K built c h j i u).1
           where
             u : won j ≡ Some i
-            u = owner_is K.threads (won j) i lt o
+            u = owner_is K.cores.threads (won j) i lt o
 
             one : Wins P K c h j i → j ≡ k
             one (WinsBank bank on in_it) = absurd (both_ways (in_block K q) (ap is_run listed) in_it)
             one (WinsCore core' on a' next' asks' listed' is' names' hands) =
                 let same = same_asks k e a next asks listed is core a' next' asks' listed' is' in
-                let two : Some j ≡ Some k = sym names' ∙ ap (core_of (numbers_of K)) same ∙ core in
+                let two : Some j ≡ Some k = sym names' ∙ ap (core_of (numbers_of K.cores)) same ∙ core in
                 (let at : j ≡ k = cc in at)
 
         by : Wins P K c h k i → GoesInCycle
@@ -355,9 +356,9 @@ module _ (P : Program) (K : Parts) (built : IsBuilt P K) (chain : ℕ → ℕ �
             let granted' = act_granted P K built c h k i a' next' asks' listed' is' names' hands e in
             let same = same_asks k e a next asks listed is core a' next' asks' listed' is' in
             inr
-            (acts_in_cycle P K chain w v place_owner core_owner i (memory_stays none) a next k asks own listed is core (ap (owner_of K.threads) e) only
+            (acts_in_cycle P K chain w v place_owner core_owner i (memory_stays none) a next k asks own listed is core (ap (owner_of K.cores.threads) e) only
             (subst (λ (z : Asked). may_grant (w.cores k) i z ≡ true) same granted'.0)
-            (subst (λ (z : Asked). v.cores k ≡ granted K.threads (print_formats P) (w.cores k) i z) same granted'.1) slot)
+            (subst (λ (z : Asked). v.cores k ≡ granted K.cores.threads (print_formats P) (w.cores k) i z) same granted'.1) slot)
 
     acts : g.outside i ≡ true → GoesNow → GoesInCycle
     acts out (Keeps idle slot ungranted none) =
@@ -422,25 +423,25 @@ module _ (P : Program) (K : Parts) (built : IsBuilt P K) (chain : ℕ → ℕ �
 
   abbrev Served : Type 0
   Served =
-      (j : ℕ) × (m : ℕ) × (j < K.threads) × (g.enabled j ≡ true) × (m < size (blocks_of K.codes (h.slots j).routine (h.slots j).stage))
+      (j : ℕ) × (m : ℕ) × (j < K.cores.threads) × (g.enabled j ≡ true) × (m < size (blocks_of K.codes (h.slots j).routine (h.slots j).stage))
       × (answered (blocks_of K.codes (h.slots j).routine (h.slots j).stage) (plans_of K.codes (h.slots j).routine (h.slots j).stage) (h.slots j) (left.grant j) m ≡ true)
 
-  serves_all : Serves M w v g K.threads
+  serves_all : Serves M w v g K.cores.threads
   serves_all i k lt e l request =
       let both = both_true (is_enabled c.mask i) (in_block K (h.slots i)) e in
       let wants = (advance_of i lt both.0 both.1 (left.goes i lt)).wants k l request in
       by wants.0 wants.1 wants.2 (won wants.0) refl
     where
-      by : (n : ℕ) → n < length K.banks → asks_of P K c h.net i n 0 ≢ 0 → (o : Option ℕ) → won n ≡ o → Served
+      by : (n : ℕ) → n < length K.cores.banks → asks_of P K c h.net i n 0 ≢ 0 → (o : Option ℕ) → won n ≡ o → Served
       by n bank ne None u =
-          let b = there K.banks n bank in
-          let off = none_may K.threads (preference c n)
-          (λ m. (core_machine K n).eligible (h.net.states n) m (asked_of K.threads (core_count K) (λ j. leaf_thread (K.modules j) (K.leaves j)) (core_machine K) c h.net n m))
+          let b = there K.cores.banks n bank in
+          let off = none_may K.cores.threads (preference c n)
+          (λ m. (core_machine K.cores n).eligible (h.net.states n) m (asked_of K.cores.threads (core_count K.cores) (λ j. leaf_thread (K.bodies j).body (K.bodies j).leaf) (core_machine K.cores) c h.net n m))
           u i lt in
-          absurd (ne (zero_of (asks_of P K c h.net i n 0) (sym ((has_banks K).asks n b.0 (h.net.states n) i (λ j. asks_of P K c h.net i n j) b.1) ∙ off)))
+          absurd (ne (zero_of (asks_of P K c h.net i n 0) (sym ((has_banks K.cores).asks n b.0 (h.net.states n) i (λ j. asks_of P K c h.net i n j) b.1) ∙ off)))
       by n bank ne (Some j) u = from (who_wins P K built c h n j u).0 (who_wins P K built c h n j u).1
         where
-          from : j < K.threads → Wins P K c h n j → Served
+          from : j < K.cores.threads → Wins P K c h n j → Served
           from lt' (WinsBank bank' on in_it) =
               let is = (advance_of j lt' on in_it (left.goes j lt')).serves n bank (raised P K built c h n j u) (ap (λ (o : Option ℕ). is_granted o j) u ∙ same_is j j refl) in
               (j, is.0, lt', ap₂ (λ (a b : Bool). a && b) on in_it, is.1, is.2)
@@ -448,21 +449,21 @@ module _ (P : Program) (K : Parts) (built : IsBuilt P K) (chain : ℕ → ℕ �
 
   -- ---- where nobody moves
 
-  module _ (nobody_moves : (j : ℕ) → j < K.threads → moves M w v g j ≡ false) where
+  module _ (nobody_moves : (j : ℕ) → j < K.cores.threads → moves M w v g j ≡ false) where
     -- no core of acts is granted to anyone
-    unwon : (k : ℕ) → length K.banks ≤ k → won k ≡ None
+    unwon : (k : ℕ) → length K.cores.banks ≤ k → won k ≡ None
     unwon k l = by (won k) refl
       where
         by : (o : Option ℕ) → won k ≡ o → o ≡ None
         by None u = refl
         by (Some j) u = absurd (from (who_wins P K built c h k j u).0 (who_wins P K built c h k j u).1)
           where
-            from : j < K.threads → Wins P K c h k j → ⊥
+            from : j < K.cores.threads → Wins P K c h k j → ⊥
             from lt (WinsBank bank on in_it) = absurd (omega (arith, bank, l))
             from lt (WinsCore core on a next asks listed is names hands) =
                 moves_on j lt k u a next asks listed is names on (stays_now j lt (nobody_moves j lt)) (left.moved j lt)
 
-    module _ (i : ℕ) (lt : i < K.threads) (on : is_enabled c.mask i ≡ true) where
+    module _ (i : ℕ) (lt : i < K.cores.threads) (on : is_enabled c.mask i ≡ true) where
       abbrev q_now : Slot
       q_now = h.slots i
 
@@ -478,30 +479,30 @@ module _ (P : Program) (K : Parts) (built : IsBuilt P K) (chain : ℕ → ℕ �
       -- in a block somebody would move
       in_no_block : in_block K q_now ≡ true → ⊥
       in_no_block in_it =
-          let m = somebody_moves M w v g K.threads serves_all i lt (ap₂ (λ (a b : Bool). a && b) on in_it) in
+          let m = somebody_moves M w v g K.cores.threads serves_all i lt (ap₂ (λ (a b : Bool). a && b) on in_it) in
           both_ways (moves M w v g m.0) (nobody_moves m.0 m.1) m.2
 
       refuses : (a : Act) (next k : ℕ) (asks : Asked) → slice_get (thread_at P K i).code.stages q_now.stage ≡ Some (stage.Act a next) →
-          asked (nat_eq i 0) a q_now.variables ≡ Some asks → core_of (numbers_of K) asks ≡ Some k → may_grant (w.cores k) i asks ≡ false
+          asked (nat_eq i 0) a q_now.variables ≡ Some asks → core_of (numbers_of K.cores) asks ≡ Some k → may_grant (w.cores k) i asks ≡ false
       refuses a next k asks listed is names = by (may_grant (w.cores k) i asks) refl
         where
-          acts_core : IsActCore (numbers_of K) k
-          acts_core = core_in_is (numbers_of K) asks.service asks.core k names
+          acts_core : IsActCore (numbers_of K.cores) k
+          acts_core = core_in_is (numbers_of K.cores) asks.service asks.core k names
 
-          hands : AsksAct (asks_of P K c h.net i k) (is_enabled c.mask i) (core_machine K k).parts asks
+          hands : AsksAct (asks_of P K c h.net i k) (is_enabled c.mask i) (core_machine K.cores k).parts asks
           hands =
               (each_steps P K built c h i lt).asks.core k asks (ap (λ (o : Option CodeStage). asked_in (nat_eq i 0) o q_now.variables) listed ∙ is) names
 
-          alike : (core_machine K k).eligible (h.net.states k) i ((core_machine K k).ask_of (λ j. asks_of P K c h.net i k j))
+          alike : (core_machine K.cores k).eligible (h.net.states k) i ((core_machine K.cores k).ask_of (λ j. asks_of P K c h.net i k j))
               ≡ (nat_lt 0 (asks_of P K c h.net i k 0) && may_grant (w.cores k) i asks)
           alike =
               act_may P K built c h k i a next asks (there_listed q_now.stage (stage.Act a next) listed) is names
-              (subst (λ (b : Bool). AsksAct (asks_of P K c h.net i k) b (core_machine K k).parts asks) on hands)
+              (subst (λ (b : Bool). AsksAct (asks_of P K c h.net i k) b (core_machine K.cores k).parts asks) on hands)
 
-          off : (core_machine K k).eligible (h.net.states k) i ((core_machine K k).ask_of (λ j. asks_of P K c h.net i k j)) ≡ false
+          off : (core_machine K.cores k).eligible (h.net.states k) i ((core_machine K.cores k).ask_of (λ j. asks_of P K c h.net i k j)) ≡ false
           off =
-              none_may K.threads (preference c k)
-              (λ m. (core_machine K k).eligible (h.net.states k) m (asked_of K.threads (core_count K) (λ j. leaf_thread (K.modules j) (K.leaves j)) (core_machine K) c h.net k m))
+              none_may K.cores.threads (preference c k)
+              (λ m. (core_machine K.cores k).eligible (h.net.states k) m (asked_of K.cores.threads (core_count K.cores) (λ j. leaf_thread (K.bodies j).body (K.bodies j).leaf) (core_machine K.cores) c h.net k m))
               (unwon k acts_core.0) i lt
 
           by : (b : Bool) → may_grant (w.cores k) i asks ≡ b → may_grant (w.cores k) i asks ≡ false
@@ -512,23 +513,23 @@ module _ (P : Program) (K : Parts) (built : IsBuilt P K) (chain : ℕ → ℕ �
               (sym alike ∙ off) (ap₂ (λ (m : ℕ) (z : Bool). nat_lt 0 m && z) (hands.raised ∙ ap bit_of on) e))
 
       -- who rests and is not told to go on
-      rests_main : (i ≡ 0) → q_now.stage ≡ rest (thread_at P K i) → (r : Slot) → Wakes P K.codes (numbers_of K) K.threads w.cores i q_now r → ⊥
+      rests_main : (i ≡ 0) → q_now.stage ≡ rest (thread_at P K i) → (r : Slot) → Wakes P K.codes (numbers_of K.cores) K.cores.threads w.cores i q_now r → ⊥
       rests_main main at r (Sets_out thread below there status slot) = omega (arith, main, thread)
       rests_main main at r (Goes_on l m b there listed bit slot) = let same = rest_is in omega (arith, at, there, same)
 
-      rests_idle : nat_eq i 0 ≡ false → q_now.stage ≡ rest (thread_at P K i) → news P K h.net i (ids_core (numbers_of K)) 0 ≡ 0 → (r : Slot) →
-          Wakes P K.codes (numbers_of K) K.threads w.cores i q_now r → ⊥
+      rests_idle : nat_eq i 0 ≡ false → q_now.stage ≡ rest (thread_at P K i) → news P K h.net i (ids_core (numbers_of K.cores)) 0 ≡ 0 → (r : Slot) →
+          Wakes P K.codes (numbers_of K.cores) K.cores.threads w.cores i q_now r → ⊥
       rests_idle other at none r (Sets_out thread below there status slot) =
           let told = ids_told P K built i lt other h 0 in
-          let one : bit_of (nat_eq (status_at (numbers_of K) w.cores i) 1) ≡ 1 = ap bit_of (same_is (status_at (numbers_of K) w.cores i) 1 status) in
+          let one : bit_of (nat_eq (status_at (numbers_of K.cores) w.cores i) 1) ≡ 1 = ap bit_of (same_is (status_at (numbers_of K.cores) w.cores i) 1 status) in
           let zero = sym none ∙ told ∙ one in
           omega (arith, zero)
       rests_idle other at none r (Goes_on l m b there listed bit slot) = let same = rest_is in omega (arith, at, there, same)
 
       rests_there : (l m : ℕ) (b : ActOperand) → q_now.stage ≡ meeting (rest (thread_at P K i)) l →
-          slice_get (thread_at P K i).code.stages l ≡ Some (stage.Act (act.BarrierWait b) m) → residue_of 64 (act_value q_now.variables b) < K.barriers →
-          news P K h.net i (barrier_core (numbers_of K) (residue_of 64 (act_value q_now.variables b))) 0 ≡ 1 → (r : Slot) →
-          Wakes P K.codes (numbers_of K) K.threads w.cores i q_now r → ⊥
+          slice_get (thread_at P K i).code.stages l ≡ Some (stage.Act (act.BarrierWait b) m) → residue_of 64 (act_value q_now.variables b) < K.cores.barriers →
+          news P K h.net i (barrier_core (numbers_of K.cores) (residue_of 64 (act_value q_now.variables b))) 0 ≡ 1 → (r : Slot) →
+          Wakes P K.codes (numbers_of K.cores) K.cores.threads w.cores i q_now r → ⊥
       rests_there l m b at listed below_it one r (Sets_out thread below there status slot) = let same = rest_is in omega (arith, at, there, same)
       rests_there l m b at listed below_it one r (Goes_on l' m' b' there listed' bit slot) =
           let same = rest_is in
@@ -538,7 +539,7 @@ module _ (P : Program) (K : Parts) (built : IsBuilt P K) (chain : ℕ → ℕ �
           let operand : b' ≡ b = cc in
           let told = bit_told P K i h (residue_of 64 (act_value q_now.variables b)) below_it in
           let n = residue_of 64 (act_value q_now.variables b) in
-          both_ways (waits_bit (numbers_of K) w.cores n i) (ap (λ (z : ActOperand). waits_bit (numbers_of K) w.cores (residue_of 64 (act_value q_now.variables z)) i) (sym operand) ∙ bit)
+          both_ways (waits_bit (numbers_of K.cores) w.cores n i) (ap (λ (z : ActOperand). waits_bit (numbers_of K.cores) w.cores (residue_of 64 (act_value q_now.variables z)) i) (sym operand) ∙ bit)
           (ap (nat_lt 0) (sym told ∙ one))
 
       stalled : Moved (thread_at P K i) (is_enabled c.mask i) (granted_to P K c h.net i) (news P K h.net i) h.memory q_now (left.slots i) → Stalled P K c h i
@@ -567,8 +568,8 @@ module _ (P : Program) (K : Parts) (built : IsBuilt P K) (chain : ℕ → ℕ �
       runs = λ i lt out. runs_now i lt out;
       acts = λ i lt out. acts i lt out (left.goes i lt);
       beyond = λ i l. left.beyond i l;
-      unowned = λ l le. (places_are_owned K.spreads K.threads won h.memory left.made below).by_none l le;
-      idle = λ k le. stays P K built c h k (nobody K.threads (won k) (below k) le);
+      unowned = λ l le. (places_are_owned K.spreads K.cores.threads won h.memory left.made below).by_none l le;
+      idle = λ k le. stays P K built c h k (nobody K.cores.threads (won k) (below k) le);
     };
     serves = serves_all;
     turns = λ i lt m. turns_now i lt m;

@@ -13,7 +13,8 @@ use Rattle.block_refine.specs.Routines.{blocks_of, plans_of}
 use Rattle.block_refine.proofs.RoutineLaws.{blocks_are_steps}
 use Rattle.planned_threads.specs.Requests.{AreNumbers}
 use Rattle.planned_threads.proofs.Fits.{fits_threads}
-use Rattle.net_cycle.specs.Built.{Parts, IsBuilt, numbers_of, core_count}
+use Rattle.net_cycle.specs.Built.{Parts, IsBuilt}
+use Rattle.net_cycle.specs.Bodies.{numbers_of, core_count}
 use Rattle.net_cycle.specs.Cycle.{BuiltFits}
 use Rattle.net_cycle.proofs.Steps.{banked}
 
@@ -47,10 +48,10 @@ module _ (P : Program) (K : Parts) (built : IsBuilt P K) where
   ordered : (f l : ℕ) → IsOrdered (blocks_of K.codes f l)
   ordered f l = record { earlier = (keeps f l).earlier; final = (keeps f l).final }
 
-  few : core_count K < 2 ^ 64
+  few : core_count K.cores < 2 ^ 64
   few = lt_trans built.few_cores (lit< tt)
 
-  pub numbers : AreNumbers P (numbers_of K) K.threads
+  pub numbers : AreNumbers P (numbers_of K.cores) K.cores.threads
   numbers = record {
     threads = built.threads;
     ids = built.ids;
@@ -64,5 +65,5 @@ built_fits P K built = record {
   banks = (banked P K built).apart;
   keeps = keeps P K built;
   lowered = blocks_are_steps P K.codes built.chain built.resolved (ordered P K built) built.coded.chained.chains;
-  fits = fits_threads P K.codes (numbers_of K) K.threads K.spreads built.chain built.resolved (numbers P K built) built.coded;
+  fits = fits_threads P K.codes (numbers_of K.cores) K.cores.threads K.spreads built.chain built.resolved (numbers P K built) built.coded;
 }

@@ -41,7 +41,8 @@ use Rattle.net_cycle.specs.Moved as moved
 use Rattle.net_cycle.specs.Moved.{Moved}
 use Rattle.net_cycle.proofs.Standing.{inside_of}
 use Rattle.net_cycle.proofs.Staying.{granted_accesses}
-use Rattle.net_cycle.specs.Built.{Parts, IsBuilt, numbers_of, core_at, thread_at}
+use Rattle.net_cycle.specs.Built.{Parts, IsBuilt, thread_at}
+use Rattle.net_cycle.specs.Bodies.{numbers_of, core_at}
 use Rattle.net_cycle.specs.Stage.{Stage, StepOf, shown_as, cores_shown, news, asks_of, granted_to}
 use Rattle.net_cycle.specs.Going.{in_block, IsAdvance, Goes, Keeps, Advanced, Woke, Acted, Returned}
 use Rattle.net_cycle.proofs.Cores.{barrier_at, ids_at}
@@ -73,18 +74,18 @@ one_bit true e = refl
 one_bit false e = absurd (omega arith)
 
 -- a thread besides main is told what the core of the ids has
-pub ids_told : (P : Program) (K : Parts) (built : IsBuilt P K) (i : ℕ) → i < K.threads → nat_eq i 0 ≡ false → (h : Stage P K) (j : ℕ) →
-    news P K h.net i (ids_core (numbers_of K)) j ≡ ids_tell (ids_in (cores_shown P K h.net h.out (ids_core (numbers_of K)))) i j
+pub ids_told : (P : Program) (K : Parts) (built : IsBuilt P K) (i : ℕ) → i < K.cores.threads → nat_eq i 0 ≡ false → (h : Stage P K) (j : ℕ) →
+    news P K h.net i (ids_core (numbers_of K.cores)) j ≡ ids_tell (ids_in (cores_shown P K h.net h.out (ids_core (numbers_of K.cores)))) i j
 ids_told P K built i lt other h j =
-    tells_ids (core_at K (ids_core (numbers_of K))) (record { threads = K.threads }) (ids_at K (ids_there P K built i lt other)) (h.net.states (ids_core (numbers_of K))) h.out i j
+    tells_ids (core_at K.cores (ids_core (numbers_of K.cores))) (record { threads = K.cores.threads }) (ids_at K.cores (ids_there P K built i lt other)) (h.net.states (ids_core (numbers_of K.cores))) h.out i j
 
 -- and each its bit at a barrier
-pub bit_told : (P : Program) (K : Parts) (i : ℕ) (h : Stage P K) (n : ℕ) → n < K.barriers →
-    news P K h.net i (barrier_core (numbers_of K) n) 0 ≡ slice_index (gate_in (cores_shown P K h.net h.out (barrier_core (numbers_of K) n))).waiting i
+pub bit_told : (P : Program) (K : Parts) (i : ℕ) (h : Stage P K) (n : ℕ) → n < K.cores.barriers →
+    news P K h.net i (barrier_core (numbers_of K.cores) n) 0 ≡ slice_index (gate_in (cores_shown P K h.net h.out (barrier_core (numbers_of K.cores) n))).waiting i
 bit_told P K i h n l =
-    tells_bit (core_at K (barrier_core (numbers_of K) n)) (record { threads = K.threads }) (barrier_at K n l) (h.net.states (barrier_core (numbers_of K) n)) h.out i
+    tells_bit (core_at K.cores (barrier_core (numbers_of K.cores) n)) (record { threads = K.cores.threads }) (barrier_at K.cores n l) (h.net.states (barrier_core (numbers_of K.cores) n)) h.out i
 
-module _ (P : Program) (K : Parts) (built : IsBuilt P K) (c : Choice) (h : Stage P K) (i : ℕ) (lt : i < K.threads) (step : StepOf P K c h i) where
+module _ (P : Program) (K : Parts) (built : IsBuilt P K) (c : Choice) (h : Stage P K) (i : ℕ) (lt : i < K.cores.threads) (step : StepOf P K c h i) where
   abbrev t : Thread
   t = thread_at P K i
 
@@ -207,8 +208,8 @@ module _ (P : Program) (K : Parts) (built : IsBuilt P K) (c : Choice) (h : Stage
       out_of_block next (past (omega (arith, at))) (λ n. ap (λ (z : Slot). z.words n) slot)
       (Woke on (run_there false (past (omega (arith, at))))
       (Sets_out (let some : 0 < i = grind (arith, nat_tests) in some) lt (at ∙ rest_there)
-      (is_same (status_at (numbers_of K) cores_now i) 1 (one_bit (nat_eq (status_at (numbers_of K) cores_now i) 1) (sym (told 0) ∙ one)))
-      (slot ∙ ap (λ (f : ℕ). set_out (K.codes f).code.argument (news P K h.net i (ids_core (numbers_of K)) 1) q) (sym own)
+      (is_same (status_at (numbers_of K.cores) cores_now i) 1 (one_bit (nat_eq (status_at (numbers_of K.cores) cores_now i) 1) (sym (told 0) ∙ one)))
+      (slot ∙ ap (λ (f : ℕ). set_out (K.codes f).code.argument (news P K h.net i (ids_core (numbers_of K.cores)) 1) q) (sym own)
       ∙ ap (λ (a : ℕ). set_out (K.codes q.routine).code.argument a q) (told 1)))
       refl)
   goes next w (moved.Holds_on on l m b at listed there one slot) = still next (past (omega (arith, at))) slot

@@ -1,3 +1,4 @@
+pub mod BodiesFit
 pub mod Cores
 pub mod Banks
 pub mod Steps

@@ -16,7 +16,8 @@ use Rattle.bank_memory.specs.Partition.{globals_of}
 use Rattle.bank_memory.proofs.Net.{net_holds}
 use Rattle.net_cycle.specs.Thread.{Stands}
 use Rattle.net_cycle.specs.Moved.{Moved}
-use Rattle.net_cycle.specs.Built.{Parts, IsBuilt, core_machine, core_count, thread_at}
+use Rattle.net_cycle.specs.Built.{Parts, IsBuilt, thread_at}
+use Rattle.net_cycle.specs.Bodies.{core_machine, core_count}
 use Rattle.net_cycle.specs.Stage.{Stage, news, next_net, granted_to, asks_of, cores_shown}
 use Rattle.net_cycle.specs.Going.{Goes}
 use Rattle.net_cycle.specs.Laws.{Next, NetGoes}
@@ -48,10 +49,10 @@ module _ (P : Program) (K : Parts) (built : IsBuilt P K) (c : Choice) (h : Stage
     pub moved : Moved (thread_at P K i) (is_enabled c.mask i) (granted_to P K c h.net i) (news P K h.net i) h.memory (h.slots i) a.next
     pub does : Does K.spreads (globals_of P) (λ n. ask_of (asks_of P K c h.net i n)) (granted_to P K c h.net i) h.memory (h.slots i).words a.next.words a.made
     pub goes : Goes P K i (is_enabled c.mask i) (asks_of P K c h.net i) (granted_to P K c h.net i) h.memory (h.slots i) a.next a.grant a.made (cores_shown P K h.net h.out)
-    pub fits : IsSlot (K.modules i) ((next_net P K c h.net).slots i)
+    pub fits : IsSlot (K.bodies i).body ((next_net P K c h.net).slots i)
     pub stands : Stands (thread_at P K i) ((next_net P K c h.net).slots i) a.next
 
-  gone : (i : ℕ) → i < K.threads → (a : Went) × HasGone i a
+  gone : (i : ℕ) → i < K.cores.threads → (a : Went) × HasGone i a
   gone i lt =
       let step = each_steps P K built c h i lt in
       let is = step_goes P K built c h i lt step in (
@@ -64,10 +65,10 @@ module _ (P : Program) (K : Parts) (built : IsBuilt P K) (c : Choice) (h : Stage
   stays i = record { next = h.slots i; grant = λ k. false; made = [] }
 
   abbrev went : ℕ → Went
-  went i = pick K.threads i (nat_lt i K.threads) refl (λ l. (gone i l).0) (stays i)
+  went i = pick K.cores.threads i (nat_lt i K.cores.threads) refl (λ l. (gone i l).0) (stays i)
 
-  each : (i : ℕ) → i < K.threads → HasGone i (went i)
-  each i lt = pick_has K.threads i (nat_lt i K.threads) refl (λ l. (gone i l).0) (stays i) (HasGone i) lt (λ l. (gone i l).1)
+  each : (i : ℕ) → i < K.cores.threads → HasGone i (went i)
+  each i lt = pick_has K.cores.threads i (nat_lt i K.cores.threads) refl (λ l. (gone i l).0) (stays i) (HasGone i) lt (λ l. (gone i l).1)
 
   pub next : Next P K c h
   next = record {
@@ -76,10 +77,10 @@ module _ (P : Program) (K : Parts) (built : IsBuilt P K) (c : Choice) (h : Stage
     made = λ i. (went i).made;
     moved = λ i lt. (each i lt).moved;
     goes = λ i lt. (each i lt).goes;
-    beyond = λ i l. ap (λ (a : Went). a.next) (pick_beyond K.threads i (nat_lt i K.threads) refl (λ l. (gone i l).0) (stays i) l);
+    beyond = λ i l. ap (λ (a : Went). a.next) (pick_beyond K.cores.threads i (nat_lt i K.cores.threads) refl (λ l. (gone i l).0) (stays i) l);
     fits = λ i lt. (each i lt).fits;
     stands = λ i lt. (each i lt).stands;
-    holds = net_holds K.threads (core_count K) (λ i. leaf_thread (K.modules i) (K.leaves i)) (core_machine K) K.banks (has_banks K) K.spreads (globals_of P) (total_is P K built) c
+    holds = net_holds K.cores.threads (core_count K.cores) (λ i. leaf_thread (K.bodies i).body (K.bodies i).leaf) (core_machine K.cores) K.cores.banks (has_banks K.cores) K.spreads (globals_of P) (total_is P K built) c
         h.net (banked P K built) h.memory (λ i. (h.slots i).words) (λ i. (went i).next.words) (λ i. (went i).made) (λ i lt. (each i lt).does) h.holds;
   }
 

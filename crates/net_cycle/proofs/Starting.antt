@@ -23,7 +23,8 @@ use Rattle.core_family.specs.Laws.{FitsFirst}
 use Rattle.core_family.proofs.Telling.{each_keeps_fitting}
 use Rattle.bank_memory.proofs.Net.{net_starts as banks_start}
 use Rattle.net_cycle.proofs.Moving.{thread_starts}
-use Rattle.net_cycle.specs.Built.{Parts, IsBuilt, Machine, numbers_of, core_at, core_machine, core_count, thread_at}
+use Rattle.net_cycle.specs.Built.{Parts, IsBuilt, Machine, thread_at}
+use Rattle.net_cycle.specs.Bodies.{numbers_of, core_at, core_machine, core_count}
 use Rattle.net_cycle.specs.Stage.{Stage, shown_as}
 use Rattle.net_cycle.specs.Cycle.{First, NetStarts}
 use Rattle.net_cycle.proofs.Cores.{has_banks, mutex_at, barrier_at, ids_at, printer_at, Kind, IsBank, IsMutex, IsBarrier, IsForks, IsPrinter, IsPast, kind_of}
@@ -69,11 +70,11 @@ printer_begins (Some (Prints c)) s e = refl
 
 module _ (P : Program) (K : Parts) (built : IsBuilt P K) where
   abbrev begun : Machine K
-  begun = start K.threads (core_count K) (λ i. leaf_thread (K.modules i) (K.leaves i)) (core_machine K)
+  begun = start K.cores.threads (core_count K.cores) (λ i. leaf_thread (K.bodies i).body (K.bodies i).leaf) (core_machine K.cores)
 
   -- what a core behind the banks begins with fits
-  first_fits : (k : ℕ) → length K.banks ≤ k → Kind K k → FitsFirst (core_at K k)
-  first_fits k l (IsBank b listed core) = absurd (let lt = slice_get_within K.banks k b listed in omega (arith, lt, l))
+  first_fits : (k : ℕ) → length K.cores.banks ≤ k → Kind K.cores k → FitsFirst (core_at K.cores k)
+  first_fits k l (IsBank b listed core) = absurd (let lt = slice_get_within K.cores.banks k b listed in omega (arith, lt, l))
   first_fits k l (IsMutex n s listed at core) = subst FitsFirst (sym core) tt
   first_fits k l (IsBarrier n below at core) = subst FitsFirst (sym core) tt
   first_fits k l (IsForks on at core) = subst FitsFirst (sym core) tt
@@ -87,11 +88,11 @@ module _ (P : Program) (K : Parts) (built : IsBuilt P K) where
     slots = λ i. first_slot (nat_eq i 0) (routine_of P i) (rest_of K.codes (routine_of P i));
     memory = memory_of (first_state P).globals;
     fits = λ i lt.
-        (leaf_keeps_slots (K.modules i) (K.inputs i) (K.leaves i) (core_count K) (λ k. (core_machine K k).parts) (λ k. (core_machine K k).told) (built.module_ i lt).leaf).starts;
+        (leaf_keeps_slots (K.bodies i).body (K.bodies i).inputs (K.bodies i).leaf (core_count K.cores) (λ k. (core_machine K.cores k).parts) (λ k. (core_machine K.cores k).told) (built.bodies i lt).1.leaf).starts;
     stands = λ i lt. thread_starts (thread_at P K i) (is_thread P K built i lt);
-    holds = banks_start P K.threads (core_count K) (λ i. leaf_thread (K.modules i) (K.leaves i)) (core_machine K) K.banks (has_banks K) K.spreads built.banked
+    holds = banks_start P K.cores.threads (core_count K.cores) (λ i. leaf_thread (K.bodies i).body (K.bodies i).leaf) (core_machine K.cores) K.cores.banks (has_banks K.cores) K.spreads built.banked
         built.resolved.globals;
-    told = λ k l. (each_keeps_fitting (core_at K k)).starts (first_fits k l (kind_of K k));
+    told = λ k l. (each_keeps_fitting (core_at K.cores k)).starts (first_fits k l (kind_of K.cores k));
   }
 
   pub first : First P K
@@ -101,10 +102,10 @@ module _ (P : Program) (K : Parts) (built : IsBuilt P K) where
     out = refl;
     slots = λ i. refl;
     memory = λ l. refl;
-    mutexes = λ n s e. mutex_begins (core_at K (mutex_core (numbers_of K) n)) s (mutex_at K n s e);
-    barriers = λ n l. barrier_begins (core_at K (barrier_core (numbers_of K) n)) (record { threads = K.threads }) (barrier_at K n l);
-    ids = λ on. forks_begin (core_at K (ids_core (numbers_of K))) (record { threads = K.threads }) (ids_at K on);
-    printer = printer_begins (core_at K (printer_core (numbers_of K))) K.printer (printer_at K);
+    mutexes = λ n s e. mutex_begins (core_at K.cores (mutex_core (numbers_of K.cores) n)) s (mutex_at K.cores n s e);
+    barriers = λ n l. barrier_begins (core_at K.cores (barrier_core (numbers_of K.cores) n)) (record { threads = K.cores.threads }) (barrier_at K.cores n l);
+    ids = λ on. forks_begin (core_at K.cores (ids_core (numbers_of K.cores))) (record { threads = K.cores.threads }) (ids_at K.cores on);
+    printer = printer_begins (core_at K.cores (printer_core (numbers_of K.cores))) K.cores.printer (printer_at K.cores);
   }
 
 pub net_starts : NetStarts

@@ -25,12 +25,13 @@ use Rattle.thread_promise.specs.Moves.{stage_after, set_out}
 use Rattle.thread_cores.specs.Cores.{Core, may_grant, granted, status_in, argument_in, waits_in}
 use Rattle.thread_cores.proofs.Keeping.{runners_stay, passers_stay}
 use Rattle.planned_threads.specs.Surroundings.{routine_of, Wakes, Sets_out, Goes_on, Requests, Returns, Acts, around, hardware_code}
-use Rattle.net_cycle.specs.Built.{Parts, numbers_of}
+use Rattle.net_cycle.specs.Built.{Parts}
+use Rattle.net_cycle.specs.Bodies.{numbers_of}
 use Rattle.net_cycle.specs.Laws.{CoreTurn, Stays, Given}
 
 module _ (P : Program) (K : Parts) (chain : ℕ → ℕ → ℕ) where
   abbrev H : Hardware ℤ Local State Slot (ℕ → Core)
-  H = planned_hardware (bank_of K.spreads) (hardware_code K.codes chain) (around P K.codes (numbers_of K) K.threads) (bound P)
+  H = planned_hardware (bank_of K.spreads) (hardware_code K.codes chain) (around P K.codes (numbers_of K.cores) K.cores.threads) (bound P)
 
   module _ (w v : World ℤ Slot (ℕ → Core)) (place_owner : Location → ℕ) (core_owner : ℕ → ℕ) (i : ℕ)
       (memory : (p : Location) → place_owner p ≡ i → v.memory p ≡ w.memory p) where
@@ -42,7 +43,7 @@ module _ (P : Program) (K : Parts) (chain : ℕ → ℕ → ℕ) where
     module _ (cores : (k : ℕ) → CoreTurn P K w.cores v.cores core_owner k) (none : (k : ℕ) → core_owner k ≢ i) where
       -- a core that thread i does not own, before the cycle or after it, says what it said
       seen : (c : ℕ → Core) → AreForThread (c_source P) H w v place_owner core_owner i c → (Q : Core → Type 0) (k : ℕ) → Q (w.cores k) →
-          ((a : Asked) → may_grant (w.cores k) (core_owner k) a ≡ true → Q (granted K.threads (print_formats P) (w.cores k) (core_owner k) a)) → Q (c k)
+          ((a : Asked) → may_grant (w.cores k) (core_owner k) a ≡ true → Q (granted K.cores.threads (print_formats P) (w.cores k) (core_owner k) a)) → Q (c k)
       seen c are Q k old new =
           ⊎_elim
           (λ same. subst Q (sym same) old)
@@ -53,21 +54,21 @@ module _ (P : Program) (K : Parts) (chain : ℕ → ℕ → ℕ) where
           after (Stays same) = subst Q (sym same) old
           after (Given a may is) = subst Q (sym is) (new a may)
 
-      wakes_on : (c : ℕ → Core) → AreForThread (c_source P) H w v place_owner core_owner i c → Wakes P K.codes (numbers_of K) K.threads w.cores i q (v.slots i) →
-          Wakes P K.codes (numbers_of K) K.threads c i q (v.slots i)
+      wakes_on : (c : ℕ → Core) → AreForThread (c_source P) H w v place_owner core_owner i c → Wakes P K.codes (numbers_of K.cores) K.cores.threads w.cores i q (v.slots i) →
+          Wakes P K.codes (numbers_of K.cores) K.cores.threads c i q (v.slots i)
       wakes_on c are (Sets_out thread below at status slot) =
-          let ids = ids_core (numbers_of K) in
+          let ids = ids_core (numbers_of K.cores) in
           let told : (status_in (c ids) i ≡ 1) × (argument_in (c ids) i ≡ argument_in (w.cores ids) i) =
           seen c are (λ k. (status_in k i ≡ 1) × (argument_in k i ≡ argument_in (w.cores ids) i)) ids (status, refl)
-          (λ a may. runners_stay K.threads (print_formats P) (w.cores ids) i (core_owner ids) a (λ e. none ids (sym e)) may status) in
+          (λ a may. runners_stay K.cores.threads (print_formats P) (w.cores ids) i (core_owner ids) a (λ e. none ids (sym e)) may status) in
           Sets_out thread below at told.0 (slot ∙ ap (λ z. set_out (K.codes q.routine).code.argument z q) (sym told.1))
       wakes_on c are (Goes_on l next b at listed bit slot) =
-          let k = barrier_core (numbers_of K) (residue_of 64 (act_value q.variables b)) in
+          let k = barrier_core (numbers_of K.cores) (residue_of 64 (act_value q.variables b)) in
           Goes_on l next b at listed
-          (seen c are (λ z. waits_in z i ≡ false) k bit (λ a may. passers_stay K.threads (print_formats P) (w.cores k) i (core_owner k) a (λ e. none k (sym e)) bit)) slot
+          (seen c are (λ z. waits_in z i ≡ false) k bit (λ a may. passers_stay K.cores.threads (print_formats P) (w.cores k) i (core_owner k) a (λ e. none k (sym e)) bit)) slot
 
       -- A WAKE IS A TURN
-      pub wakes_in_cycle : Wakes P K.codes (numbers_of K) K.threads w.cores i q (v.slots i) → TurnsInCycle (c_source P) H w v place_owner core_owner i
+      pub wakes_in_cycle : Wakes P K.codes (numbers_of K.cores) K.cores.threads w.cores i q (v.slots i) → TurnsInCycle (c_source P) H w v place_owner core_owner i
       wakes_in_cycle wakes = record {
         accesses = [];
         turn = λ M c agree are. inr (refl, wakes_on c are wakes);
@@ -81,7 +82,7 @@ module _ (P : Program) (K : Parts) (chain : ℕ → ℕ → ℕ) where
           ActsInCycle (c_source P) H w v place_owner core_owner i
       returns_in_cycle main next listed slot = record { act = acts; memory = memory }
         where
-          acts : (b d : World ℤ Slot (ℕ → Core)) → ActsAlone (c_source P) H w v place_owner core_owner i b d → Acts P K.codes (numbers_of K) K.threads b i d
+          acts : (b d : World ℤ Slot (ℕ → Core)) → ActsAlone (c_source P) H w v place_owner core_owner i b d → Acts P K.codes (numbers_of K.cores) K.cores.threads b i d
           acts b d alone = record {
             act = Returns main next (ap (λ (z : Slot). stage_at K.codes z.routine z.stage) alone.old_slot ∙ listed)
                 (alone.new_slot ∙ slot ∙ ap (λ (z : Slot). went_on (rest_of K.codes z.routine) z) (sym alone.old_slot)) (λ j. alone.cores j (none j));
@@ -93,12 +94,12 @@ module _ (P : Program) (K : Parts) (chain : ℕ → ℕ → ℕ) where
 
     -- A GRANT IS AN ACT
     pub acts_in_cycle : (a : Act) (next k : ℕ) (ask : Asked) → q.routine ≡ routine_of P i → stage_at K.codes q.routine q.stage ≡ Some (stage.Act a next) →
-        asked (nat_eq i 0) a q.variables ≡ Some ask → core_of (numbers_of K) ask ≡ Some k → core_owner k ≡ i → ((j : ℕ) → core_owner j ≡ i → j ≡ k) →
-        may_grant (w.cores k) i ask ≡ true → v.cores k ≡ granted K.threads (print_formats P) (w.cores k) i ask →
+        asked (nat_eq i 0) a q.variables ≡ Some ask → core_of (numbers_of K.cores) ask ≡ Some k → core_owner k ≡ i → ((j : ℕ) → core_owner j ≡ i → j ≡ k) →
+        may_grant (w.cores k) i ask ≡ true → v.cores k ≡ granted K.cores.threads (print_formats P) (w.cores k) i ask →
         v.slots i ≡ went_on (stage_after (rest_of K.codes q.routine) q.stage a next) q → ActsInCycle (c_source P) H w v place_owner core_owner i
     acts_in_cycle a next k ask own listed asks core owned only may is slot = record { act = acts; memory = memory }
       where
-        acts : (b d : World ℤ Slot (ℕ → Core)) → ActsAlone (c_source P) H w v place_owner core_owner i b d → Acts P K.codes (numbers_of K) K.threads b i d
+        acts : (b d : World ℤ Slot (ℕ → Core)) → ActsAlone (c_source P) H w v place_owner core_owner i b d → Acts P K.codes (numbers_of K.cores) K.cores.threads b i d
         acts b d alone = record {
           act =
               Requests a next k ask (ap (λ (z : Slot). z.routine) alone.old_slot ∙ own)
@@ -115,14 +116,14 @@ module _ (P : Program) (K : Parts) (chain : ℕ → ℕ → ℕ) where
             old : b.cores k ≡ w.cores k
             old = ⊎_elim (λ same. same) (λ other. absurd (other.0 owned)) (alone.old_cores k)
 
-            changed : (j : ℕ) → d.cores j ≡ (if nat_eq j k then granted K.threads (print_formats P) (b.cores j) i ask else b.cores j)
+            changed : (j : ℕ) → d.cores j ≡ (if nat_eq j k then granted K.cores.threads (print_formats P) (b.cores j) i ask else b.cores j)
             changed j =
                 ⊎_elim
                 (λ same.
-                subst (λ z. d.cores z ≡ (if nat_eq z k then granted K.threads (print_formats P) (b.cores z) i ask else b.cores z)) (sym same)
-                (alone.new_cores k owned ∙ is ∙ ap (λ z. granted K.threads (print_formats P) z i ask) (sym old)
-                ∙ sym (ap (λ (x : Bool). if x then granted K.threads (print_formats P) (b.cores k) i ask else b.cores k) (same_is k k refl))))
+                subst (λ z. d.cores z ≡ (if nat_eq z k then granted K.cores.threads (print_formats P) (b.cores z) i ask else b.cores z)) (sym same)
+                (alone.new_cores k owned ∙ is ∙ ap (λ z. granted K.cores.threads (print_formats P) z i ask) (sym old)
+                ∙ sym (ap (λ (x : Bool). if x then granted K.cores.threads (print_formats P) (b.cores k) i ask else b.cores k) (same_is k k refl))))
                 (λ ne.
                 alone.cores j (λ e. ne (only j e))
-                ∙ sym (ap (λ (x : Bool). if x then granted K.threads (print_formats P) (b.cores j) i ask else b.cores j) (other_is j k ne)))
+                ∙ sym (ap (λ (x : Bool). if x then granted K.cores.threads (print_formats P) (b.cores j) i ask else b.cores j) (other_is j k ne)))
                 (cases_eq j k)

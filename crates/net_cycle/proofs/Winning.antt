@@ -22,7 +22,8 @@ use Rattle.core_family.specs.Family.{CoreShape, machine_of}
 use Rattle.core_family.proofs.Waiting.{each_waits}
 use Rattle.net_cycle.specs.Thread.{Thread}
 use Rattle.net_cycle.specs.Asks.{AsksAct}
-use Rattle.net_cycle.specs.Built.{Parts, IsBuilt, numbers_of, core_at, core_machine, core_count, thread_at}
+use Rattle.net_cycle.specs.Built.{Parts, IsBuilt, thread_at}
+use Rattle.net_cycle.specs.Bodies.{numbers_of, core_at, core_machine, core_count}
 use Rattle.net_cycle.specs.Stage.{Stage, StepOf, winner, asks_of}
 use Rattle.net_cycle.specs.Laws.{Wins, WinsBank, WinsCore, WhoWins}
 use Rattle.net_cycle.proofs.Cores.{none_past}
@@ -61,25 +62,25 @@ module _ (P : Program) (K : Parts) (built : IsBuilt P K) (c : Choice) (h : Stage
   q = h.slots i
 
   abbrev may : ℕ → Bool
-  may m = (core_machine K k).eligible (h.net.states k) m (asked_of K.threads (core_count K) (λ i. leaf_thread (K.modules i) (K.leaves i)) (core_machine K) c h.net k m)
+  may m = (core_machine K.cores k).eligible (h.net.states k) m (asked_of K.cores.threads (core_count K.cores) (λ i. leaf_thread (K.bodies i).body (K.bodies i).leaf) (core_machine K.cores) c h.net k m)
 
   -- it is one of the threads, and may be granted the core
-  pub won_by : (i < K.threads) × (may i ≡ true)
-  won_by = granted_below K.threads (preference c k) may i e
+  pub won_by : (i < K.cores.threads) × (may i ≡ true)
+  won_by = granted_below K.cores.threads (preference c k) may i e
 
   pub raised : asks_of P K c h.net i k 0 ≢ 0
   raised zero =
-      let off = (each_waits (core_at K k)).asked (h.net.states k) i (λ j. asks_of P K c h.net i k j) zero in
+      let off = (each_waits (core_at K.cores k)).asked (h.net.states k) i (λ j. asks_of P K c h.net i k j) zero in
       let z : true ≡ false = sym won_by.1 ∙ off in cc
 
-  pub a_core : k < core_count K
-  a_core = by (nat_lt k (core_count K)) refl
+  pub a_core : k < core_count K.cores
+  a_core = by (nat_lt k (core_count K.cores)) refl
     where
-      by : (b : Bool) → nat_lt k (core_count K) ≡ b → k < core_count K
+      by : (b : Bool) → nat_lt k (core_count K.cores) ≡ b → k < core_count K.cores
       by true u = grind (arith, nat_tests)
       by false u =
-          let past : core_count K ≤ k = grind (arith, nat_tests) in
-          let off = none_may (core_at K k) (none_past K k past) (h.net.states k) i (λ j. asks_of P K c h.net i k j) in
+          let past : core_count K.cores ≤ k = grind (arith, nat_tests) in
+          let off = none_may (core_at K.cores k) (none_past K.cores k past) (h.net.states k) i (λ j. asks_of P K c h.net i k j) in
           absurd (let z : true ≡ false = sym won_by.1 ∙ off in cc)
 
   own : q.routine ≡ routine_of P i
@@ -88,30 +89,30 @@ module _ (P : Program) (K : Parts) (built : IsBuilt P K) (c : Choice) (h : Stage
   step : StepOf P K c h i
   step = each_steps P K built c h i won_by.0
 
-  of_bank : k < length K.banks → Wins P K c h k i
+  of_bank : k < length K.cores.banks → Wins P K c h k i
   of_bank bank =
       let a =
       asks_in_block t (banked P K built) (total_is P K built) (is_enabled c.mask i) q (asks_of P K c h.net i) step.asks (h.net.slots i) (h.stands i won_by.0).at k bank raised in
       WinsBank bank a.0 (ap (λ (f : ℕ). is_run (stage_at K.codes f q.stage)) own ∙ a.1)
 
-  of_act : IsActCore (numbers_of K) k → Wins P K c h k i
+  of_act : IsActCore (numbers_of K.cores) k → Wins P K c h k i
   of_act core =
       ⊎_elim
-      (λ (names : core_asked (numbers_of K) (asked_in t.main (slice_get t.code.stages q.stage) q.variables) ≡ Some k).
-      let a = act_of (numbers_of K) t.main q.variables (slice_get t.code.stages q.stage) k names in
+      (λ (names : core_asked (numbers_of K.cores) (asked_in t.main (slice_get t.code.stages q.stage) q.variables) ≡ Some k).
+      let a = act_of (numbers_of K.cores) t.main q.variables (slice_get t.code.stages q.stage) k names in
       let asks = step.asks.core k a.2 (ap (λ (o : Option CodeStage). asked_in t.main o q.variables) a.3 ∙ a.4) a.5 in
       let on = bit_on (is_enabled c.mask i) (λ z. raised (asks.raised ∙ z)) in
       WinsCore core on a.0 a.1 a.2 (ap (λ (f : ℕ). stage_at K.codes f q.stage) own ∙ a.3) a.4 a.5
-      (subst (λ b. AsksAct (asks_of P K c h.net i k) b (core_machine K k).parts a.2) on asks))
-      (λ (other : core_asked (numbers_of K) (asked_in t.main (slice_get t.code.stages q.stage) q.variables) ≢ Some k). absurd (raised (step.asks.no_core k core other)))
-      (names_or (core_asked (numbers_of K) (asked_in t.main (slice_get t.code.stages q.stage) q.variables)) k)
+      (subst (λ b. AsksAct (asks_of P K c h.net i k) b (core_machine K.cores k).parts a.2) on asks))
+      (λ (other : core_asked (numbers_of K.cores) (asked_in t.main (slice_get t.code.stages q.stage) q.variables) ≢ Some k). absurd (raised (step.asks.no_core k core other)))
+      (names_or (core_asked (numbers_of K.cores) (asked_in t.main (slice_get t.code.stages q.stage) q.variables)) k)
 
   wins : Wins P K c h k i
-  wins = by (nat_lt k (length K.banks)) refl
+  wins = by (nat_lt k (length K.cores.banks)) refl
     where
-      by : (b : Bool) → nat_lt k (length K.banks) ≡ b → Wins P K c h k i
-      by true u = of_bank (let l : k < length K.banks = grind (arith, nat_tests) in l)
-      by false u = of_act ((let l : length K.banks ≤ k = grind (arith, nat_tests) in l), a_core)
+      by : (b : Bool) → nat_lt k (length K.cores.banks) ≡ b → Wins P K c h k i
+      by true u = of_bank (let l : k < length K.cores.banks = grind (arith, nat_tests) in l)
+      by false u = of_act ((let l : length K.cores.banks ≤ k = grind (arith, nat_tests) in l), a_core)
 
 pub who_wins : WhoWins
 who_wins P K built c h k i e = ((won_by P K built c h k i e).0, wins P K built c h k i e)

@@ -27,7 +27,7 @@ module _ (P : Program) (K : Parts) (chain : ℕ → ℕ → ℕ) (known : FitsTh
 
   -- a choice counts where it is full, or somebody moves
   abbrev pub counts : (Choice → Bool) → Stage P K → Choice → Bool
-  counts is_full h c = is_full c || any_below (moving h c) K.threads
+  counts is_full h c = is_full c || any_below (moving h c) K.cores.threads
 
 -- those that are full enable each of T threads
 abbrev pub EnablesAll : ℕ → (Choice → Bool) → Type 0
@@ -37,5 +37,5 @@ EnablesAll T is_full = (c : Choice) → is_full c ≡ true → (i : ℕ) → i <
 abbrev pub NetIsClocked : Type 0
 NetIsClocked =
     (P : Program) (K : Parts) (built : IsBuilt P K) (known : FitsTheory P K built.chain) (cycles : Cycles P K built.chain known) (is_full : Choice → Bool) →
-    EnablesAll K.threads is_full → IsGood (c_source P) →
-    IsClocked (c_source P) (hardware_of (threads_of P K built.chain known)) K.threads (look P K) (counts P K built.chain known cycles is_full) (cycle P K built.chain known cycles)
+    EnablesAll K.cores.threads is_full → IsGood (c_source P) →
+    IsClocked (c_source P) (hardware_of (threads_of P K built.chain known)) K.cores.threads (look P K) (counts P K built.chain known cycles is_full) (cycle P K built.chain known cycles)

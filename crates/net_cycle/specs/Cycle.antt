@@ -24,7 +24,8 @@ use Rattle.thread_promise.specs.Moves.{first_slot}
 use Rattle.thread_cores.specs.Cores.{Core, may_grant, OfMutex, OfBarrier, OfIds, OfPrinter}
 use Rattle.planned_threads.specs.Surroundings.{routine_of, Wakes, around, hardware_code}
 use Rattle.bank_memory.specs.Laws.{owner_of}
-use Rattle.net_cycle.specs.Built.{Parts, IsBuilt, numbers_of, core_machine, core_count}
+use Rattle.net_cycle.specs.Built.{Parts, IsBuilt}
+use Rattle.net_cycle.specs.Bodies.{numbers_of, core_machine, core_count}
 use Rattle.net_cycle.specs.Stage.{Stage, cores_shown, look, winner, next_net, printed_now}
 use Rattle.net_cycle.specs.Going.{in_block}
 use Rattle.net_cycle.specs.Laws.{Next}
@@ -35,7 +36,7 @@ pub record FitsTheory (P : Program) (K : Parts) (chain : ℕ → ℕ → ℕ) : 
   pub banks : AreBanks (bank_of K.spreads)
   pub keeps : (f l : ℕ) → KeepsOrders (blocks_of K.codes f l) (plans_of K.codes f l)
   pub lowered : IsLowered (c_source P) (hardware_code K.codes chain) (Starts P K.codes) (bound P)
-  pub fits : FitsBlocks (c_source P) (bank_of K.spreads) (hardware_code K.codes chain) (around P K.codes (numbers_of K) K.threads) (bound P)
+  pub fits : FitsBlocks (c_source P) (bank_of K.spreads) (hardware_code K.codes chain) (around P K.codes (numbers_of K.cores) K.cores.threads) (bound P)
 
 -- a slot that moves turns its beat
 abbrev pub turned : Slot → Slot → Bool
@@ -54,7 +55,7 @@ module _ (P : Program) (K : Parts) where
     code = hardware_code K.codes chain;
     keeps = known.keeps;
     spared = λ f l s lt. λ i. 0;
-    around = around P K.codes (numbers_of K) K.threads;
+    around = around P K.codes (numbers_of K.cores) K.cores.threads;
     B = bound P;
     lowered = known.lowered;
     fits = known.fits;
@@ -68,32 +69,32 @@ module _ (P : Program) (K : Parts) where
       outside = λ i. not (in_block K (h.slots i)) && turned (h.slots i) (n.slots i);
       grant = n.grant;
       wire = λ i. wires (bank_of K.spreads) (blocks_of K.codes (h.slots i).routine (h.slots i).stage) (plans_of K.codes (h.slots i).routine (h.slots i).stage) (h.slots i);
-      bank_owner = λ k. owner_of K.threads (winner P K c h.net k);
-      core_owner = λ k. owner_of K.threads (winner P K c h.net k);
+      bank_owner = λ k. owner_of K.cores.threads (winner P K c h.net k);
+      core_owner = λ k. owner_of K.cores.threads (winner P K c h.net k);
     }
 
     -- why an enabled thread stays where nobody moves: its act has no core, or the core may not grant it, or it rests and does not wake
     pub data Stalled (i : ℕ) : Type 0 where
       NoCore : (a : Act) (next : ℕ) (asks : Asked) (listed : stage_at K.codes (h.slots i).routine (h.slots i).stage ≡ Some (stage.Act a next))
-          (is : asked (nat_eq i 0) a (h.slots i).variables ≡ Some asks) (none : core_of (numbers_of K) asks ≡ None) → Stalled i
+          (is : asked (nat_eq i 0) a (h.slots i).variables ≡ Some asks) (none : core_of (numbers_of K.cores) asks ≡ None) → Stalled i
       Refused : (a : Act) (next k : ℕ) (asks : Asked) (listed : stage_at K.codes (h.slots i).routine (h.slots i).stage ≡ Some (stage.Act a next))
-          (is : asked (nat_eq i 0) a (h.slots i).variables ≡ Some asks) (names : core_of (numbers_of K) asks ≡ Some k)
+          (is : asked (nat_eq i 0) a (h.slots i).variables ≡ Some asks) (names : core_of (numbers_of K.cores) asks ≡ Some k)
           (kept : may_grant (cores_shown P K h.net h.out k) i asks ≡ false) → Stalled i
       Rests_on : (at : rest_of K.codes (h.slots i).routine ≤ (h.slots i).stage)
-          (still : (r : Slot) → Wakes P K.codes (numbers_of K) K.threads (cores_shown P K h.net h.out) i (h.slots i) r → ⊥) → Stalled i
+          (still : (r : Slot) → Wakes P K.codes (numbers_of K.cores) K.cores.threads (cores_shown P K h.net h.out) i (h.slots i) r → ⊥) → Stalled i
 
     pub record Cycled (chain : ℕ → ℕ → ℕ) (known : FitsTheory P K chain) : Type 0 where
       pub next : Stage P K
       pub net : next.net ≡ next_net P K c h.net
       pub out : next.out ≡ h.out ++ printed_now P K c h.net
       pub grants : Grants
-      pub cycle : NetCycle (threads_of chain known) (look P K h) (look P K next) grants K.threads
+      pub cycle : NetCycle (threads_of chain known) (look P K h) (look P K next) grants K.cores.threads
       -- where a request waits, one is answered
-      pub serves : Serves (threads_of chain known) (look P K h) (look P K next) grants K.threads
+      pub serves : Serves (threads_of chain known) (look P K h) (look P K next) grants K.cores.threads
       -- who moves turns the beat, and who does not keeps the slot
-      pub turns : (i : ℕ) → i < K.threads → moves (threads_of chain known) (look P K h) (look P K next) grants i ≡ true → (next.slots i).beat ≡ not (h.slots i).beat
-      pub stays : (i : ℕ) → i < K.threads → moves (threads_of chain known) (look P K h) (look P K next) grants i ≡ false → next.slots i ≡ h.slots i
-      pub stalls : ((j : ℕ) → j < K.threads → moves (threads_of chain known) (look P K h) (look P K next) grants j ≡ false) → (i : ℕ) → i < K.threads →
+      pub turns : (i : ℕ) → i < K.cores.threads → moves (threads_of chain known) (look P K h) (look P K next) grants i ≡ true → (next.slots i).beat ≡ not (h.slots i).beat
+      pub stays : (i : ℕ) → i < K.cores.threads → moves (threads_of chain known) (look P K h) (look P K next) grants i ≡ false → next.slots i ≡ h.slots i
+      pub stalls : ((j : ℕ) → j < K.cores.threads → moves (threads_of chain known) (look P K h) (look P K next) grants j ≡ false) → (i : ℕ) → i < K.cores.threads →
           is_enabled c.mask i ≡ true → Stalled i
 
 -- WHAT IS BUILT FITS THE THEORY
@@ -108,16 +109,16 @@ NetCycles =
 -- THE START: the machine's first state, with the first slots, the first memory and the first cores
 pub record First (P : Program) (K : Parts) : Type 0 where
   pub stage : Stage P K
-  pub net : stage.net ≡ start K.threads (core_count K) (λ i. leaf_thread (K.modules i) (K.leaves i)) (core_machine K)
+  pub net : stage.net ≡ start K.cores.threads (core_count K.cores) (λ i. leaf_thread (K.bodies i).body (K.bodies i).leaf) (core_machine K.cores)
   pub out : stage.out ≡ []
   pub slots : (i : ℕ) → stage.slots i ≡ first_slot (nat_eq i 0) (routine_of P i) (rest_of K.codes (routine_of P i))
   pub memory : (l : Location) → stage.memory l ≡ memory_of (first_state P).globals l
-  pub mutexes : (n : ℕ) (s : MutexShape) → slice_get K.mutexes n ≡ Some s → cores_shown P K stage.net [] (mutex_core (numbers_of K) n) ≡ OfMutex (first_lock s.initialised)
-  pub barriers : (n : ℕ) → n < K.barriers →
-      cores_shown P K stage.net [] (barrier_core (numbers_of K) n) ≡ OfBarrier (record { count = 0; waiting = replicate K.threads 0 })
-  pub ids : K.ids ≡ true →
-      cores_shown P K stage.net [] (ids_core (numbers_of K)) ≡ OfIds (record { statuses = replicate K.threads 0; arguments = replicate K.threads 0 })
-  pub printer : cores_shown P K stage.net [] (printer_core (numbers_of K)) ≡ OfPrinter []
+  pub mutexes : (n : ℕ) (s : MutexShape) → slice_get K.cores.mutexes n ≡ Some s → cores_shown P K stage.net [] (mutex_core (numbers_of K.cores) n) ≡ OfMutex (first_lock s.initialised)
+  pub barriers : (n : ℕ) → n < K.cores.barriers →
+      cores_shown P K stage.net [] (barrier_core (numbers_of K.cores) n) ≡ OfBarrier (record { count = 0; waiting = replicate K.cores.threads 0 })
+  pub ids : K.cores.ids ≡ true →
+      cores_shown P K stage.net [] (ids_core (numbers_of K.cores)) ≡ OfIds (record { statuses = replicate K.cores.threads 0; arguments = replicate K.cores.threads 0 })
+  pub printer : cores_shown P K stage.net [] (printer_core (numbers_of K.cores)) ≡ OfPrinter []
 
 abbrev pub NetStarts : Type 0
 NetStarts = (P : Program) (K : Parts) → IsBuilt P K → First P K

@@ -16,7 +16,8 @@ use Rattle.thread_promise.specs.Promise.{is_run, went_on}
 use Rattle.thread_promise.specs.Moves.{stage_after}
 use Rattle.thread_cores.specs.Cores.{Core}
 use Rattle.planned_threads.specs.Surroundings.{Wakes}
-use Rattle.net_cycle.specs.Built.{Parts, numbers_of}
+use Rattle.net_cycle.specs.Built.{Parts}
+use Rattle.net_cycle.specs.Bodies.{numbers_of}
 
 -- the slot is in a block
 abbrev pub in_block : Parts → Slot → Bool
@@ -36,15 +37,15 @@ module _ (P : Program) (K : Parts) (i : ℕ) (enabled : Bool) (ask : ℕ → ℕ
     pub owned : (k : ℕ) (l : Location) → k < size b → answered b p q grant k ≡ true → Touches l (bank_access_now b p q (wires (bank_of K.spreads) b p q) k) →
         granted (bank_of K.spreads l) ≡ true
     -- a request asks a bank, and a bank that is asked and grants answers one
-    pub wants : (k : ℕ) → k < size b → requests b p q k ≡ true → (n : ℕ) × (n < length K.banks) × (ask n 0 ≢ 0)
-    pub serves : (n : ℕ) → n < length K.banks → ask n 0 ≢ 0 → granted n ≡ true → (k : ℕ) × (k < size b) × (answered b p q grant k ≡ true)
+    pub wants : (k : ℕ) → k < size b → requests b p q k ≡ true → (n : ℕ) × (n < length K.cores.banks) × (ask n 0 ≢ 0)
+    pub serves : (n : ℕ) → n < length K.cores.banks → ask n 0 ≢ 0 → granted n ≡ true → (k : ℕ) × (k < size b) × (answered b p q grant k ≡ true)
 
   pub data Goes (c : ℕ → Core) : Type 0 where
     Keeps : (idle : (enabled ≡ false) ⊎ (in_block K q ≡ false)) (slot : r ≡ q) (ungranted : (k : ℕ) → grant k ≡ false) (none : made ≡ []) → Goes c
     Advanced : (on : enabled ≡ true) (block : in_block K q ≡ true) (is : IsAdvance (blocks_of K.codes q.routine q.stage) (plans_of K.codes q.routine q.stage)) → Goes c
-    Woke : (on : enabled ≡ true) (outside : in_block K q ≡ false) (wakes : Wakes P K.codes (numbers_of K) K.threads c i q r) (none : made ≡ []) → Goes c
+    Woke : (on : enabled ≡ true) (outside : in_block K q ≡ false) (wakes : Wakes P K.codes (numbers_of K.cores) K.cores.threads c i q r) (none : made ≡ []) → Goes c
     Acted : (on : enabled ≡ true) (a : Act) (next k : ℕ) (asks : Asked) (listed : stage_at K.codes q.routine q.stage ≡ Some (stage.Act a next))
-        (is : asked (nat_eq i 0) a q.variables ≡ Some asks) (core : core_of (numbers_of K) asks ≡ Some k) (won : granted k ≡ true)
+        (is : asked (nat_eq i 0) a q.variables ≡ Some asks) (core : core_of (numbers_of K.cores) asks ≡ Some k) (won : granted k ≡ true)
         (slot : r ≡ went_on (stage_after (rest_of K.codes q.routine) q.stage a next) q) (none : made ≡ []) → Goes c
     Returned : (on : enabled ≡ true) (main : i ≡ 0) (next : ℕ) (listed : stage_at K.codes q.routine q.stage ≡ Some (stage.Act act.Return next))
         (slot : r ≡ went_on (rest_of K.codes q.routine) q) (none : made ≡ []) → Goes c

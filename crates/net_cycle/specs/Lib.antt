@@ -11,3 +11,6 @@ pub mod Asks
 pub mod Stays
 pub mod OneThread
 pub mod Steps
+pub mod Bodies
+pub use Rattle.core_family.specs.Kinds
+pub use Rattle.core_family.specs.declared.cores.Cores

@@ -18,7 +18,8 @@ use Rattle.bank_memory.specs.Memory.{Holds}
 use Rattle.bank_memory.specs.Partition.{globals_of}
 use Rattle.net_cycle.specs.Thread.{Stands}
 use Rattle.net_cycle.specs.Steps.{Step}
-use Rattle.net_cycle.specs.Built.{Parts, Machine, numbers_of, core_at, core_machine, core_count, thread_at}
+use Rattle.net_cycle.specs.Built.{Parts, Machine, thread_at}
+use Rattle.net_cycle.specs.Bodies.{numbers_of, core_at, core_machine, core_count}
 
 -- a core as the theory has it
 abbrev pub shown_as : (o : Option CoreShape) → (machine_of o).State → List ℕ → Core
@@ -31,15 +32,15 @@ shown_as _ s out = OfBank
 module _ (P : Program) (K : Parts) where
   -- by number of a core what a bank has
   abbrev pub held : Machine K → ℕ → Words
-  held h n = words_of (core_at K n) (h.states n)
+  held h n = words_of (core_at K.cores n) (h.states n)
 
   -- what core k tells thread i
   abbrev pub news : Machine K → ℕ → ℕ → ℕ → ℕ
-  news h i k j = (core_machine K k).tells (h.states k) i j
+  news h i k j = (core_machine K.cores k).tells (h.states k) i j
 
   -- what the cores behind the banks tell, or may tell later, fits the ports
   abbrev pub FitsTold : Machine K → Type 0
-  FitsTold h = (k : ℕ) → length K.banks ≤ k → FitsState (core_at K k) (h.states k)
+  FitsTold h = (k : ℕ) → length K.cores.banks ≤ k → FitsState (core_at K.cores k) (h.states k)
 
   -- a state of the machine, what it has printed, and the slots and the memory that it shows
   pub record Stage : Type 0 where
@@ -47,15 +48,15 @@ module _ (P : Program) (K : Parts) where
     pub out : List ℕ
     pub slots : ℕ → Slot
     pub memory : Memory ℤ
-    pub fits : (i : ℕ) → i < K.threads → IsSlot (K.modules i) (net.slots i)
-    pub stands : (i : ℕ) → i < K.threads → Stands (thread_at P K i) (net.slots i) (slots i)
-    pub holds : Holds K.spreads (globals_of P) K.threads (held net) memory (λ i. (slots i).words)
+    pub fits : (i : ℕ) → i < K.cores.threads → IsSlot (K.bodies i).body (net.slots i)
+    pub stands : (i : ℕ) → i < K.cores.threads → Stands (thread_at P K i) (net.slots i) (slots i)
+    pub holds : Holds K.spreads (globals_of P) K.cores.threads (held net) memory (λ i. (slots i).words)
     pub told : FitsTold net
 
   -- ---- in the theory's words
 
   abbrev pub cores_shown : Machine K → List ℕ → ℕ → Core
-  cores_shown h out k = shown_as (core_at K k) (h.states k) out
+  cores_shown h out k = shown_as (core_at K.cores k) (h.states k) out
 
   abbrev pub look : Stage → World ℤ Slot (ℕ → Core)
   look h = record { slots = h.slots; memory = h.memory; cores = cores_shown h.net h.out }
@@ -65,21 +66,21 @@ module _ (P : Program) (K : Parts) where
   module _ (c : Choice) (h : Machine K) where
     -- whom core k grants
     abbrev pub winner : ℕ → Option ℕ
-    winner = won K.threads (core_count K) (λ i. leaf_thread (K.modules i) (K.leaves i)) (core_machine K) c h
+    winner = won K.cores.threads (core_count K.cores) (λ i. leaf_thread (K.bodies i).body (K.bodies i).leaf) (core_machine K.cores) c h
 
     abbrev pub granted_to : ℕ → ℕ → Bool
     granted_to i k = is_granted (winner k) i
 
     -- by core and part what thread i asks
     abbrev pub asks_of : ℕ → ℕ → ℕ → ℕ
-    asks_of i k j = (leaf_thread (K.modules i) (K.leaves i)).asks (is_enabled c.mask i) (h.slots i) k j
+    asks_of i k j = (leaf_thread (K.bodies i).body (K.bodies i).leaf).asks (is_enabled c.mask i) (h.slots i) k j
 
     abbrev pub next_net : Machine K
-    next_net = stepped K.threads (core_count K) (λ i. leaf_thread (K.modules i) (K.leaves i)) (core_machine K) c h
+    next_net = stepped K.cores.threads (core_count K.cores) (λ i. leaf_thread (K.bodies i).body (K.bodies i).leaf) (core_machine K.cores) c h
 
     -- what the printer prints
     abbrev pub printed_now : List ℕ
-    printed_now = output K.threads (core_count K) (λ i. leaf_thread (K.modules i) (K.leaves i)) (core_machine K) c h (printer_core (numbers_of K))
+    printed_now = output K.cores.threads (core_count K.cores) (λ i. leaf_thread (K.bodies i).body (K.bodies i).leaf) (core_machine K.cores) c h (printer_core (numbers_of K.cores))
 
   -- the step of thread i
   abbrev pub StepOf : Choice → Stage → ℕ → Type 0

@@ -2,6 +2,7 @@
 //! of the net of planned threads that the theory knows.
 #![tactic(auto)]
 
+ghost use Rattle.net_cycle.specs.Bodies.{BodiesFit};
 ghost use Rattle.net_cycle.specs.Laws.{BuiltAreThreads, ThreadsAreDone, EachSteps, NetGoes, WhoWins, EachTurns};
 ghost use Rattle.net_cycle.specs.Clock.{NetIsClocked};
 ghost use Rattle.net_cycle.specs.Cycle.{BuiltFits, NetCycles, NetStarts};
@@ -35,8 +36,9 @@ pub fn thread_steps()
 {}
 
 /// Each thread of what is built is a thread of the machine, makes a step of its own by what it hears of the cores, and is
-/// done where it rests.
+/// done where it rests; its module hears and asks each core in its widths.
 pub fn each_steps()
+    ensures fits { BodiesFit }
     ensures threads { BuiltAreThreads }
     ensures steps { EachSteps }
     ensures done { ThreadsAreDone }

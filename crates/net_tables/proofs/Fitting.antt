@@ -15,9 +15,9 @@ use Rattle.top_wiring.specs.Ports.{EachModule, arbiter_inputs}
 use Rattle.top_wiring.specs.Leaves.{IsThreadLeaf, IsCoreLeaf, IsArbiterLeaf, AreLeaves}
 use Rattle.top_wiring.specs.Machine.{IsCoreAt, IsArbiterAt}
 use Rattle.bank_arbiter.specs.Arbiter as arbiter
-use Rattle.core_layout.specs.Family.{CoreShape, machine_of, places_of, machine_at, places_at, is_late}
-use Rattle.core_layout.specs.Fits.{FitsLayout as FitsCore}
-use Rattle.core_layout.proofs.Fitting.{cores_fit}
+use Rattle.core_family.specs.Family.{CoreShape, machine_of, places_of, machine_at, places_at, is_late}
+use Rattle.net_tables.specs.Fits.{FitsLayout as FitsCore}
+use Rattle.net_tables.proofs.CoresFit.{cores_fit}
 use Rattle.net_tables.specs.Tables.{PlacedCore, Table, HasCores, core_name, kinds_at, laid_core, layout_of, modules_of, shapes_of}
 use Rattle.net_tables.specs.Laws.{CoreStands, ArbiterStands, EachThread, TablesFit}
 use Rattle.net_tables.proofs.Lists.{map_back, map_get, behind_one}

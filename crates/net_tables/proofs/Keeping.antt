@@ -5,7 +5,7 @@ use Rattle.top_wiring.specs.Ports as port
 use Rattle.top_wiring.specs.Machine.{IsThreadAt, IsCoreAt, IsArbiterAt}
 use Rattle.bank_arbiter.specs.Arbiter as arbiter
 use Rattle.leaf_machine.specs.Leaves.{leaf_thread, leaf_places}
-use Rattle.core_layout.specs.Family.{machine_at, places_at}
+use Rattle.core_family.specs.Family.{machine_at, places_at}
 use Rattle.net_tables.specs.Tables.{layout_of, shapes_of}
 use Rattle.net_tables.specs.Whole.{TablesKeepPromises}
 use Rattle.net_tables.proofs.Fitting.{arbiter_at, core_at, each_module}

@@ -2,6 +2,14 @@ pub mod Lists
 pub mod Widths
 pub mod Small
 pub mod Fitting
+pub mod Banks
+pub mod Barriers
+pub mod CoresFit
+pub mod Ids
+pub mod Mutexes
+pub mod Ports
+pub mod Printer
+pub mod Standing
 pub mod Decimals
 pub mod Naming
 pub mod Writing
@@ -10,5 +18,5 @@ pub mod Threads
 pub mod Sound
 pub mod Keeping
 pub mod Netting
-pub use Rattle.core_layout.proofs.Waiting
-pub use Rattle.core_layout.proofs.Printing
+pub use Rattle.core_family.proofs.Waiting
+pub use Rattle.core_family.proofs.Printing

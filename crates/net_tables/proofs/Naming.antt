@@ -2,7 +2,7 @@
 use Rattle.std.proofs.Common.{◌≡◌, ℕ, List, ◌∷◌, ◌++◌, get_or, refl, sym, ap, ◌∙◌, arith}
 use Rattle.std.specs.Prelude.{slice_index, codes}
 use Rattle.top_parts.specs.declared.layout.Core.{Core}
-use Rattle.core_layout.specs.Family.{CoreShape, Bank, Mutex, Barrier, Forks, Prints}
+use Rattle.core_family.specs.Family.{CoreShape, Bank, Mutex, Barrier, Forks, Prints}
 use Rattle.net_tables.specs.Tables.{core_name, kinds_at, laid_core}
 use Rattle.net_tables.specs.Laws.{SameOf, IsLow, CoresAreNamed}
 use Rattle.net_tables.proofs.Lists.{map_back}

@@ -31,7 +31,7 @@ use Rattle.top_wiring.proofs.Finding.{tops_are_found}
 use Rattle.leaf_machine.specs.Leaves.{LeafPorts, leaf_thread}
 use Rattle.bank_cores.specs.declared.bank.Shape.{Shape as BankShape}
 use Rattle.bank_cores.specs.Bank.{IsBank, memory_of}
-use Rattle.core_layout.specs.Family.{CoreShape, Bank, Mutex, Barrier, Forks, Prints, IsTable, machine_at}
+use Rattle.core_family.specs.Family.{CoreShape, Bank, Mutex, Barrier, Forks, Prints, IsTable, machine_at}
 use Rattle.net_tables.specs.Tables.{PlacedCore, Table, HasCores, core_name, kinds_at, laid_core, layout_of, modules_of, shapes_of}
 use Rattle.net_tables.specs.Laws.{IsLow}
 use Rattle.net_tables.specs.Whole.{IsWholeTable, AreThreads, places_of}

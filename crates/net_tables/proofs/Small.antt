@@ -3,8 +3,8 @@ use Rattle.std.proofs.Common.{ℕ, ◌^◌, ◌<◌, List, [], ◌∷◌, length
 use Rattle.std.proofs.lemmas.List.{length-map}
 use Rattle.circuit.specs.Rows.{EachOf}
 use Rattle.top_wiring.specs.Top.{HasFewTold, HasFewGroups, IsSmall}
-use Rattle.core_layout.specs.Family.{CoreShape, Bank, Mutex, Barrier, Forks, Prints, port_of}
-use Rattle.core_layout.specs.Fits.{groups_of}
+use Rattle.core_family.specs.Family.{CoreShape, Bank, Mutex, Barrier, Forks, Prints, port_of}
+use Rattle.net_tables.specs.Fits.{groups_of}
 use Rattle.top_wiring.specs.Top.{IsFewGroup}
 use Rattle.net_tables.specs.Tables.{PlacedCore, Table, HasCores, laid_core, layout_of, kinds_at, IsNarrow}
 use Rattle.net_tables.proofs.Widths.{asks_count, told_count}

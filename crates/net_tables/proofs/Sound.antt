@@ -11,9 +11,9 @@ use Rattle.top_wiring.specs.Ports.{threads, thread_inputs, core_inputs, arbiter_
 use Rattle.top_wiring.specs.Sound.{AreSound}
 use Rattle.lists.proofs.Places.{get_there}
 use Rattle.bank_cores.specs.Bank.{bank_name}
-use Rattle.core_layout.specs.Mutex.{mutex_name}
+use Rattle.mutex_cores.specs.Mutex.{mutex_name}
 use Rattle.leaf_machine.specs.Ports as port
-use Rattle.core_layout.specs.Family.{CoreShape, Bank, Mutex, Barrier, Forks, Prints, IsTable, IsCoreModule, input_widths, output_widths}
+use Rattle.core_family.specs.Family.{CoreShape, Bank, Mutex, Barrier, Forks, Prints, IsTable, IsCoreModule, input_widths, output_widths}
 use Rattle.net_tables.specs.Tables.{PlacedCore, Table, HasCores, layout_of, modules_of, ports_of}
 use Rattle.net_tables.specs.Laws.{IsLow}
 use Rattle.net_tables.specs.Whole.{IsThreadName, OfFunction, OfIdle, SameModule, IsWholeTable, TablesAreSound}

@@ -5,8 +5,8 @@ use Rattle.std.proofs.lemmas.List.{append-nil, length-map, length-replicate}
 use Rattle.circuit.specs.Rows.{EachOf}
 use Rattle.top_wiring.specs.Parts.{group_widths, ask_widths, told_widths}
 use Rattle.leaf_machine.specs.Ports.{CorePort, asks_of, told_of}
-use Rattle.core_layout.specs.Family.{CoreShape, Bank, Mutex, Barrier, Forks, Prints, port_of}
-use Rattle.core_layout.specs.Fits.{groups_of}
+use Rattle.core_family.specs.Family.{CoreShape, Bank, Mutex, Barrier, Forks, Prints, port_of}
+use Rattle.net_tables.specs.Fits.{groups_of}
 use Rattle.net_tables.specs.Tables.{PlacedCore, Table, laid_core, layout_of, kinds_at, ports_of, IsNarrow}
 use Rattle.net_tables.specs.Laws.{HasThreadPorts}
 

@@ -14,9 +14,9 @@ use Rattle.top_wiring.specs.Parts.{ask_widths, thread_part, core_part, arbiter_p
 use Rattle.top_wiring.specs.Sound.{WritesIn, IsOf}
 use Rattle.top_wiring.proofs.Lists.{IsBehind, get_either, spread_back}
 use Rattle.top_wiring.proofs.Standing.{core_part_at}
-use Rattle.core_layout.specs.Family.{CoreShape, Bank, Mutex, Barrier, Forks, Prints}
-use Rattle.core_layout.specs.Laws.{IsNoPrinter}
-use Rattle.core_layout.proofs.Printing.{others_silent}
+use Rattle.core_family.specs.Family.{CoreShape, Bank, Mutex, Barrier, Forks, Prints}
+use Rattle.core_family.specs.Laws.{IsNoPrinter}
+use Rattle.core_family.proofs.Printing.{others_silent}
 use Rattle.print_core.specs.declared.printer.Shape.{Shape as PrinterShape}
 use Rattle.net_tables.specs.Tables.{PlacedCore, Table, HasCores, kinds_at, laid_core, layout_of, modules_of}
 use Rattle.net_tables.specs.Laws.{SameOf, StandOnce, HasPrinter, OneWrites, PrintersWrite}

@@ -15,7 +15,7 @@ use Rattle.leaf_machine.specs.Standing.{IsSilent}
 use Rattle.leaf_machine.specs.Leaves.{LeafPorts, leaf_thread, leaf_places, IsSlotBit, IsThreadLeaf as IsLeafOfThread}
 use Rattle.print_core.specs.declared.printer.Shape.{Shape as PrinterShape}
 use Rattle.leaf_machine.specs.Ports as port
-use Rattle.core_layout.specs.Family.{CoreShape, Bank, Mutex, Barrier, Forks, Prints, machine_at, places_at}
+use Rattle.core_family.specs.Family.{CoreShape, Bank, Mutex, Barrier, Forks, Prints, machine_at, places_at}
 use Rattle.net_tables.specs.Tables.{PlacedCore, Table, HasCores, layout_of, modules_of, shapes_of, ports_of}
 
 -- THE PORTS OF THREADS: a layout asks of a thread's module the ports of its cores, in their order

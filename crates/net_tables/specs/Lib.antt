@@ -2,5 +2,5 @@ pub mod Tables
 pub mod Laws
 pub mod Whole
 pub mod Nets
-pub use Rattle.core_layout.specs.Fits
-pub use Rattle.core_layout.specs.Family
+pub mod Fits
+pub use Rattle.core_family.specs.Family

@@ -18,7 +18,7 @@ use Rattle.top_wiring.specs.Wired.{IsWired}
 use Rattle.leaf_machine.specs.Leaves.{LeafPorts, leaf_thread}
 use Rattle.bank_cores.specs.declared.bank.Shape.{Shape as BankShape}
 use Rattle.bank_cores.specs.Bank.{memory_of}
-use Rattle.core_layout.specs.Family.{Bank, machine_at}
+use Rattle.core_family.specs.Family.{Bank, machine_at}
 use Rattle.net_tables.specs.Tables.{Table, layout_of, modules_of, shapes_of}
 use Rattle.net_tables.specs.Whole.{IsWholeTable, AreThreads, places_of}
 

@@ -10,8 +10,8 @@ use Rattle.bank_arbiter.specs.Arbiter as arbiter
 use Rattle.top_parts.specs.declared.layout.Core.{Core}
 use Rattle.top_parts.specs.declared.layout.Layout.{Layout}
 use Rattle.leaf_machine.specs.Ports.{CorePort}
-use Rattle.core_layout.specs.Family.{CoreShape, Bank, Mutex, Barrier, Forks, Prints, port_of, IsCoreModule}
-use Rattle.core_layout.specs.Fits.{core_of}
+use Rattle.core_family.specs.Family.{CoreShape, Bank, Mutex, Barrier, Forks, Prints, port_of, IsCoreModule}
+use Rattle.net_tables.specs.Fits.{core_of}
 
 -- a core, the place of its module among the modules of cores, and its number among the cores of its kind
 pub record PlacedCore : Type 0 where

@@ -9,7 +9,7 @@ use Rattle.top_wiring.specs.Machine.{KeepPromises}
 use Rattle.bank_arbiter.specs.Arbiter as arbiter
 use Rattle.leaf_machine.specs.Leaves.{LeafPorts, leaf_thread, leaf_places}
 use Rattle.leaf_machine.specs.Ports as port
-use Rattle.core_layout.specs.Family.{CoreShape, Bank, Mutex, Barrier, Forks, Prints, machine_at, places_at}
+use Rattle.core_family.specs.Family.{CoreShape, Bank, Mutex, Barrier, Forks, Prints, machine_at, places_at}
 use Rattle.net_tables.specs.Tables.{PlacedCore, Table, HasCores, layout_of, modules_of, shapes_of, ports_of}
 use Rattle.net_tables.specs.Laws.{StandOnce, HasPrinter, ThreadStands}
 

@@ -1,13 +1,16 @@
 //! Tables of modules of nets with any number of threads and cores, and the layouts by which they are wired.
 #![tactic(auto)]
 
+ghost use Rattle.net_tables.specs.Fits.{CoresFit};
 ghost use Rattle.net_tables.specs.Nets.{TablesAreNets};
 ghost use Rattle.net_tables.specs.Whole.{TablesAreSound, TablesKeepPromises};
 ghost use Rattle.net_tables.specs.Laws.{CoresAreNamed, PrintersWrite, TablesFit, ThreadsFit, ThreadsHavePorts};
 
-/// The cores and the arbiter of a table fit its layout, the layout asks of threads' modules the ports of its cores, and the
+/// The module of each core has the ports that a layout of any number of threads asks of it, and keeps its promise at them. The
+/// cores and the arbiter of a table fit its layout, the layout asks of threads' modules the ports of its cores, and the
 /// instances of cores have names of their own. The module of the printer alone writes, in one instance.
 pub fn tables_fit()
+    ensures cores { CoresFit }
     ensures tables { TablesFit }
     ensures threads { ThreadsHavePorts }
     ensures modules { ThreadsFit }

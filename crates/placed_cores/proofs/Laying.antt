@@ -7,13 +7,13 @@ use Rattle.top_wiring.specs.Parts.{each_from}
 use Rattle.bank_cores.specs.declared.bank.Shape.{Shape as BankShape}
 use Rattle.mutex_cores.specs.declared.mutex.Shape.{Shape as MutexShape}
 use Rattle.net_tables.specs.Tables.{PlacedCore, laid_core}
-use Rattle.placed_cores.specs.declared.wanted.Wanted.{Wanted}
+use Rattle.core_family.specs.declared.cores.Cores.{Cores}
 use Rattle.placed_cores.specs.declared.layout.Places.{Places}
 use Rattle.placed_cores.specs.Placing.{unset_at, free_at, barrier_at, forks_at, printer_at, placed_bank, placed_mutex, placed_barrier}
 use Rattle.placed_cores.specs.Placing.{placed_forks, placed_printer, last_cores, placed}
 use Rattle.placed_cores.specs.Laying.{bank_core, barrier_core, forks_core, printer_core, either_mutex, mutex_core, places_of}
 
-module _ (w : Wanted) (first : ℕ) where
+module _ (w : Cores) (first : ℕ) where
   abbrev lay : List PlacedCore → List Core
   lay cores = map (laid_core first) cores
 
@@ -77,7 +77,7 @@ module _ (w : Wanted) (first : ℕ) where
       ∙ sym (map-append (laid_core first) (each_from (placed_bank w) 0 w.banks)
       (each_from (placed_mutex w) 0 w.mutexes ++ (spread (placed_barrier w) 0 w.barriers ++ last_cores w)))
 
-module _ (w : Wanted) (first : ℕ) where
+module _ (w : Cores) (first : ℕ) where
   abbrev laid_banks : List Core
   laid_banks = each_from bank_core first w.banks
 
@@ -90,7 +90,7 @@ module _ (w : Wanted) (first : ℕ) where
   abbrev laid_last : Places → List Core
   laid_last p = (if w.ids then forks_core p.forks ∷ [] else []) ++ (printer_core w.printer.values p.printer ∷ [])
 
-pub all_laid : (w : Wanted) (first : ℕ) (at : Places) (banks mutexes barriers last cores : List Core) → at ≡ places_of first w → (bs : List BankShape) → bs ≡ w.banks →
+pub all_laid : (w : Cores) (first : ℕ) (at : Places) (banks mutexes barriers last cores : List Core) → at ≡ places_of first w → (bs : List BankShape) → bs ≡ w.banks →
     (ms : List MutexShape) →
     ms ≡ w.mutexes → banks ≡ each_from bank_core first bs → mutexes ≡ each_from (either_mutex at.unset at.free) 0 ms → barriers ≡ spread (barrier_core at.barrier) 0 w.barriers →
     last ≡ (if w.ids then forks_core at.forks ∷ [] else []) ++ printer_core w.printer.values at.printer ∷ [] → cores ≡ ((banks ++ mutexes) ++ barriers) ++ last →

@@ -14,8 +14,9 @@ use Rattle.circuit.specs.Rows.{EachOf}
 use Rattle.bank_cores.specs.declared.bank.Shape.{Shape as BankShape}
 use Rattle.mutex_cores.specs.declared.mutex.Shape.{Shape as MutexShape}
 use Rattle.net_tables.specs.Family.{CoreShape, Bank, Mutex, Prints, IsCoreModule}
-use Rattle.placed_cores.specs.declared.wanted.Wanted.{Wanted}
-use Rattle.placed_cores.specs.Placing.{barrier, forks, unset_at, free_at, barrier_at, forks_at, printer_at, mutex_at, HasKind, AreKinds}
+use Rattle.core_family.specs.declared.cores.Cores.{Cores}
+use Rattle.core_family.specs.Kinds.{barrier, forks}
+use Rattle.placed_cores.specs.Placing.{unset_at, free_at, barrier_at, forks_at, printer_at, mutex_at, HasKind, AreKinds}
 use Rattle.placed_cores.specs.Kinds.{IsWantedBank, HaveModules, AreBankModules, IsWhereWanted, unset_mutex, free_mutex, AreMutexModules, AreLastModules}
 
 each_at : {A : Type 0} (P : A → Type 0) (xs : List A) (i : ℕ) (x : A) → EachOf P xs → slice_get xs i ≡ Some x → P x
@@ -76,7 +77,7 @@ count_by xs ms Is false w = let n = length-append xs ms in let none : length ms 
 
 -- ---- mutexes
 
-module _ (w : Wanted) (right : HaveModules w) (banks : List Module) (are_banks : AreBankModules w.threads w.banks (length w.banks) banks) where
+module _ (w : Cores) (right : HaveModules w) (banks : List Module) (are_banks : AreBankModules w.threads w.banks (length w.banks) banks) where
   module _ (mutexes : List Module) (are_mutexes : AreMutexModules w mutexes) where
     abbrev unset : List Module
     unset = are_mutexes.unset
@@ -170,7 +171,7 @@ module _ (w : Wanted) (right : HaveModules w) (banks : List Module) (are_banks :
       }
 
 -- the list as it is joined
-pub are_kinds : (w : Wanted) → HaveModules w → (banks mutexes last kinds : List Module) → AreBankModules w.threads w.banks (length w.banks) banks → AreMutexModules w mutexes →
+pub are_kinds : (w : Cores) → HaveModules w → (banks mutexes last kinds : List Module) → AreBankModules w.threads w.banks (length w.banks) banks → AreMutexModules w mutexes →
     AreLastModules w last → kinds ≡ (banks ++ mutexes) ++ last → AreKinds w kinds
 are_kinds w right banks mutexes last kinds are_banks are_mutexes are_last same =
     let apart : (banks ++ are_mutexes.unset) ++ are_mutexes.free ≡ banks ++ mutexes = append_assoc banks are_mutexes.unset are_mutexes.free

@@ -19,8 +19,9 @@ use Rattle.mutex_cores.specs.declared.mutex.Shape.{Shape as MutexShape}
 use Rattle.net_tables.specs.Family.{CoreShape, Bank, Mutex, Prints, IsCoreModule}
 use Rattle.net_tables.specs.Tables.{PlacedCore, IsNarrow}
 use Rattle.net_tables.specs.Whole.{SameModule}
-use Rattle.placed_cores.specs.declared.wanted.Wanted.{Wanted}
-use Rattle.placed_cores.specs.Placing.{barrier, forks, cores_of, unset_at, free_at, barrier_at, forks_at, printer_at, mutex_at, placed_bank, placed_mutex}
+use Rattle.core_family.specs.declared.cores.Cores.{Cores}
+use Rattle.core_family.specs.Kinds.{barrier, forks, cores_of}
+use Rattle.placed_cores.specs.Placing.{unset_at, free_at, barrier_at, forks_at, printer_at, mutex_at, placed_bank, placed_mutex}
 use Rattle.placed_cores.specs.Placing.{placed_barrier, placed_forks, placed_printer, last_cores, placed, HasKind, AreKinds, BanksApart, IsNumbered, CoresArePlaced}
 
 length-each : {A : Type 0} {B : Type 0} (f : ℕ → A → B) (i : ℕ) (xs : List A) → length (each_from f i xs) ≡ length xs
@@ -48,7 +49,7 @@ shape c = c.shape
 abbrev pub AllNarrow : List PlacedCore → Type 0
 AllNarrow cores = EachOf (λ (c : PlacedCore). IsNarrow c.shape) cores
 
-module _ (w : Wanted) where
+module _ (w : Cores) where
   abbrev B : ℕ
   B = length w.banks
 
@@ -332,28 +333,28 @@ module _ (w : Wanted) where
       by (AtPrinter atx isx) (AtPrinter aty isy) s = kinds_of (placed_printer w) (placed_printer w) isx isy refl
 
 -- no core but the printer has a list of values
-banks_narrow : (w : Wanted) (i : ℕ) (bs : List BankShape) (rest : List PlacedCore) → AllNarrow rest → AllNarrow (each_from (placed_bank w) i bs ++ rest)
+banks_narrow : (w : Cores) (i : ℕ) (bs : List BankShape) (rest : List PlacedCore) → AllNarrow rest → AllNarrow (each_from (placed_bank w) i bs ++ rest)
 banks_narrow w i [] rest h = h
 banks_narrow w i (b ∷ bs) rest h = (tt, banks_narrow w (i + 1) bs rest h)
 
-mutexes_narrow : (w : Wanted) (i : ℕ) (ms : List MutexShape) (rest : List PlacedCore) → AllNarrow rest → AllNarrow (each_from (placed_mutex w) i ms ++ rest)
+mutexes_narrow : (w : Cores) (i : ℕ) (ms : List MutexShape) (rest : List PlacedCore) → AllNarrow rest → AllNarrow (each_from (placed_mutex w) i ms ++ rest)
 mutexes_narrow w i [] rest h = h
 mutexes_narrow w i (m ∷ ms) rest h = (tt, mutexes_narrow w (i + 1) ms rest h)
 
-barriers_narrow : (w : Wanted) (i n : ℕ) (rest : List PlacedCore) → AllNarrow rest → AllNarrow (spread (placed_barrier w) i n ++ rest)
+barriers_narrow : (w : Cores) (i n : ℕ) (rest : List PlacedCore) → AllNarrow rest → AllNarrow (spread (placed_barrier w) i n ++ rest)
 barriers_narrow w i zero rest h = h
 barriers_narrow w i (suc n) rest h = (tt, barriers_narrow w (i + 1) n rest h)
 
-last_narrow : (w : Wanted) (on : Bool) → w.printer.values ≤ 4 → AllNarrow ((if on then placed_forks w ∷ [] else []) ++ (placed_printer w ∷ []))
+last_narrow : (w : Cores) (on : Bool) → w.printer.values ≤ 4 → AllNarrow ((if on then placed_forks w ∷ [] else []) ++ (placed_printer w ∷ []))
 last_narrow w true few = (tt, (few, tt))
 last_narrow w false few = (few, tt)
 
-last_count : (w : Wanted) (on : Bool) → length ((if on then placed_forks w ∷ [] else []) ++ (placed_printer w ∷ [])) ≡ bit_of on + 1
+last_count : (w : Cores) (on : Bool) → length ((if on then placed_forks w ∷ [] else []) ++ (placed_printer w ∷ [])) ≡ bit_of on + 1
 last_count w true = refl
 last_count w false = refl
 
 -- how many there are
-pub placed_count : (w : Wanted) → length (placed w) ≡ length w.banks + (length w.mutexes + (w.barriers + (bit_of w.ids + 1)))
+pub placed_count : (w : Cores) → length (placed w) ≡ length w.banks + (length w.mutexes + (w.barriers + (bit_of w.ids + 1)))
 placed_count w =
     let last = last_count w w.ids in
     let all = length-append (each_from (placed_bank w) 0 w.banks) (each_from (placed_mutex w) 0 w.mutexes ++ (spread (placed_barrier w) 0 w.barriers ++ last_cores w)) in
@@ -364,7 +365,7 @@ placed_count w =
     let barriers = length-spread (placed_barrier w) 0 w.barriers in
     omega (arith, last, all, rest, end, banks, mutexes, barriers)
 
-pub placed_narrow : (w : Wanted) → w.printer.values ≤ 4 → AllNarrow (placed w)
+pub placed_narrow : (w : Cores) → w.printer.values ≤ 4 → AllNarrow (placed w)
 placed_narrow w few =
     banks_narrow w 0 w.banks (each_from (placed_mutex w) 0 w.mutexes ++ (spread (placed_barrier w) 0 w.barriers ++ last_cores w))
     (mutexes_narrow w 0 w.mutexes (spread (placed_barrier w) 0 w.barriers ++ last_cores w) (barriers_narrow w 0 w.barriers (last_cores w) (last_narrow w w.ids few)))

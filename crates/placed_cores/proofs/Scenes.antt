@@ -6,13 +6,13 @@ use Rattle.mutex_cores.specs.declared.mutex.Shape.{Shape as MutexShape}
 use Rattle.leaf_machine.specs.Ports.{CorePort, asks_of, told_of, ask_place, told_place}
 use Rattle.net_tables.specs.Family.{port_of}
 use Rattle.net_tables.specs.Tables.{PlacedCore}
-use Rattle.placed_cores.specs.declared.wanted.Wanted.{Wanted}
+use Rattle.core_family.specs.declared.cores.Cores.{Cores}
 use Rattle.placed_cores.specs.Placing.{placed}
 
 abbrev bank : BankShape
 bank = record { threads = 3; name = codes "x"; number = 0; address_width = 64; width = 32; initial = 0 ∷ [] }
 
-abbrev with : List MutexShape → Wanted
+abbrev with : List MutexShape → Cores
 with mutexes = record { threads = 3; banks = bank ∷ []; mutexes = mutexes; barriers = 1; ids = true; printer = record { threads = 3; values = 4; sites = [] } }
 
 abbrev unset : MutexShape
@@ -21,7 +21,7 @@ unset = record { threads = 3; initialised = false }
 abbrev free : MutexShape
 free = record { threads = 3; initialised = true }
 
-abbrev kinds : Wanted → List ℕ
+abbrev kinds : Cores → List ℕ
 kinds w = map (λ (c : PlacedCore). c.kind) (placed w)
 
 abbrev ports : List CorePort

@@ -8,8 +8,9 @@ use Rattle.bank_cores.specs.Bank.{IsShape as IsBankShape}
 use Rattle.mutex_cores.specs.declared.mutex.Shape.{Shape as MutexShape}
 use Rattle.print_core.specs.Printer.{IsShape as IsPrinterShape}
 use Rattle.net_tables.specs.Family.{Bank, Mutex, Prints, IsCoreModule}
-use Rattle.placed_cores.specs.declared.wanted.Wanted.{Wanted}
-use Rattle.placed_cores.specs.Placing.{barrier, forks, HasKind}
+use Rattle.core_family.specs.declared.cores.Cores.{Cores}
+use Rattle.core_family.specs.Kinds.{barrier, forks}
+use Rattle.placed_cores.specs.Placing.{HasKind}
 
 -- a bank of so many threads that has a module, with addresses of 64 bits
 pub record IsWantedBank (threads : ℕ) (b : BankShape) : Type 0 where
@@ -18,7 +19,7 @@ pub record IsWantedBank (threads : ℕ) (b : BankShape) : Type 0 where
   pub shape : IsBankShape b
 
 -- each of the cores has a module, of as many threads
-pub record HaveModules (w : Wanted) : Type 0 where
+pub record HaveModules (w : Cores) : Type 0 where
   pub some : 1 ≤ w.threads
   pub few : w.threads ≤ 64
   pub banks : EachOf (IsWantedBank w.threads) w.banks
@@ -37,13 +38,13 @@ IsWhereWanted true Is modules = (m : Module) × (modules ≡ m ∷ []) × Is m
 IsWhereWanted false Is modules = modules ≡ []
 
 -- the modules of mutexes that are uninitialised at the start, and of those that are free then
-abbrev pub unset_mutex : Wanted → MutexShape
+abbrev pub unset_mutex : Cores → MutexShape
 unset_mutex w = record { threads = w.threads; initialised = false }
 
-abbrev pub free_mutex : Wanted → MutexShape
+abbrev pub free_mutex : Cores → MutexShape
 free_mutex w = record { threads = w.threads; initialised = true }
 
-pub record AreMutexModules (w : Wanted) (modules : List Module) : Type 0 where
+pub record AreMutexModules (w : Cores) (modules : List Module) : Type 0 where
   pub unset : List Module
   pub free : List Module
   pub are : modules ≡ unset ++ free
@@ -51,7 +52,7 @@ pub record AreMutexModules (w : Wanted) (modules : List Module) : Type 0 where
   pub is_free : IsWhereWanted (list_any (λ (m : MutexShape). m.initialised) w.mutexes) (IsCoreModule w.threads (Mutex (free_mutex w))) free
 
 -- the modules of barriers and of the core of the thread ids, where there are any, and of the printer
-pub record AreLastModules (w : Wanted) (modules : List Module) : Type 0 where
+pub record AreLastModules (w : Cores) (modules : List Module) : Type 0 where
   pub barriers : List Module
   pub forks_list : List Module
   pub printer : Module

@@ -8,7 +8,7 @@ use Rattle.mutex_cores.specs.declared.mutex.Shape.{Shape as MutexShape}
 use Rattle.net_tables.specs.Family.{Bank}
 use Rattle.net_tables.specs.Fits.{group, core_of}
 use Rattle.net_tables.specs.Tables.{core_name, laid_core}
-use Rattle.placed_cores.specs.declared.wanted.Wanted.{Wanted}
+use Rattle.core_family.specs.declared.cores.Cores.{Cores}
 use Rattle.placed_cores.specs.declared.layout.Places.{Places}
 use Rattle.placed_cores.specs.Placing.{unset_at, free_at, barrier_at, forks_at, printer_at, placed}
 
@@ -40,7 +40,7 @@ either_mutex unset free n m = mutex_core (either_place unset free m) n
 
 -- the numbers of the modules of mutexes that are uninitialised at the start, of those that are free then, of barriers, of the core of the thread ids
 -- and of the printer, where the modules of cores are numbered from this one on
-abbrev pub places_of : ℕ → Wanted → Places
+abbrev pub places_of : ℕ → Cores → Places
 places_of first w = record {
   unset = first + unset_at w;
   free = first + free_at w;
@@ -50,5 +50,5 @@ places_of first w = record {
 }
 
 -- of these threads, with so many modules of threads: those come first, then the arbiter, then those of cores
-abbrev pub layout_of : List ℕ → ℕ → Wanted → Layout
+abbrev pub layout_of : List ℕ → ℕ → Cores → Layout
 layout_of threads routines w = record { threads = threads; cores = map (laid_core (routines + 1)) (placed w); arbiter = routines }

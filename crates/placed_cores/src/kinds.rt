@@ -7,9 +7,9 @@ ghost use Rattle.net_tables.specs.Family.{Barrier, Forks, IsCoreModule, Mutex, P
 ghost use Rattle.placed_cores.specs.Kinds.{AreBankModules, AreLastModules, AreMutexModules, HaveModules, IsWantedBank, IsWhereWanted};
 ghost use Rattle.placed_cores.specs.Placing.{AreKinds};
 
-use crate::wanted::Wanted;
 use bank_cores::bank;
 use barrier_cores::barrier;
+use core_family::cores::Cores;
 use fork_join_cores::forks;
 use mutex_cores::mutex;
 use netlist::netlist::Module;
@@ -94,7 +94,7 @@ fn forks_module(alloc: Global, any: bool, threads: usize) -> Result<Items<Module
 }
 
 /// The module of the printer.
-fn printer_module(alloc: Global, wanted: &Wanted) -> Result<Module, AllocError>
+fn printer_module(alloc: Global, wanted: &Cores) -> Result<Module, AllocError>
     requires { HaveModules wanted.now }
     ensures { IfOk result (IsCoreModule wanted.now.threads (Prints wanted.now.printer)) }
 {
@@ -110,7 +110,7 @@ fn joined(first: Items<Module>, next: Items<Module>) -> Result<Items<Module>, Al
 }
 
 /// The modules of mutexes: of those that are uninitialised at the start, and of those that are free then.
-fn mutex_modules(alloc: Global, wanted: &Wanted) -> Result<Items<Module>, AllocError>
+fn mutex_modules(alloc: Global, wanted: &Cores) -> Result<Items<Module>, AllocError>
     requires { wanted.now.threads ≤ 64 }
     ensures { IfOk result (AreMutexModules wanted.now) }
 {
@@ -131,7 +131,7 @@ fn mutex_modules(alloc: Global, wanted: &Wanted) -> Result<Items<Module>, AllocE
 }
 
 /// The modules of barriers and of the core of the thread ids, where there are any, and of the printer.
-fn last_modules(alloc: Global, wanted: &Wanted) -> Result<Items<Module>, AllocError>
+fn last_modules(alloc: Global, wanted: &Cores) -> Result<Items<Module>, AllocError>
     requires { HaveModules wanted.now }
     ensures { IfOk result (AreLastModules wanted.now) }
 {
@@ -146,7 +146,7 @@ fn last_modules(alloc: Global, wanted: &Wanted) -> Result<Items<Module>, AllocEr
 
 /// The modules of the cores that are wanted, each once: of each bank, of the mutexes that are uninitialised at the start, of
 /// those that are free then, of the barriers, of the core of the thread ids, and of the printer.
-pub fn kinds(alloc: Global, wanted: &Wanted) -> Result<Items<Module>, AllocError>
+pub fn kinds(alloc: Global, wanted: &Cores) -> Result<Items<Module>, AllocError>
     requires { HaveModules wanted.now }
     ensures { IfOk result (AreKinds wanted.now) }
 {

@@ -11,8 +11,8 @@ ghost use Rattle.placed_cores.specs.Laying.{bank_core, barrier_core, either_mute
 ghost use Rattle.placed_cores.specs.Placing.{placed};
 
 use crate::kinds::{has_free, has_unset};
-use crate::wanted::Wanted;
 use bank_cores::bank::Shape;
+use core_family::cores::Cores;
 use mutex_cores::mutex;
 use sqlite_items::Items;
 use std::alloc::{AllocError, Global};
@@ -180,7 +180,7 @@ fn bit(b: bool) -> usize
     if b { 1 } else { 0 }
 }
 
-fn places_from(first: usize, wanted: &Wanted) -> Places
+fn places_from(first: usize, wanted: &Cores) -> Places
     requires few { first ≤ 65 }
     requires few_banks { length wanted.now.banks < 2 ^ 15 }
     ensures { result ≡ places_of first wanted.now }
@@ -201,7 +201,7 @@ fn places_from(first: usize, wanted: &Wanted) -> Places
 }
 
 /// The core of the thread ids, where there is one, and the printer.
-fn last_cores(alloc: Global, at: Places, wanted: &Wanted) -> Result<Items<Core>, AllocError>
+fn last_cores(alloc: Global, at: Places, wanted: &Cores) -> Result<Items<Core>, AllocError>
     ensures { IfOk result (λ cores. cores ≡ (if wanted.now.ids then forks_core at.forks ∷ [] else []) ++ printer_core wanted.now.printer.values at.printer ∷ []) }
 {
     let mut cores = ids_cores(alloc, at.forks, wanted.ids)?;
@@ -226,7 +226,7 @@ fn joined(
 }
 
 /// The cores that are wanted, in the order of their arbiters, where the modules of cores are numbered from `first` on.
-fn cores(alloc: Global, first: usize, wanted: &Wanted) -> Result<Items<Core>, AllocError>
+fn laid_cores(alloc: Global, first: usize, wanted: &Cores) -> Result<Items<Core>, AllocError>
     requires few { first ≤ 65 }
     requires few_banks { length wanted.now.banks < 2 ^ 15 }
     ensures { IfOk result (λ cores. cores ≡ map (laid_core first) (placed wanted.now)) }
@@ -246,7 +246,7 @@ pub fn layout(
     alloc: Global,
     threads: Items<usize>,
     routines: usize,
-    wanted: &Wanted,
+    wanted: &Cores,
 ) -> Result<Layout, AllocError>
     requires few { routines ≤ 64 }
     requires few_banks { length wanted.now.banks < 2 ^ 15 }
@@ -254,7 +254,7 @@ pub fn layout(
 {
     Ok(Layout {
         threads,
-        cores: cores(alloc, routines + 1, wanted)?,
+        cores: laid_cores(alloc, routines + 1, wanted)?,
         arbiter: routines,
     })
 }

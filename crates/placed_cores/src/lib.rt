@@ -4,7 +4,6 @@
 
 pub mod kinds;
 pub mod layout;
-pub mod wanted;
 
 ghost use Rattle.placed_cores.specs.Placing.{CoresArePlaced};
 

@@ -13,7 +13,7 @@ use Rattle.bank_partition.specs.Partition.{shapes}
 use Rattle.bank_cores.specs.declared.bank.Shape.{Shape as Bank}
 use Rattle.mutex_cores.specs.declared.mutex.Shape.{Shape as MutexShape}
 use Rattle.print_core.specs.declared.printer.Shape.{Shape as PrinterShape}
-use Rattle.placed_cores.specs.declared.wanted.Wanted.{Wanted}
+use Rattle.core_family.specs.declared.cores.Cores.{Cores}
 use Rattle.placed_cores.specs.Placing.{placed}
 use Rattle.placed_cores.proofs.Placing.{placed_count}
 use Rattle.program_cores.specs.Banks.{core_shape, core_shapes, IsPartedProgram}
@@ -34,7 +34,7 @@ module _ (P : Program) (resolved : IsResolved P) (limits : first_passed P ≡ No
   abbrev T : ℕ
   T = thread_count P
 
-  abbrev cores : Wanted
+  abbrev cores : Cores
   cores = record {
     threads = T;
     banks = core_shapes T (shapes parted);
@@ -84,11 +84,11 @@ module _ (P : Program) (resolved : IsResolved P) (limits : first_passed P ≡ No
     few = few_cores;
   }
 
-abbrev made : ℕ → List Bank → List MutexShape → ℕ → Bool → PrinterShape → Wanted
+abbrev made : ℕ → List Bank → List MutexShape → ℕ → Bool → PrinterShape → Cores
 made t bs ms n on p = record { threads = t; banks = bs; mutexes = ms; barriers = n; ids = on; printer = p }
 
 -- and so are those that equal them
-pub same_cores : (P : Program) → IsResolved P → first_passed P ≡ None → (parted : Banks) → IsPartedProgram P parted → (w : Wanted) → w.threads ≡ thread_count P →
+pub same_cores : (P : Program) → IsResolved P → first_passed P ≡ None → (parted : Banks) → IsPartedProgram P parted → (w : Cores) → w.threads ≡ thread_count P →
     w.banks ≡ core_shapes w.threads (shapes parted) → w.mutexes ≡ mutex_shapes w.threads P.mutexes → w.barriers ≡ barrier_elements P → w.ids ≡ nat_lt 1 w.threads →
     w.printer ≡ printer_shape w.threads P → AreCoresOf P parted.spreads.items w
 same_cores P resolved limits parted part w threads banks mutexes barriers ids printer =

@@ -8,7 +8,7 @@ use Rattle.c_program.specs.Weight.{thread_count}
 use Rattle.bank_partition.specs.declared.banks.Spread.{Spread}
 use Rattle.mutex_cores.specs.declared.mutex.Shape.{Shape as MutexShape}
 use Rattle.bank_memory.specs.Partition.{ArePartitioned}
-use Rattle.placed_cores.specs.declared.wanted.Wanted.{Wanted}
+use Rattle.core_family.specs.declared.cores.Cores.{Cores}
 use Rattle.placed_cores.specs.Placing.{placed}
 use Rattle.placed_cores.specs.Kinds.{HaveModules}
 use Rattle.net_cycle.specs.Built.{AreMutexes, IsPrinterOf}
@@ -22,7 +22,7 @@ mutex_shapes threads objects = flat_map (object_mutexes threads) objects
 
 -- the cores of a program: its banks, a mutex and a barrier for each element that is declared, a core of the thread ids where there are threads beside
 -- main, and a printer of four values
-pub record AreCoresOf (P : Program) (spreads : List Spread) (w : Wanted) : Type 0 where
+pub record AreCoresOf (P : Program) (spreads : List Spread) (w : Cores) : Type 0 where
   pub threads : w.threads ≡ thread_count P
   pub banked : ArePartitioned P w.threads spreads w.banks
   pub mutexes : AreMutexes P w.threads w.mutexes

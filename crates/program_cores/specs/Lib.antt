@@ -3,4 +3,3 @@ pub mod Cores
 pub mod Sites
 pub use Rattle.net_cycle.specs.Built
 pub use Rattle.placed_cores.specs.Placing
-pub use Rattle.placed_cores.specs.declared.wanted.Wanted

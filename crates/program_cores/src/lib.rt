@@ -19,7 +19,7 @@ ghost use Rattle.program_cores.specs.Sites.{printer_shape};
 use bank_partition::banks::Banks;
 use c_program::threads::thread_count;
 use c_program::tree::Program;
-use placed_cores::wanted::Wanted;
+use core_family::cores::Cores;
 use print_core::printer;
 pub use sites::PRINT_VALUES;
 use std::alloc::{AllocError, Global};
@@ -55,7 +55,7 @@ fn printer_shape(
 }
 
 /// The cores of a resolved program within the limits, with these banks of its globals.
-pub fn wanted(alloc: Global, program: &Program, banks: &Banks) -> Result<Wanted, AllocError>
+pub fn wanted(alloc: Global, program: &Program, banks: &Banks) -> Result<Cores, AllocError>
     requires resolved { IsResolved (program_of program.now) }
     requires limits { first_passed (program_of program.now) ≡ None }
     requires parted { IsPartedProgram (program_of program.now) banks.now }
@@ -66,7 +66,7 @@ pub fn wanted(alloc: Global, program: &Program, banks: &Banks) -> Result<Wanted,
     let mutexes = objects::mutex_shapes(alloc, threads, program.mutexes.as_slice())?;
     let printer = printer_shape(alloc, program, threads)?;
     let barriers = objects::barrier_count(program);
-    Ok(Wanted {
+    Ok(Cores {
         threads,
         banks: shapes,
         mutexes,

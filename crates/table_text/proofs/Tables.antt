@@ -14,13 +14,13 @@ use Rattle.top_wiring.specs.Sound.{AreSound}
 use Rattle.top_wiring.specs.Wired.{IsWired}
 use Rattle.placed_cores.specs.Tables.{IsArbiterModule, HasCores, layout_of}
 use Rattle.placed_cores.proofs.Small.{is_small}
-use Rattle.placed_cores.specs.declared.wanted.Wanted.{Wanted}
+use Rattle.core_family.specs.declared.cores.Cores.{Cores}
 use Rattle.placed_cores.specs.Placing.{AreKinds, placed}
 use Rattle.placed_cores.specs.Kinds.{HaveModules}
 use Rattle.placed_cores.proofs.Placing.{placed_count, placed_narrow, cores_are_placed}
 use Rattle.table_text.specs.Written.{IsWritten, table_of, FitsTable}
 
-module _ (threads : List ℕ) (routines : List Module) (w : Wanted) (right : HaveModules w) (fits : FitsTable threads routines w) (arbiter : Module) (kinds : List Module)
+module _ (threads : List ℕ) (routines : List Module) (w : Cores) (right : HaveModules w) (fits : FitsTable threads routines w) (arbiter : Module) (kinds : List Module)
     (granting : IsArbiterModule w.threads arbiter) (are : AreKinds w kinds) where
   has_cores : HasCores (table_of threads routines arbiter w kinds)
   has_cores = record {
@@ -36,7 +36,7 @@ module _ (threads : List ℕ) (routines : List Module) (w : Wanted) (right : Hav
   pub layout_small : IsSmall (layout_of (table_of threads routines arbiter w kinds))
   layout_small = is_small (table_of threads routines arbiter w kinds) has_cores
 
-pub few_banks : (w : Wanted) → length (placed w) < 2 ^ 15 → length w.banks < 2 ^ 15
+pub few_banks : (w : Cores) → length (placed w) < 2 ^ 15 → length w.banks < 2 ^ 15
 few_banks w few = let n = placed_count w in omega (arith, n, few)
 
 pub written_as : (modules table : List Module) (laid layout : Layout) (n : Netlist) (net : Net) (text : List ℕ) → table ≡ modules → layout ≡ laid → IsWired table layout n →

@@ -1,3 +1,3 @@
 pub mod Written
 pub use Rattle.placed_cores.specs.Placing
-pub use Rattle.placed_cores.specs.declared.wanted.Wanted
+pub use Rattle.core_family.specs.declared.cores.Cores

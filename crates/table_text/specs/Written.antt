@@ -12,7 +12,7 @@ use Rattle.top_parts.specs.declared.layout.Layout.{Layout}
 use Rattle.top_wiring.specs.Sound.{AreSound}
 use Rattle.top_wiring.specs.Wired.{IsWired}
 use Rattle.placed_cores.specs.Tables.{Table, IsArbiterModule, layout_of, modules_of}
-use Rattle.placed_cores.specs.declared.wanted.Wanted.{Wanted}
+use Rattle.core_family.specs.declared.cores.Cores.{Cores}
 use Rattle.placed_cores.specs.Placing.{AreKinds, placed}
 
 -- a net of these modules, its text's tree and the text, as they are promised: by `wire` of the net, by `text_of` of the tree,
@@ -25,11 +25,11 @@ pub record IsWritten (layout : Layout) (modules : List Module) (n : Netlist) (ne
   pub reads : IsFull net → Reads text net
 
 -- the table of these threads and cores
-abbrev pub table_of : List ℕ → List Module → Module → Wanted → List Module → Table
+abbrev pub table_of : List ℕ → List Module → Module → Cores → List Module → Table
 table_of threads routines arbiter w kinds = record { threads = threads; routines = routines; arbiter = arbiter; cores = placed w; kinds = kinds }
 
 -- there are not too many of them, and each thread has one of the modules
-pub record FitsTable (threads : List ℕ) (routines : List Module) (w : Wanted) : Type 0 where
+pub record FitsTable (threads : List ℕ) (routines : List Module) (w : Cores) : Type 0 where
   pub count : length threads ≡ w.threads
   pub few_routines : length routines ≤ 64
   pub runs : (i number : ℕ) → slice_get threads i ≡ Some number → number < length routines
@@ -37,7 +37,7 @@ pub record FitsTable (threads : List ℕ) (routines : List Module) (w : Wanted) 
   pub narrow : w.printer.values ≤ 4
 
 -- it is written of their table, with an arbiter and with the modules of the cores
-pub record IsTextOf (threads : List ℕ) (routines : List Module) (w : Wanted) (n : Netlist) (text : List ℕ) : Type 0 where
+pub record IsTextOf (threads : List ℕ) (routines : List Module) (w : Cores) (n : Netlist) (text : List ℕ) : Type 0 where
   pub arbiter : Module
   pub kinds : List Module
   pub granting : IsArbiterModule w.threads arbiter

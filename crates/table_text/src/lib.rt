@@ -8,12 +8,12 @@ ghost use Rattle.placed_cores.specs.Kinds.{HaveModules};
 ghost use Rattle.table_text.specs.Written.{FitsTable, IsTextOf};
 
 use bank_arbiter::arbiter;
+use core_family::cores::Cores;
 use hls_io::Bytes;
 use netlist::netlist::{Module, Netlist};
 use netlist_text::text_of;
 use placed_cores::kinds::kinds;
 use placed_cores::layout::layout;
-use placed_cores::wanted::Wanted;
 use sqlite_items::Items;
 use std::alloc::{AllocError, Global};
 use top_wiring::wire;
@@ -54,7 +54,7 @@ pub fn verilog(
     alloc: Global,
     threads: Items<usize>,
     routines: Items<Module>,
-    wanted: &Wanted,
+    wanted: &Cores,
 ) -> Result<Written, AllocError>
     requires cores { HaveModules wanted.now }
     requires fits { FitsTable threads routines wanted.now }

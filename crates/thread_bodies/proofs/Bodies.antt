@@ -1,7 +1,5 @@
 -- The modules of threads as they are laid out are what a program's parts ask of them.
-use Rattle.std.proofs.Common.{◌≡◌, ℕ, suc, ◌+◌, ◌<◌, Bool, true, false, if◌then◌else◌, List, [], ◌∷◌, ◌++◌, length, map, replicate, refl, sym, ap, ◌∙◌, subst, arith, length-append}
-use Rattle.std.proofs.lemmas.List.{length-map, length-replicate}
-use Rattle.hls_ints.specs.Residues.{bit_of}
+use Rattle.std.proofs.Common.{◌≡◌, ℕ, suc, ◌<◌, Bool, true, false, List, map, refl, sym, ap, ◌∙◌, subst, arith}
 use Rattle.c_program.specs.Tree.{Program}
 use Rattle.bank_partition.specs.declared.banks.Spread.{Spread}
 use Rattle.block_refine.specs.Routines.{RoutineCode}
@@ -10,9 +8,9 @@ use Rattle.block_ir.specs.Asked.{Numbers, printer_core}
 use Rattle.leaf_machine.specs.Leaves.{Heard, Clock, Enable, Grant, Told, LeafPorts, IsHeard, IsPorted, AnswersAreLate, IsSlotBit, IsThreadLeaf}
 use Rattle.leaf_machine.specs.Steady.{IsSteadyThread, IsSteadyMain}
 use Rattle.leaf_machine.specs.Ports.{CorePort, IsRoutineModule}
-use Rattle.core_family.specs.Family.{Bank, Mutex, Prints, machine_at, port_of}
-use Rattle.placed_cores.specs.declared.wanted.Wanted.{Wanted}
-use Rattle.placed_cores.specs.Placing as placing
+use Rattle.core_family.specs.Family.{machine_at, port_of}
+use Rattle.core_family.specs.declared.cores.Cores.{Cores}
+use Rattle.core_family.specs.Kinds as kinds
 use Rattle.thread_promise.specs.Globals.{bank_total}
 use Rattle.thread_promise.specs.Serving.{RunsCode}
 use Rattle.bank_memory.specs.Partition.{globals_of}
@@ -23,9 +21,9 @@ use Rattle.thread_slots.specs.declared.shape.Shape.{Shape}
 use Rattle.verilog_tree.specs.Scope.{is_clk}
 use Rattle.fsm_datapath.specs.Thread.{core_ports, cores_of, inputs_of, places_of, IsServed}
 use Rattle.fsm_datapath.specs.Leaf.{leaf_of}
-use Rattle.program_parts.specs.Wired.{promised_ports}
-use Rattle.program_parts.specs.Cores.{AreCoresOf}
-use Rattle.program_parts.specs.Parts.{core_count, numbers_of, IsBody}
+use Rattle.net_law.proofs.Cores.{count_is}
+use Rattle.net_law.specs.Cores.{AreCoresOf}
+use Rattle.net_law.specs.Bodies.{core_count, numbers_of, promised_ports, IsBody}
 use Rattle.thread_bodies.specs.Bodies.{served_by, shape_of, laid_body, IsLaid, LaidAreBodies, LaidMainStays}
 use Rattle.thread_bodies.proofs.Ports.{parts_fit, told_fit, ports_are}
 
@@ -67,57 +65,41 @@ module _ (m : Module) (inputs : ℕ) (ports : LeafPorts) (cores : ℕ) (p q t u 
     silent = h.silent;
   }
 
--- how many cores there are
-cores_count : (w : Wanted) → core_count w ≡ suc (printer_core (numbers_of w))
-cores_count w =
-    let one = length-append (map Bank w.banks) (map Mutex w.mutexes ++ (replicate w.barriers (placing.barrier w) ++ (placing.forks_shapes w ++ (Prints w.printer ∷ [])))) in
-    let two = length-append (map Mutex w.mutexes) (replicate w.barriers (placing.barrier w) ++ (placing.forks_shapes w ++ (Prints w.printer ∷ []))) in
-    let three = length-append (replicate w.barriers (placing.barrier w)) (placing.forks_shapes w ++ (Prints w.printer ∷ [])) in
-    let banks = length-map w.banks Bank in
-    let mutexes = length-map w.mutexes Mutex in
-    let barriers = length-replicate w.barriers (placing.barrier w) in
-    let last = last_count w.ids in
-    omega (arith, one, two, three, banks, mutexes, barriers, last)
-  where
-    last_count : (on : Bool) → length ((if on then placing.forks w ∷ [] else []) ++ (Prints w.printer ∷ [])) ≡ bit_of on + 1
-    last_count true = refl
-    last_count false = refl
-
-module _ (P : Program) (spreads : List Spread) (w : Wanted) (cores : AreCoresOf P spreads w) where
+module _ (P : Program) (spreads : List Spread) (w : Cores) (cores : AreCoresOf P spreads w) where
   same_numbers : numbers_with (bank_total spreads) (served_by w) ≡ numbers_of w
   same_numbers = ap (λ n. numbers_with n (served_by w)) (total P w.threads spreads w.banks cores.banked)
 
   -- as many cores as the shape has
   pub same_count : (main : Bool) (name : List ℕ) → cores_of (shape_of P spreads w main name) ≡ core_count w
-  same_count main name = ap (λ (n : Numbers). suc (printer_core n)) same_numbers ∙ sym (cores_count w)
+  same_count main name = ap (λ (n : Numbers). suc (printer_core n)) same_numbers
 
   module _ (main : Bool) (name : List ℕ) (c : RoutineCode) (m : Module) (other : is_clk name ≡ false) (served : IsServed (shape_of P spreads w main name) c.code c.plan)
       (laid : IsLaid (shape_of P spreads w main name) c m) where
     abbrev shape : Shape
     shape = shape_of P spreads w main name
 
-    ports : core_ports shape ≡ map port_of (placing.cores_of w)
+    ports : core_ports shape ≡ map port_of (kinds.cores_of w)
     ports = ports_are P spreads w cores.banked served.spreads main name
 
     count : cores_of shape ≡ core_count w
     count = same_count main name
 
-    parts_same : (k : ℕ) → k < cores_of shape → (machine_at (placing.cores_of w) k).parts ≡ parts_of (core_ports shape) k
-    parts_same k l = parts_fit (placing.cores_of w) k (let n = count in omega (arith, n, l)) ∙ ap (λ (ps : List CorePort). parts_of ps k) (sym ports)
+    parts_same : (k : ℕ) → k < cores_of shape → (machine_at (kinds.cores_of w) k).parts ≡ parts_of (core_ports shape) k
+    parts_same k l = parts_fit (kinds.cores_of w) k (let n = count in let c = count_is w in omega (arith, n, c, l)) ∙ ap (λ (ps : List CorePort). parts_of ps k) (sym ports)
 
-    told_same : (k : ℕ) → k < cores_of shape → (machine_at (placing.cores_of w) k).told ≡ tells_of (core_ports shape) k
-    told_same k l = told_fit (placing.cores_of w) k (let n = count in omega (arith, n, l)) ∙ ap (λ (ps : List CorePort). tells_of ps k) (sym ports)
+    told_same : (k : ℕ) → k < cores_of shape → (machine_at (kinds.cores_of w) k).told ≡ tells_of (core_ports shape) k
+    told_same k l = told_fit (kinds.cores_of w) k (let n = count in let c = count_is w in omega (arith, n, c, l)) ∙ ap (λ (ps : List CorePort). tells_of ps k) (sym ports)
 
     is_body : IsBody P spreads w main c name (laid_body shape c m)
     is_body = record {
       routine = subst (λ (ps : List CorePort). IsRoutineModule name ps m (inputs_of shape) (leaf_of shape m)) ports (laid.routine other served);
-      leaf = subst (λ n. IsThreadLeaf m (inputs_of shape) (leaf_of shape m) n (λ k. (machine_at (placing.cores_of w) k).parts) (λ k. (machine_at (placing.cores_of w) k).told)) count
-          (thread_leaf m (inputs_of shape) (leaf_of shape m) (cores_of shape) (parts_of (core_ports shape)) (λ k. (machine_at (placing.cores_of w) k).parts)
-          (tells_of (core_ports shape)) (λ k. (machine_at (placing.cores_of w) k).told) parts_same told_same (laid.leaf served).thread);
-      done = subst (λ n. IsSlotBit m (inputs_of shape) (leaf_of shape m) n (λ k. (machine_at (placing.cores_of w) k).parts) (λ k. (machine_at (placing.cores_of w) k).told)
+      leaf = subst (λ n. IsThreadLeaf m (inputs_of shape) (leaf_of shape m) n (λ k. (machine_at (kinds.cores_of w) k).parts) (λ k. (machine_at (kinds.cores_of w) k).told)) count
+          (thread_leaf m (inputs_of shape) (leaf_of shape m) (cores_of shape) (parts_of (core_ports shape)) (λ k. (machine_at (kinds.cores_of w) k).parts)
+          (tells_of (core_ports shape)) (λ k. (machine_at (kinds.cores_of w) k).told) parts_same told_same (laid.leaf served).thread);
+      done = subst (λ n. IsSlotBit m (inputs_of shape) (leaf_of shape m) n (λ k. (machine_at (kinds.cores_of w) k).parts) (λ k. (machine_at (kinds.cores_of w) k).told)
           (leaf_of shape m).done) count
-          (slot_bit m (inputs_of shape) (leaf_of shape m) (cores_of shape) (parts_of (core_ports shape)) (λ k. (machine_at (placing.cores_of w) k).parts)
-          (tells_of (core_ports shape)) (λ k. (machine_at (placing.cores_of w) k).told) parts_same told_same (leaf_of shape m).done (laid.leaf served).done);
+          (slot_bit m (inputs_of shape) (leaf_of shape m) (cores_of shape) (parts_of (core_ports shape)) (λ k. (machine_at (kinds.cores_of w) k).parts)
+          (tells_of (core_ports shape)) (λ k. (machine_at (kinds.cores_of w) k).told) parts_same told_same (leaf_of shape m).done (laid.leaf served).done);
       runs = λ f. subst (λ (n : Numbers). RunsCode (globals_of P) spreads n main f c.code c.plan m (places_of (inputs_of shape) c.code c.plan) (promised_ports (leaf_of shape m)))
           same_numbers (laid.serves served f);
       beats =

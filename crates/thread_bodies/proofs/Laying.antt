@@ -23,23 +23,24 @@ use Rattle.block_ir.specs.declared.code.Stage.{Stage}
 use Rattle.block_ir.specs.declared.code.Stage.TheVariants as stage
 use Rattle.block_ir.specs.declared.plan.StagePlan.{StagePlan}
 use Rattle.block_refine.specs.Routines.{RoutineCode}
-use Rattle.placed_cores.specs.declared.wanted.Wanted.{Wanted}
+use Rattle.core_family.specs.declared.cores.Cores.{Cores}
 use Rattle.thread_slots.specs.declared.shape.Shape.{Shape}
 use Rattle.fsm_datapath.specs.Thread.{IsServed}
 use Rattle.fsm_datapath.specs.Runs.{ServesCode}
 use Rattle.fsm_datapath.specs.SoundLeaf.{IsLeafOfServedCode}
 use Rattle.fsm_datapath.specs.Routine.{IsRoutineOfServedCode}
 use Rattle.fsm_datapath.specs.Steady.{IsSteadyServedCode}
-use Rattle.program_parts.specs.Plans.{IsRoutine}
+use Rattle.net_law.specs.Plans.{IsRoutine}
 use Rattle.thread_numbers.specs.Numbers.{has_idle, name_if, module_name, function_module}
 use Rattle.thread_numbers.proofs.Numbers.{function_there}
-use Rattle.program_parts.specs.Cores.{AreCoresOf}
-use Rattle.program_parts.proofs.Globals.{named}
-use Rattle.program_parts.specs.Parts.{no_code, code_at, IsBody, AreBodies}
+use Rattle.net_law.specs.Cores.{AreCoresOf}
+use Rattle.net_law.proofs.Globals.{named}
+use Rattle.net_law.specs.Bodies.{IsBody}
+use Rattle.net_law.specs.Parts.{no_code, code_at, thread_module, AreBodies}
 use Rattle.program_plans.specs.declared.PlannedFunction.{PlannedFunction}
 use Rattle.program_plans.specs.Plans.{ArePlanned, routine_of, PlannedAreRoutines}
 use Rattle.thread_bodies.specs.Bodies.{shape_of, IsLaid}
-use Rattle.thread_bodies.specs.Modules.{name_of, module_shape, AreLaid, no_module, bodies_of}
+use Rattle.thread_bodies.specs.Modules.{module_shape, AreLaid, no_module, bodies_of}
 use Rattle.thread_bodies.proofs.Bodies.{laid_are_bodies, laid_main_stays}
 use Rattle.thread_bodies.proofs.Served.{at_place, codes_are_served}
 use Rattle.thread_bodies.proofs.Spreads.{right_spreads}
@@ -76,7 +77,7 @@ pub laid_for : (s t : Shape) (c : RoutineCode) (m : Module) → s ≡ t → Serv
     IsRoutineOfServedCode s c.code c.plan m → IsSteadyServedCode s c.code c.plan m → IsLaid t c m
 laid_for s t c m same serves leaf routine steady = subst (λ z. IsLaid z c m) same (record { serves = serves; leaf = leaf; routine = routine; steady = steady })
 
-module _ (P : Program) (spreads : List Spread) (w : Wanted) (made : List RoutineCode) where
+module _ (P : Program) (spreads : List Spread) (w : Cores) (made : List RoutineCode) where
   pub none_laid : AreLaid P spreads w made 0 []
   none_laid = record { count = refl; each = λ k m e. absurd (none-some m e) }
 
@@ -103,7 +104,7 @@ module _ (P : Program) (spreads : List Spread) (w : Wanted) (made : List Routine
       let k = length (thread_functions P) in
       let past : slice_get (thread_functions P) k ≡ None = slice_get_past (thread_functions P) k (omega arith) in
       subst (λ (c : RoutineCode). IsLaid (module_shape P spreads w k) c m) (sym (ap (code_at made) (sym count) ∙ code_past made))
-      (subst (λ (o : Option ℕ). IsLaid (shape_of P spreads w (nat_eq k 0) (name_of P o)) no_code m) (sym past)
+      (subst (λ (o : Option ℕ). IsLaid (shape_of P spreads w (nat_eq k 0) (thread_module P o)) no_code m) (sym past)
       (subst (λ main. IsLaid (shape_of P spreads w main (codes "idle")) no_code m) (sym (eqb-suc-zero (length (routines P)))) is))
 
   pub with_idle : length made ≡ length (thread_functions P) → (modules : List Module) (m : Module) → AreLaid P spreads w made (length (thread_functions P)) modules →
@@ -128,13 +129,13 @@ module _ (P : Program) (resolved : IsResolved P) (plans : List PlannedFunction) 
       ∙ named g.0.name (at_place (IsFunction P) P.functions f.0 g.0 resolved.functions g.1).name
 
   -- the module of a planned function is the one of its place
-  pub laid_at_place : (spreads : List Spread) (w : Wanted) (k : ℕ) (p : PlannedFunction) (m : Module) → slice_get plans k ≡ Some p →
+  pub laid_at_place : (spreads : List Spread) (w : Cores) (k : ℕ) (p : PlannedFunction) (m : Module) → slice_get plans k ≡ Some p →
       IsLaid (shape_of P spreads w (nat_eq k 0) (module_name (string_bytes p.name))) (routine_of p) m →
       IsLaid (module_shape P spreads w k) (code_at (map routine_of plans) k) m
   laid_at_place spreads w k p m e laid =
       let f = function_of k p e in
-      let name : module_name (string_bytes p.name) ≡ name_of P (slice_get (thread_functions P) k) =
-      ap module_name (are.each k f.0 p f.1 e).named ∙ ap (name_of P) (sym f.1) in
+      let name : module_name (string_bytes p.name) ≡ thread_module P (slice_get (thread_functions P) k) =
+      ap module_name (are.each k f.0 p f.1 e).named ∙ ap (thread_module P) (sym f.1) in
       subst (λ (c : RoutineCode). IsLaid (module_shape P spreads w k) c m)
       (sym (code_listed (map routine_of plans) k (routine_of p) (get_mapped routine_of plans k p e)))
       (subst (λ n. IsLaid (shape_of P spreads w (nat_eq k 0) n) (routine_of p) m) name laid)
@@ -144,11 +145,11 @@ module _ (P : Program) (resolved : IsResolved P) (plans : List PlannedFunction) 
 
 -- ---- bodies
 
-other_name : (P : Program) (o : Option ℕ) → is_clk (name_of P o) ≡ false
+other_name : (P : Program) (o : Option ℕ) → is_clk (thread_module P o) ≡ false
 other_name P None = refl
 other_name P (Some f) = refl
 
-module _ (P : Program) (resolved : IsResolved P) (limits : first_passed P ≡ None) (spreads : List Spread) (w : Wanted) (cores : AreCoresOf P spreads w) where
+module _ (P : Program) (resolved : IsResolved P) (limits : first_passed P ≡ None) (spreads : List Spread) (w : Cores) (cores : AreCoresOf P spreads w) where
   -- the code without stages
   idle_served : (main : Bool) (name : List ℕ) → IsServed (shape_of P spreads w main name) no_code.code no_code.plan
   idle_served main name = record {
@@ -171,16 +172,16 @@ module _ (P : Program) (resolved : IsResolved P) (limits : first_passed P ≡ No
 
     -- module k is a body where its code is served
     body_at : (k : ℕ) → k < length modules → IsServed (module_shape P spreads w k) (code_at made k).code (code_at made k).plan →
-        IsBody P spreads w (nat_eq k 0) (code_at made k) (name_of P (function_at k)) (bodies_of P spreads w made modules k)
+        IsBody P spreads w (nat_eq k 0) (code_at made k) (thread_module P (function_at k)) (bodies_of P spreads w made modules k)
     body_at k l served =
-        laid_are_bodies P spreads w (nat_eq k 0) (name_of P (function_at k)) (code_at made k) (slice_index_or modules k no_module) cores (other_name P (function_at k)) served
+        laid_are_bodies P spreads w (nat_eq k 0) (thread_module P (function_at k)) (code_at made k) (slice_index_or modules k no_module) cores (other_name P (function_at k)) served
         (laid.each k (slice_index_or modules k no_module) (slice_get-get_or modules k no_module l))
 
     served_at : (k f : ℕ) (c : RoutineCode) → function_at k ≡ Some f → slice_get made k ≡ Some c →
         IsServed (module_shape P spreads w k) (code_at made k).code (code_at made k).plan
     served_at k f c d e =
         subst (λ (z : RoutineCode). IsServed (module_shape P spreads w k) z.code z.plan) (sym (code_listed made k c e))
-        (codes_are_served P spreads w f c resolved limits cores (right k f c d e) (nat_eq k 0) (name_of P (function_at k)))
+        (codes_are_served P spreads w f c resolved limits cores (right k f c d e) (nat_eq k 0) (thread_module P (function_at k)))
 
     within : (k : ℕ) (c : RoutineCode) → slice_get made k ≡ Some c → k < length modules
     within k c e = let l = slice_get_within made k c e in let n = laid.count in omega (arith, l, n, count)
@@ -189,7 +190,7 @@ module _ (P : Program) (resolved : IsResolved P) (limits : first_passed P ≡ No
         IsBody P spreads w (nat_eq k 0) c (function_module P f) (bodies_of P spreads w made modules k)
     each_body k f c d e =
         subst (λ (z : RoutineCode). IsBody P spreads w (nat_eq k 0) z (function_module P f) (bodies_of P spreads w made modules k)) (code_listed made k c e)
-        (subst (λ n. IsBody P spreads w (nat_eq k 0) (code_at made k) n (bodies_of P spreads w made modules k)) (ap (name_of P) d)
+        (subst (λ n. IsBody P spreads w (nat_eq k 0) (code_at made k) n (bodies_of P spreads w made modules k)) (ap (thread_module P) d)
         (body_at k (within k c e) (served_at k f c d e)))
 
     idle_body : has_idle P ≡ true → IsBody P spreads w false no_code (codes "idle") (bodies_of P spreads w made modules (length made))
@@ -198,10 +199,10 @@ module _ (P : Program) (resolved : IsResolved P) (limits : first_passed P ≡ No
         let past : function_at k ≡ None = slice_get_past (thread_functions P) k (omega (arith, count)) in
         let later : nat_eq k 0 ≡ false = ap (λ n. nat_eq n 0) count ∙ eqb-suc-zero (length (routines P)) in
         let inside : k < length modules = (let n = laid.count in let one : bit_of (has_idle P) ≡ 1 = ap bit_of idle in omega (arith, n, one, count)) in
-        let served = subst (λ (z : RoutineCode). IsServed (module_shape P spreads w k) z.code z.plan) (sym (code_past made)) (idle_served (nat_eq k 0) (name_of P (function_at k))) in
+        let served = subst (λ (z : RoutineCode). IsServed (module_shape P spreads w k) z.code z.plan) (sym (code_past made)) (idle_served (nat_eq k 0) (thread_module P (function_at k))) in
         subst (λ main. IsBody P spreads w main no_code (codes "idle") (bodies_of P spreads w made modules k)) later
-        (subst (λ n. IsBody P spreads w (nat_eq k 0) no_code n (bodies_of P spreads w made modules k)) (ap (name_of P) past)
-        (subst (λ (z : RoutineCode). IsBody P spreads w (nat_eq k 0) z (name_of P (function_at k)) (bodies_of P spreads w made modules k)) (code_past made)
+        (subst (λ n. IsBody P spreads w (nat_eq k 0) no_code n (bodies_of P spreads w made modules k)) (ap (thread_module P) past)
+        (subst (λ (z : RoutineCode). IsBody P spreads w (nat_eq k 0) z (thread_module P (function_at k)) (bodies_of P spreads w made modules k)) (code_past made)
         (body_at k inside served)))
 
     pub all_bodies : AreBodies P spreads w made (bodies_of P spreads w made modules) modules
@@ -214,12 +215,12 @@ module _ (P : Program) (resolved : IsResolved P) (limits : first_passed P ≡ No
       idle = idle_body;
       main =
           (let c = get_there made 0 (omega (arith, count)) in
-          laid_main_stays P spreads w (name_of P (function_at 0)) (code_at made 0) (slice_index_or modules 0 no_module) cores (served_at 0 P.main c.0 refl c.1)
+          laid_main_stays P spreads w (thread_module P (function_at 0)) (code_at made 0) (slice_index_or modules 0 no_module) cores (served_at 0 P.main c.0 refl c.1)
           (laid.each 0 (slice_index_or modules 0 no_module) (slice_get-get_or modules 0 no_module (within 0 c.0 c.1))));
     }
 
 -- the modules of planned functions, and one for threads without a function
-pub finished : (P : Program) → IsResolved P → first_passed P ≡ None → (spreads : List Spread) (w : Wanted) → AreCoresOf P spreads w → (plans : List PlannedFunction) →
+pub finished : (P : Program) → IsResolved P → first_passed P ≡ None → (spreads : List Spread) (w : Cores) → AreCoresOf P spreads w → (plans : List PlannedFunction) →
     ArePlanned P plans → PlannedAreRoutines → (modules : List Module) →
     AreLaid P spreads w (map routine_of plans) (length (thread_functions P) + bit_of (has_idle P)) modules →
     AreBodies P spreads w (map routine_of plans) (bodies_of P spreads w (map routine_of plans) modules) modules

@@ -3,6 +3,6 @@ pub mod Spreads
 pub mod Bodies
 pub mod Served
 pub mod Laying
-pub use Rattle.program_parts.proofs.Found
-pub use Rattle.program_parts.proofs.Names
-pub use Rattle.program_parts.proofs.Parts
+pub use Rattle.net_law.proofs.FirstNamed
+pub use Rattle.net_law.proofs.ModuleNames
+pub use Rattle.net_law.proofs.PartsAreGood

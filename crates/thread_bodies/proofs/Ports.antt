@@ -2,17 +2,17 @@
 use Rattle.std.proofs.Common.{◌≡◌, ℕ, zero, suc, ◌+◌, ◌<◌, Bool, true, false, if◌then◌else◌, List, [], ◌∷◌, ◌++◌, length, map, replicate, take, Some, refl, sym, ap, ◌∙◌, arith}
 use Rattle.std.specs.Prelude.{slice_get, option_map}
 use Rattle.std.proofs.lemmas.List.{length-map, map-append}
-use Rattle.std.proofs.lemmas.Option.{none-some, same_Some, slice_get_within, slice_get-map}
+use Rattle.std.proofs.lemmas.Option.{none-some, same_Some, slice_get-map}
 use Rattle.hls_ints.specs.Types.{width_of}
 use Rattle.c_program.specs.Tree.{Program}
 use Rattle.bank_partition.specs.declared.banks.Spread.{Spread}
 use Rattle.bank_cores.specs.declared.bank.Shape.{Shape as BankShape}
 use Rattle.mutex_cores.specs.declared.mutex.Shape.{Shape as MutexShape}
 use Rattle.leaf_machine.specs.Ports.{CorePort}
-use Rattle.core_family.specs.Family.{CoreShape, Bank, Mutex, Barrier, Forks, Prints, machine_at, machine_of, port_of}
+use Rattle.core_family.specs.Family.{CoreShape, Bank, Mutex, Prints, machine_at, port_of}
 use Rattle.core_family.proofs.Printing.{each_fits}
-use Rattle.placed_cores.specs.declared.wanted.Wanted.{Wanted}
-use Rattle.placed_cores.specs.Placing.{barrier, forks, forks_shapes, cores_of}
+use Rattle.core_family.specs.declared.cores.Cores.{Cores}
+use Rattle.core_family.specs.Kinds.{barrier, forks, ids_shapes, cores_of}
 use Rattle.thread_promise.specs.Globals.{bank_total}
 use Rattle.bank_memory.specs.Partition.{globals_of, ArePartitioned}
 use Rattle.bank_memory.proofs.Partitioned.{total, bank_is, type_here}
@@ -40,15 +40,15 @@ width_at (b ∷ banks) (suc n) w e = width_at banks n w e
 
 -- ---- the cores that acts ask
 
-mutex_ports : (w : Wanted) (ms : List MutexShape) → map (act_port (served_by w)) (replicate (length ms) kind.Mutexes) ≡ map port_of (map Mutex ms)
+mutex_ports : (w : Cores) (ms : List MutexShape) → map (act_port (served_by w)) (replicate (length ms) kind.Mutexes) ≡ map port_of (map Mutex ms)
 mutex_ports w [] = refl
 mutex_ports w (m ∷ ms) = ap (λ (l : List CorePort). port_of (Mutex m) ∷ l) (mutex_ports w ms)
 
-barrier_ports : (w : Wanted) (n : ℕ) → map (act_port (served_by w)) (replicate n kind.Barriers) ≡ map port_of (replicate n (barrier w))
+barrier_ports : (w : Cores) (n : ℕ) → map (act_port (served_by w)) (replicate n kind.Barriers) ≡ map port_of (replicate n (barrier w))
 barrier_ports w zero = refl
 barrier_ports w (suc n) = ap (λ (l : List CorePort). port_of (barrier w) ∷ l) (barrier_ports w n)
 
-last_ports : (w : Wanted) (on : Bool) → map (act_port (served_by w)) (if_ids on (kind.Ids ∷ []) ++ kind.Prints ∷ []) ≡ map port_of ((if on then forks w ∷ [] else []) ++ (Prints w.printer ∷ []))
+last_ports : (w : Cores) (on : Bool) → map (act_port (served_by w)) (if_ids on (kind.Ids ∷ []) ++ kind.Prints ∷ []) ≡ map port_of ((if on then forks w ∷ [] else []) ++ (Prints w.printer ∷ []))
 last_ports w true = refl
 last_ports w false = refl
 
@@ -56,10 +56,10 @@ bank_ports : (bs : List BankShape) → map bank_port (map (λ (b : BankShape). b
 bank_ports [] = refl
 bank_ports (b ∷ bs) = ap (λ (l : List CorePort). port_of (Bank b) ∷ l) (bank_ports bs)
 
-abbrev act : Wanted → Kind → CorePort
+abbrev act : Cores → Kind → CorePort
 act w k = act_port (served_by w) k
 
-act_ports : (w : Wanted) → map (act w) (services (served_by w)) ≡ map port_of (map Mutex w.mutexes ++ (replicate w.barriers (barrier w) ++ (forks_shapes w ++ (Prints w.printer ∷ []))))
+act_ports : (w : Cores) → map (act w) (services (served_by w)) ≡ map port_of (map Mutex w.mutexes ++ (replicate w.barriers (barrier w) ++ (ids_shapes w ++ (Prints w.printer ∷ []))))
 act_ports w =
     map-append (act w) (replicate (length w.mutexes) kind.Mutexes) (replicate w.barriers kind.Barriers ++ (if_ids w.ids (kind.Ids ∷ []) ++ kind.Prints ∷ []))
     ∙ ap (λ (l : List CorePort). l ++ map (act w) (replicate w.barriers kind.Barriers ++ (if_ids w.ids (kind.Ids ∷ []) ++ kind.Prints ∷ []))) (mutex_ports w w.mutexes)
@@ -67,8 +67,8 @@ act_ports w =
     (map-append (act w) (replicate w.barriers kind.Barriers) (if_ids w.ids (kind.Ids ∷ []) ++ kind.Prints ∷ [])
     ∙ ap (λ (l : List CorePort). l ++ map (act w) (if_ids w.ids (kind.Ids ∷ []) ++ kind.Prints ∷ [])) (barrier_ports w w.barriers)
     ∙ ap (λ (l : List CorePort). map port_of (replicate w.barriers (barrier w)) ++ l) (last_ports w w.ids)
-    ∙ sym (map-append port_of (replicate w.barriers (barrier w)) (forks_shapes w ++ (Prints w.printer ∷ []))))
-    ∙ sym (map-append port_of (map Mutex w.mutexes) (replicate w.barriers (barrier w) ++ (forks_shapes w ++ (Prints w.printer ∷ []))))
+    ∙ sym (map-append port_of (replicate w.barriers (barrier w)) (ids_shapes w ++ (Prints w.printer ∷ []))))
+    ∙ sym (map-append port_of (map Mutex w.mutexes) (replicate w.barriers (barrier w) ++ (ids_shapes w ++ (Prints w.printer ∷ []))))
 
 -- ---- parts
 
@@ -82,7 +82,7 @@ told_fit [] k l = absurd (omega (arith, l))
 told_fit (s ∷ shapes) zero l = (each_fits s).told
 told_fit (s ∷ shapes) (suc k) l = told_fit shapes k (omega (arith, l))
 
-module _ (P : Program) (spreads : List Spread) (w : Wanted) (banked : ArePartitioned P w.threads spreads w.banks) (right : AreRightSpreads (globals_of P) spreads) where
+module _ (P : Program) (spreads : List Spread) (w : Cores) (banked : ArePartitioned P w.threads spreads w.banks) (right : AreRightSpreads (globals_of P) spreads) where
   abbrev own : List ℕ
   own = spread_out spreads (map width_of (globals_of P))
 
@@ -113,4 +113,4 @@ module _ (P : Program) (spreads : List Spread) (w : Wanted) (banked : ArePartiti
       ap (λ (l : List ℕ). map bank_port l ++ map (act_port (served_by w)) (services (served_by w))) same_words
       ∙ ap (λ (l : List CorePort). l ++ map (act_port (served_by w)) (services (served_by w))) (bank_ports w.banks)
       ∙ ap (λ (l : List CorePort). map port_of (map Bank w.banks) ++ l) (act_ports w)
-      ∙ sym (map-append port_of (map Bank w.banks) (map Mutex w.mutexes ++ (replicate w.barriers (barrier w) ++ (forks_shapes w ++ (Prints w.printer ∷ [])))))
+      ∙ sym (map-append port_of (map Bank w.banks) (map Mutex w.mutexes ++ (replicate w.barriers (barrier w) ++ (ids_shapes w ++ (Prints w.printer ∷ [])))))

@@ -30,14 +30,14 @@ use Rattle.code_following.specs.Typed.{types_of, IsTypedValue, IsTypedNumber, Is
 use Rattle.right_plan.specs.Right.{IsRight}
 use Rattle.right_plan.proofs.Stages.{right_plans_are_there}
 use Rattle.block_refine.specs.Routines.{RoutineCode}
-use Rattle.program_parts.specs.Plans.{IsRoutine}
+use Rattle.net_law.specs.Plans.{IsRoutine}
 use Rattle.bank_partition.specs.declared.banks.Spread.{Spread}
-use Rattle.placed_cores.specs.declared.wanted.Wanted.{Wanted}
-use Rattle.program_parts.specs.Built.{part_of}
+use Rattle.core_family.specs.declared.cores.Cores.{Cores}
+use Rattle.net_law.specs.Built.{part_of}
 use Rattle.fsm_datapath.specs.Fields.{IsTypedActOperand}
 use Rattle.fsm_datapath.specs.Acts.{IsTypedArgument}
 use Rattle.fsm_datapath.specs.Thread.{IsPrintable, IsServed}
-use Rattle.program_parts.specs.Cores.{AreCoresOf}
+use Rattle.net_law.specs.Cores.{AreCoresOf}
 use Rattle.thread_bodies.specs.Bodies.{served_by, shape_of, CodesAreServed}
 use Rattle.thread_bodies.proofs.Spreads.{right_spreads}
 
@@ -91,7 +91,7 @@ module _ (P : Program) (code : ThreadCode) where
 
 -- ---- all of it
 
-module _ (P : Program) (resolved : IsResolved P) (limits : first_passed P ≡ None) (spreads : List Spread) (w : Wanted) (cores : AreCoresOf P spreads w) (f : ℕ) (c : RoutineCode)
+module _ (P : Program) (resolved : IsResolved P) (limits : first_passed P ≡ None) (spreads : List Spread) (w : Cores) (cores : AreCoresOf P spreads w) (f : ℕ) (c : RoutineCode)
     (is : IsRoutine P f c) where
   typed : IsTypedCode P f c.code
   typed = is.code.typed

@@ -1,5 +1,5 @@
 -- The banks of a program's globals stand as a thread's module wants them.
-use Rattle.std.proofs.Common.{◌≡◌, ℕ, zero, suc, ◌+◌, ◌<◌, ◌≤◌, List, [], ◌∷◌, length, take, None, Some, slice_get, refl, sym, ap, ◌∙◌, subst, arith}
+use Rattle.std.proofs.Common.{◌≡◌, ℕ, ◌+◌, ◌<◌, ◌≤◌, List, [], ◌∷◌, length, take, None, sym, ap, ◌∙◌, subst, arith}
 use Rattle.std.proofs.lemmas.List.{length-map}
 use Rattle.c_program.specs.Tree.{GlobalVariable, Program}
 use Rattle.c_program.specs.Resolved.{IsResolved}
@@ -13,7 +13,7 @@ use Rattle.thread_promise.specs.Globals.{bank_total}
 use Rattle.fsm_datapath.specs.Thread.{AreRightSpreads}
 use Rattle.bank_memory.specs.Partition.{globals_of, ArePartitioned}
 use Rattle.bank_memory.proofs.Banks.{same_global}
-use Rattle.program_parts.proofs.Globals.{power_at, first_at, as_many, long_at, from, few_elements, total_few, within, all_there}
+use Rattle.net_law.proofs.Globals.{power_at, first_at, as_many, long_at, from, few_elements, total_few, within, all_there}
 
 module _ (P : Program) (counts : List ℕ) (resolved : IsResolved P) (limits : first_passed P ≡ None) (parted : Banks) (is : IsPartition P counts parted)
     (are : AreBanks parted.spreads.items (shapes parted)) where

@@ -8,8 +8,8 @@ ghost use Rattle.c_program.specs.Resolved.{IsResolved};
 ghost use Rattle.c_program.specs.Weight.{thread_functions};
 ghost use Rattle.verilog_tree.specs.Spelling.{all_pass, is_name_byte};
 ghost use Rattle.bank_memory.specs.Partition.{globals_of};
-ghost use Rattle.program_parts.specs.Cores.{AreCoresOf};
-ghost use Rattle.program_parts.specs.Parts.{AreBodies, no_code};
+ghost use Rattle.net_law.specs.Cores.{AreCoresOf};
+ghost use Rattle.net_law.specs.Parts.{AreBodies, no_code};
 ghost use Rattle.program_plans.specs.Plans.{ArePlanned, routine_of};
 ghost use Rattle.thread_bodies.specs.Bodies.{IsLaid, served_by, shape_of};
 ghost use Rattle.thread_bodies.specs.Modules.{AreLaid, bodies_of};
@@ -19,10 +19,10 @@ use bank_partition::banks::Spread;
 use block_ir::code::ThreadCode;
 use block_ir::plan::Planned;
 use c_program::tree::Program;
+use core_family::cores::Cores;
 use fsm_datapath::module::module;
 use hls_ints::CType;
 use netlist::netlist::Module;
-use placed_cores::wanted::Wanted;
 use program_plans::PlannedFunction;
 use program_plans::law::planned_are_routines;
 use sqlite_items::Items;
@@ -47,7 +47,7 @@ fn global_types(alloc: Global, program: &Program) -> Result<Items<CType>, AllocE
 }
 
 /// The cores that acts ask.
-fn served(wanted: &Wanted) -> Served
+fn served(wanted: &Cores) -> Served
     ensures { result ≡ served_by wanted.now }
 {
     Served {
@@ -66,7 +66,7 @@ fn shape(
     alloc: Global,
     program: &Program,
     spreads: &[Spread],
-    wanted: &Wanted,
+    wanted: &Cores,
     is_main: bool,
     name: Identifier,
 ) -> Result<Shape, AllocError>
@@ -96,7 +96,7 @@ fn function_module(
     alloc: Global,
     program: &Program,
     spreads: &[Spread],
-    wanted: &Wanted,
+    wanted: &Cores,
     is_main: bool,
     planned: &PlannedFunction,
 ) -> Result<Module, AllocError>
@@ -115,7 +115,7 @@ fn idle_shape(
     alloc: Global,
     program: &Program,
     spreads: &[Spread],
-    wanted: &Wanted,
+    wanted: &Cores,
 ) -> Result<Shape, AllocError>
     ensures { IfOk result (λ shape. shape ≡ shape_of (program_of program.now) spreads.now wanted.now false (codes "idle")) }
 {
@@ -129,7 +129,7 @@ fn idle_module(
     alloc: Global,
     program: &Program,
     spreads: &[Spread],
-    wanted: &Wanted,
+    wanted: &Cores,
 ) -> Result<Module, AllocError>
     ensures { IfOk result (IsLaid (shape_of (program_of program.now) spreads.now wanted.now false (codes "idle")) no_code) }
 {
@@ -154,7 +154,7 @@ fn function_modules(
     alloc: Global,
     program: &Program,
     spreads: &[Spread],
-    wanted: &Wanted,
+    wanted: &Cores,
     plans: &[PlannedFunction],
 ) -> Result<Items<Module>, AllocError>
     requires resolved { IsResolved (program_of program.now) }
@@ -175,7 +175,7 @@ pub fn modules(
     alloc: Global,
     program: &Program,
     spreads: &[Spread],
-    wanted: &Wanted,
+    wanted: &Cores,
     plans: &[PlannedFunction],
 ) -> Result<Items<Module>, AllocError>
     requires resolved { IsResolved (program_of program.now) }

@@ -1,9 +1,13 @@
+use Rattle.net_tables.proofs.CoresFit.{cores_fit}
 use Rattle.net_tables.proofs.Fitting as fitting
 use Rattle.net_tables.proofs.Naming.{cores_are_named}
 use Rattle.net_tables.proofs.Threads.{threads_fit}
 use Rattle.net_tables.proofs.Widths.{thread_ports}
 use Rattle.net_tables.proofs.Writing.{printers_write}
 use Rattle.net_tables.proofs.tables_fit.Goals as goal
+
+pub returns-clause-cores : goal.returns-clause-cores
+returns-clause-cores c = cores_fit
 
 pub returns-clause-tables : goal.returns-clause-tables
 returns-clause-tables c = fitting.tables_fit

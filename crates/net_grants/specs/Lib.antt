@@ -1,9 +1,0 @@
-pub mod Grants
-pub mod Laws
-pub mod Threads
-pub use Rattle.net_tables.specs.Nets
-pub use Rattle.net_tables.specs.Tables
-pub use Rattle.net_tables.specs.Whole
-pub use Rattle.net_tables.specs.Family
-pub mod Steady
-pub mod Holding

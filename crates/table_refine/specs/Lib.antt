@@ -1,3 +1,0 @@
-pub mod Wired
-pub use Rattle.net_refine.specs.Follows
-pub use Rattle.net_refine.specs.Built
