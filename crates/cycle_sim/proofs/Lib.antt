@@ -21,5 +21,9 @@ pub mod Enables
 pub mod Elements
 pub mod Taking
 pub mod Putting
+pub mod Reading
+pub mod Levels
+pub mod Once
+pub mod Standing
 pub use Rattle.sim_values.proofs.Settles
 pub mod Rounding

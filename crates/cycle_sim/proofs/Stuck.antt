@@ -30,6 +30,7 @@ use Rattle.sim_layout.specs.Leads.Leads.{Directly, Through}
 use Rattle.sim_values.specs.Loops.{IsFirstLoop}
 use Rattle.sim_layout.proofs.Leading.{one_clear, each_among}
 use Rattle.cycle_sim.proofs.Pigeons.{twice}
+use Rattle.sim_values.proofs.Settles.{each_from}
 use Rattle.sim_values.proofs.Trees.{rising, instance_of, front_or_back}
 use Rattle.cycle_sim.proofs.Laid.{place_same, found, spot_is, laid, part_at, Gives, has_step, gives_target, gives_here, origin, one_signal, register_free, in_room}
 
@@ -43,15 +44,11 @@ map_among base [] x i = absurd i
 map_among base (y ∷ ys) x (inl e) = inl (ap (λ z. base + z) e)
 map_among base (y ∷ ys) x (inr i) = inr (map_among base ys x i)
 
-each_from : (P : ℕ → Type 0) (xs : List ℕ) → ((x : ℕ) → IsOneOf x xs → P x) → EachOf P xs
-each_from P [] f = tt
-each_from P (x ∷ xs) f = (f x (inl refl), each_from P xs (λ y i. f y (inr i)))
-
 wide_signal : (o : Option Signal) → 1 ≤ signal_width o → (s : Signal) × (o ≡ Some s)
 wide_signal None l = absurd (omega arith)
 wide_signal (Some s) l = (s, refl)
 
-some_module : (x : ℕ) (o : Option Module) → x < length (signals_of o) → (m : Module) × (o ≡ Some m)
+pub some_module : (x : ℕ) (o : Option Module) → x < length (signals_of o) → (m : Module) × (o ≡ Some m)
 some_module x None l = absurd (omega arith)
 some_module x (Some m) l = (m, refl)
 
@@ -152,14 +149,14 @@ module _ {modules : List Module} {t : Module} {parts : List Part} {numbers : Lis
 
   -- ---- signals depend on one another exactly where their words lead to one another
 
-  leads_of : {p q : Place} → Depends modules t p q → Leads modules wires (word_at p) (word_at q)
+  pub leads_of : {p q : Place} → Depends modules t p q → Leads modules wires (word_at p) (word_at q)
   leads_of (directly {path = path} {m = m} {x = x} {s = s} {q = q} at names) =
       let h = has_step l path m x s at (no_names path x s.source q names) in
       subst (λ a. Leads modules wires a (word_at q)) (gives_target l path x s.name s.source h.step_is h.gives)
       (Directly h.step_is (word_at q) h.takes (named_by path m x s at s.source refl h.step_is h.gives q names))
   leads_of (through {p = p} {q = q} {r = r} d e) = Through (word_at p) (word_at q) (word_at r) (leads_of d) (leads_of e)
 
-  first_signal : {p q : Place} → Depends modules t p q → IsSignalAt p
+  pub first_signal : {p q : Place} → Depends modules t p q → IsSignalAt p
   first_signal (directly {m = m} {s = s} at names) = record { kind = m; signal = s; is = at }
   first_signal (through d e) = first_signal d
 
@@ -179,7 +176,7 @@ module _ {modules : List Module} {t : Module} {parts : List Part} {numbers : Lis
       let r = depends_of rest f.place f.is f.word in
       record { place = r.place; is = r.is; depends = through f.depends r.depends; word = r.word }
 
-  loop_of : (p : Place) → IsSignalAt p → Leads modules wires (word_at p) (word_at p) → Depends modules t p p
+  pub loop_of : (p : Place) → IsSignalAt p → Leads modules wires (word_at p) (word_at p) → Depends modules t p p
   loop_of p here leads =
       let d = depends_of leads p here refl in
       subst (Depends modules t p) (one_place d.place p d.is here d.word) d.depends
@@ -290,7 +287,7 @@ module _ {modules : List Module} {t : Module} {parts : List Part} {numbers : Lis
   -- ---- the first one
 
   -- a part before which none has a loop
-  no_loop_before : (q : ℕ) → AreLoopless modules wires parts q → (p : Place) → (here : IsSignalAt p) → place_of parts p.0 < q → Depends modules t p p → ⊥
+  pub no_loop_before : (q : ℕ) → AreLoopless modules wires parts q → (p : Place) → (here : IsSignalAt p) → place_of parts p.0 < q → Depends modules t p p → ⊥
   no_loop_before q none p here less d =
       let f = found l p.0 here.kind here.is.stands in
       let spot = spot_is l p.0 here.kind f in

@@ -4,6 +4,7 @@ pub mod Right
 pub mod LaidOut
 pub mod Globals
 pub mod Putting
+pub mod Once
 pub use Rattle.sim_layout.specs.Running
 pub use Rattle.sim_values.specs.Flat
 pub use Rattle.sim_values.specs.Order

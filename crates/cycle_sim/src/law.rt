@@ -1,23 +1,22 @@
-// Laws of nets that can be opened.
+// Laws of nets that can be opened. The functions take and answer nothing: their contracts are the laws.
 
 ghost use Rattle.cycle_sim.specs.Right.{RightOfSound, OnePrinterOfSound, OpenableOfSound, ThreadsOfSound};
+ghost use Rattle.cycle_sim.specs.Once.{SettlesAlike, CycleOnce, CycleAlike, RunsOnce, ShowsOnce};
 
-/// In a sound netlist each width fits.
-pub fn right_of_sound()
-    ensures { RightOfSound }
+/// In a sound netlist each width fits, one instance at most has a `$write`, and there are as many threads as the signal `en` of its outermost
+/// module has bits. It can be opened where that module has an output `done` of one bit and where its inputs `pref_k` have 4 bits or more.
+pub fn of_sound()
+    ensures right { RightOfSound }
+    ensures printer { OnePrinterOfSound }
+    ensures threads { ThreadsOfSound }
+    ensures openable { OpenableOfSound }
 {}
 
-/// In a sound netlist one instance at most has a `$write`.
-pub fn one_printer_of_sound()
-    ensures { OnePrinterOfSound }
-{}
-
-/// In a sound netlist there are as many threads as the signal `en` of its outermost module has bits.
-pub fn threads_of_sound()
-    ensures { ThreadsOfSound }
-{}
-
-/// A sound netlist can be opened where its outermost module has an output `done` of one bit and where its inputs `pref_k` have 4 bits or more.
-pub fn openable_of_sound()
-    ensures { OpenableOfSound }
+/// A choice settles a state in one way, so a cycle has one next state and one output, and so have runs; `done` shows one bit.
+pub fn cycle_once()
+    ensures settles { SettlesAlike }
+    ensures once { CycleOnce }
+    ensures alike { CycleAlike }
+    ensures runs { RunsOnce }
+    ensures shows { ShowsOnce }
 {}

@@ -14,8 +14,8 @@ use Rattle.verilog_meaning.specs.Threads.{Place, Depends}
 use Rattle.sim_layout.specs.Rounds.{threads_of as enabled_of}
 use Rattle.cycle_sim.specs.Round.{IsRound}
 use Rattle.verilog_reader.specs.Faults.{IsRead}
-use Rattle.read_back.proofs.Back.{read_again}
-use Rattle.read_back.proofs.Once.{runs_alike}
+use Rattle.well_formed_net.proofs.ReadAgain.{read_again}
+use Rattle.well_formed_net.proofs.RunsOnce.{runs_alike}
 use Rattle.loop_path.specs.First.{IsLoopless}
 use Rattle.loop_path.specs.Dotted.{IsLoopPath}
 use Rattle.c_program.specs.Weight.{thread_count}

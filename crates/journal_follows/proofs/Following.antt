@@ -15,12 +15,12 @@ use Rattle.verilog_meaning.specs.Follows as net
 use Rattle.circuit.specs.Nets.{FitsNet, FitsStatements}
 use Rattle.circuit.proofs.States.{keeps_states}
 use Rattle.cycle_sim.proofs.Same.{same_refl, cycle_moved}
-use Rattle.cycle_once.proofs.Once.{SettlesInOneWay, runs_once}
+use Rattle.cycle_sim.proofs.Once.{SettlesInOneWay, runs_once}
 use Rattle.slot_sim.proofs.Bits.{alone_is_choice}
 use Rattle.slot_sim.proofs.Sames.{to_at, within}
-use Rattle.fitting_net.proofs.Modules.{fits_of_well_formed}
+use Rattle.well_formed_net.proofs.Modules.{fits_of_well_formed}
 use Rattle.sim_layout.specs.Running.{IsRight}
-use Rattle.open_well_formed.proofs.Right.{right}
+use Rattle.well_formed_net.proofs.Right.{right}
 use Rattle.good_verilog.specs.Program.{seen_of}
 use Rattle.good_verilog.specs.GoodVerilog.{IsGoodVerilog}
 use Rattle.journal_follows.specs.Follows.{ShowsInterleaving}

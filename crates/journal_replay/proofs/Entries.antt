@@ -42,7 +42,7 @@ choices_are : (modules : List Module) (top : Module) (n k : ℕ) (c : Choice) (b
 choices_are modules top n k c true = times_more modules top n k c ∙ ap (λ j. times modules top n j c) (let e : suc k ≡ k + 1 = omega arith in e)
 choices_are modules top n k c false = append-nil (times modules top n k c)
 
-long_times : (modules : List Module) (top : Module) (n k : ℕ) (c : Choice) → length (times modules top n k c) ≡ k
+pub long_times : (modules : List Module) (top : Module) (n k : ℕ) (c : Choice) → length (times modules top n k c) ≡ k
 long_times modules top n zero c = refl
 long_times modules top n (suc k) c = ap suc (long_times modules top n k c)
 

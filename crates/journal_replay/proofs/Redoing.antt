@@ -9,7 +9,7 @@ use Rattle.verilog_meaning.specs.Cycles.{Valuation, Choice, Cycle, Runs, ShowsDo
 use Rattle.verilog_meaning.specs.Threads.{slot, alone, all_enabled, times, IsSame, IsSameSlot, Needs, Moves}
 use Rattle.sim_layout.specs.Rounds.{threads_of}
 use Rattle.sim_layout.specs.Running.{Running, Stands, state_of, IsSameNet, IsSameState, IsCycleOf, TellsDone}
-use Rattle.cycle_once.proofs.Standing.{cycle_once}
+use Rattle.cycle_sim.proofs.Standing.{cycle_once}
 use Rattle.cycle_sim.proofs.Same.{same_refl, runs_on}
 use Rattle.slot_sim.specs.Slots.{IsThreadedIn, TellsNeed, Moving}
 use Rattle.slot_sim.proofs.Sames.{in_refl}

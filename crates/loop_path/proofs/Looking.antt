@@ -20,7 +20,8 @@ use Rattle.cycle_sim.proofs.Laid.{place_same, part_at}
 use Rattle.cycle_sim.proofs.Stuck.{wires_in_room, parts_within}
 use Rattle.loop_path.specs.First.{IsLoopAt, IsLoopless}
 use Rattle.loop_path.specs.Search.{IsNested}
-use Rattle.loop_path.proofs.Depending.{loop_at, none_loops, some_module}
+use Rattle.cycle_sim.proofs.Stuck.{some_module}
+use Rattle.loop_path.proofs.Depending.{loop_at, none_loops}
 use Rattle.loop_path.proofs.Nesting.{nested}
 
 module _ (modules : List Module) (number : ℕ) (is : IsTopNumber modules number) (openable : IsOpenable modules) (kinds children : List ℕ)

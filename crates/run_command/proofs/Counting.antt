@@ -1,15 +1,12 @@
 -- The cycles of a journal are its choices.
-use Rattle.std.specs.Prelude.{◌≡◌, ℕ, zero, suc, ◌+◌, List, [], ◌∷◌, length, refl}
+use Rattle.std.specs.Prelude.{ℕ, ◌+◌, List, [], ◌∷◌, length, refl}
 use Rattle.std.proofs.Common.{ap, ◌∙◌, length-append}
 use Rattle.netlist.specs.declared.netlist.Module.{Module}
 use Rattle.verilog_meaning.specs.Cycles.{Choice}
 use Rattle.verilog_meaning.specs.Threads.{alone, times}
 use Rattle.journal_laws.specs.Journal.{choices}
+use Rattle.journal_replay.proofs.Entries.{long_times}
 use Rattle.run_command.specs.Counts.{entry_cycles, AreItsChoices}
-
-long_times : (modules : List Module) (top : Module) (n k : ℕ) (c : Choice) → length (times modules top n k c) ≡ k
-long_times modules top n zero c = refl
-long_times modules top n (suc k) c = ap suc (long_times modules top n k c)
 
 pub are_its_choices : AreItsChoices
 are_its_choices modules top n [] = refl

@@ -9,14 +9,14 @@ use Rattle.verilog_tree.specs.Rules.{port_named}
 use Rattle.verilog_tree.specs.Scope as scope
 use Rattle.netlist.specs.NetlistOf as n
 use Rattle.netlist.specs.NetlistOf.{netlist_of}
-use Rattle.fitting_net.proofs.Connected.{port_found}
-use Rattle.fitting_net.proofs.Signals.{range_of}
+use Rattle.well_formed_net.proofs.Connected.{port_found}
+use Rattle.well_formed_net.proofs.Signals.{range_of}
 use Rattle.cycle_sim.specs.Opened.{IsOpenable}
 use Rattle.top_ports.specs.Top.{IsWanted, IsDone, pref}
 use Rattle.top_ports.specs.Top.IsWanted.{Clock, Done, Enable, Pref}
 use Rattle.verilog_reader.specs.Faults.{IsSimulated}
-use Rattle.open_well_formed.specs.Openable.{HasTop}
-use Rattle.open_well_formed.proofs.Texts.{openable_text}
+use Rattle.well_formed_net.specs.Openable.{HasTop}
+use Rattle.well_formed_net.proofs.Texts.{openable_text}
 
 abbrev pub first : List ℕ → ℕ
 first [] = 0

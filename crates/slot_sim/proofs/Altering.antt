@@ -20,8 +20,8 @@ use Rattle.cycle_sim.proofs.Putting.{part_is}
 use Rattle.cycle_sim.proofs.Lift.{flat_settled}
 use Rattle.cycle_sim.proofs.Cycles.{settled_same, run_cycle}
 use Rattle.cycle_sim.proofs.Same.{same_trans}
-use Rattle.cycle_once.proofs.Standing.{settles_alike}
-use Rattle.cycle_once.proofs.Once.{next_same}
+use Rattle.cycle_sim.proofs.Standing.{settles_alike}
+use Rattle.cycle_sim.proofs.Once.{next_same}
 use Rattle.slot_sim.specs.Members.{AreMembers}
 use Rattle.slot_sim.specs.Changing.{changes, part_changes, part_changes_at, parts_change, SomeSets, LeavesOther, other_number, other_word, LeavesAll}
 use Rattle.slot_sim.proofs.Collecting.{instance_here}

@@ -15,7 +15,8 @@ use Rattle.sim_values.specs.Stands.{place_of, spot_of, spot_at, word_of}
 use Rattle.sim_layout.specs.Running.{Running, IsPart, Stands, flat, state_of, IsSameNet}
 use Rattle.cycle_sim.proofs.Putting.{part_is}
 use Rattle.slot_sim.specs.Members.{AreMembers}
-use Rattle.slot_sim.specs.Same.{is_register, registers_same, words_same, memories_same, part_same, part_same_at, parts_same}
+use Rattle.sim_layout.specs.Placed.{is_register}
+use Rattle.slot_sim.specs.Same.{registers_same, words_same, memories_same, part_same, part_same_at, parts_same}
 use Rattle.slot_sim.proofs.Collecting.{instance_here}
 use Rattle.slot_sim.proofs.Telling.{registers_told, registers_shown, words_told, words_shown}
 

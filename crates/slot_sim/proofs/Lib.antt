@@ -15,7 +15,7 @@ pub mod Keeping
 pub mod Changes
 pub mod Altering
 pub mod Moving
-pub use Rattle.cycle_once.proofs.Standing
+pub use Rattle.cycle_sim.proofs.Standing
 pub use Rattle.cycle_sim.proofs.Same
 pub use Rattle.cycle_sim.proofs.Turning
 pub mod Loopless

@@ -3,7 +3,8 @@ use Rattle.std.specs.Prelude.{◌≡◌, ℕ, zero, suc, ◌+◌, Bool, true, fa
 use Rattle.std.proofs.Common.{ap, sym, ◌∙◌, subst, arith}
 use Rattle.std.proofs.lemmas.Bool.{eq-eqb, eqb-true, and_from, and_parts}
 use Rattle.netlist.specs.declared.netlist.Signal.{Signal}
-use Rattle.slot_sim.specs.Same.{is_register, registers_same, words_same, RegistersTold, RegistersShown, WordsTold, WordsShown}
+use Rattle.sim_layout.specs.Placed.{is_register}
+use Rattle.slot_sim.specs.Same.{registers_same, words_same, RegistersTold, RegistersShown, WordsTold, WordsShown}
 
 when : (b c : Bool) → (if b then c else true) ≡ true → b ≡ true → c ≡ true
 when true c e f = e

@@ -1,16 +1,11 @@
 -- Whether words are the same at the registers of an instance.
 use Rattle.std.specs.Prelude.{◌≡◌, ℕ, ◌+◌, ◌<◌, length, Option, Some, None, slice_get, Bool, true, false, ◌&&◌, nat_eq, List, [], ◌∷◌, slice_index, if◌then◌else◌}
-use Rattle.netlist.specs.declared.netlist.Source.{Source}
-use Rattle.netlist.specs.declared.netlist.Source.TheVariants.{Register}
 use Rattle.netlist.specs.declared.netlist.Signal.{Signal}
 use Rattle.netlist.specs.declared.netlist.Memory.{Memory}
 use Rattle.netlist.specs.declared.netlist.Module.{Module}
 use Rattle.sim_values.specs.declared.edge.Part.{Part}
 use Rattle.sim_values.specs.Flat.{Flat}
-
-abbrev pub is_register : Source → Bool
-is_register (Register n) = true
-is_register _ = false
+use Rattle.sim_layout.specs.Placed.{is_register}
 
 abbrev pub registers_same : List ℕ → List ℕ → ℕ → List Signal → Bool
 registers_same xs ys place [] = true

@@ -1,7 +1,8 @@
 // Whether two simulators hold the same in one instance.
 
 ghost use Rattle.std.specs.Prelude.{◌≡◌, ℕ, ◌+◌, ◌^◌, ◌<◌, length, slice_get, slice_index, nat_eq, true, false};
-ghost use Rattle.slot_sim.specs.Same.{registers_same, is_register, words_same, memories_same, part_same_at, parts_same};
+ghost use Rattle.sim_layout.specs.Placed.{is_register};
+ghost use Rattle.slot_sim.specs.Same.{registers_same, words_same, memories_same, part_same_at, parts_same};
 ghost use Rattle.sim_layout.specs.Running.{flat};
 
 use cycle_sim::sim::Sim;

@@ -1,4 +1,0 @@
-pub mod Reading
-pub mod Levels
-pub mod Once
-pub mod Standing

@@ -1,4 +1,0 @@
-pub mod Right
-pub mod Openable
-pub mod Texts
-pub mod Example

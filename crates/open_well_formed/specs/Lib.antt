@@ -1,2 +1,0 @@
-pub mod Openable
-pub mod Example

@@ -1,0 +1,4 @@
+pub mod Fitting
+pub mod Openable
+pub mod Example
+pub mod ReadAgain
