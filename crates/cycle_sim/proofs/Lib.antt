@@ -21,6 +21,7 @@ pub mod Enables
 pub mod Elements
 pub mod Taking
 pub mod Putting
+pub mod Events
 pub mod Reading
 pub mod Levels
 pub mod Once

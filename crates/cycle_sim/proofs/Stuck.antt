@@ -19,7 +19,7 @@ use Rattle.sim_values.specs.declared.settle.Feed.TheVariants.{Computed}
 use Rattle.sim_values.specs.declared.settle.Step.{Step}
 use Rattle.sim_values.specs.declared.edge.Part.{Part}
 use Rattle.sim_layout.specs.declared.loops.Found.{Found}
-use Rattle.sim_values.specs.Flat.{EachOf, IsNarrowSource}
+use Rattle.sim_values.specs.Flat.{IsNarrowSource}
 use Rattle.sim_values.specs.Order.{source_reads, signal_reads, module_reads, reads, Takes, IsClear, IsStuck}
 use Rattle.sim_values.specs.Stands.{place_of, spot_at, kind_at, word_of}
 use Rattle.sim_layout.specs.Placed.{is_register}

@@ -23,6 +23,9 @@ use crate::net::{done_number, enable_mask, pref_count, top_number};
 use global_banks::locate::{Location, locate};
 use hls_io::Bytes;
 use netlist::netlist::Module;
+use sim_events::fanout::{Fanout, fanout_of};
+use sim_events::pending::{all_pending, put, settle_again, take_over};
+use sim_events::steady::moving;
 use sim_layout::given::roots;
 use sim_layout::loops::first_loop;
 use sim_layout::order::order;
@@ -30,7 +33,7 @@ use sim_layout::place::{Placed, place};
 use sim_layout::print::put_written;
 use sim_layout::wires::{base_at, further, module_signals, push_parts};
 use sim_values::edge::{Part, edge_numbers, edge_words, inner_spot, kind_at_root, set_word_at};
-use sim_values::settle::{Choice, Step, set_item, settle};
+use sim_values::settle::{Choice, Step};
 use sim_values::tree::tree_of;
 use sim_values::value::{Now, item_at, number_at, word_at};
 use sqlite_items::{Items, at};
@@ -39,11 +42,15 @@ use std::marker::Model;
 use thiserror::Error;
 
 /// A net at work: one word for each signal of each instance, in which each step gives one signal its number, and the
-/// words of all memories side by side. `mask` has a bit for each thread.
+/// words of all memories side by side. `mask` has a bit for each thread. A step that is not `pending`, and that hangs on no choice and on no
+/// memory (`moving`), holds in `numbers`; those that read or give a word stand in `fanout`.
 pub struct Sim<'a> {
     modules: &'a [Module],
     parts: Vec<Part>,
     steps: Vec<Step>,
+    fanout: Fanout,
+    moving: Vec<bool>,
+    pending: Vec<bool>,
     numbers: Vec<u64>,
     next: Vec<u64>,
     words: Vec<u64>,
@@ -62,6 +69,9 @@ impl Drop for Sim<'_> {
             modules: _,
             parts: _,
             steps: _,
+            fanout: _,
+            moving: _,
+            pending: _,
             numbers: _,
             next: _,
             words: _,
@@ -78,37 +88,38 @@ impl<'a> Model for Sim<'a> {
     ghost use Rattle.std.specs.Prelude.{◌≡◌, ◌-◌, ◌^◌, length};
     ghost use Rattle.sim_layout.specs.Running.{Running, Stands, running};
     ghost use Rattle.sim_layout.specs.Rounds.{threads_of};
+    ghost use Rattle.sim_events.specs.Events.{IsKeeping, AreMoving};
 
     ghost Value = { Running };
 
     ghost view = { λ s. running s.modules.now s.parts.items s.steps.items s.numbers.items s.words.items s.starts.items s.prefs s.done };
 
     ghost invariant = { λ s. Stands (running s.modules.now s.parts.items s.steps.items s.numbers.items s.words.items s.starts.items s.prefs s.done)
-        × (length s.next.items ≡ length s.numbers.items) × (s.mask ≡ 2 ^ threads_of s.modules.now - 1) };
+        × (length s.next.items ≡ length s.numbers.items) × (s.mask ≡ 2 ^ threads_of s.modules.now - 1)
+        × IsKeeping s.modules.now s.steps.items s.fanout.starts.items s.fanout.steps.items s.numbers.items s.pending.items × AreMoving s.modules.now s.steps.items s.moving.items };
 }
 
-/// What the edge leaves in settled words. `next` is room for it.
+/// What the edge leaves in settled words: the numbers in `next`, the words of memories where they stand.
 fn pass_edge(
     modules: &[Module],
     parts: &[Part],
-    numbers: &mut [u64],
+    numbers: &[u64],
     next: &mut [u64],
     words: &mut [u64],
     starts: &[u64],
 )
-    requires { length next.old ≡ length numbers.old }
-    ensures numbers { numbers.new ≡ all_numbers modules.now (record { numbers = numbers.old; words = words.old; starts = starts.now }) numbers.old parts.now }
-    ensures words { words.new ≡ all_words modules.now (record { numbers = numbers.old; words = words.old; starts = starts.now }) parts.now }
+    requires { length next.old ≡ length numbers.now }
+    ensures next { next.new ≡ all_numbers modules.now (record { numbers = numbers.now; words = words.old; starts = starts.now }) numbers.now parts.now }
+    ensures words { words.new ≡ all_words modules.now (record { numbers = numbers.now; words = words.old; starts = starts.now }) parts.now }
 {
     next.copy_from_slice(numbers);
     let now = Now {
-        numbers: &*numbers,
+        numbers,
         words: &*words,
         starts,
     };
     edge_numbers(modules, parts, &now, next);
     edge_words(modules, parts, numbers, words, starts);
-    numbers.copy_from_slice(next);
 }
 
 impl<'a> Sim<'a> {
@@ -117,13 +128,16 @@ impl<'a> Sim<'a> {
         requires { Fits self.old (choice_of choice.now) }
         ensures { IsSettledRun (choice_of choice.now) self.old self.new }
     {
-        settle(
+        settle_again(
             self.modules,
             self.steps.as_slice(),
             choice,
             self.numbers.as_mut_slice(),
             self.words.as_slice(),
             self.starts.as_slice(),
+            &self.fanout,
+            self.moving.as_slice(),
+            &mut self.pending,
         );
     }
 
@@ -148,10 +162,16 @@ impl<'a> Sim<'a> {
         pass_edge(
             self.modules,
             self.parts.as_slice(),
-            self.numbers.as_mut_slice(),
+            self.numbers.as_slice(),
             self.next.as_mut_slice(),
             self.words.as_mut_slice(),
             self.starts.as_slice(),
+        );
+        take_over(
+            &self.fanout,
+            self.numbers.as_mut_slice(),
+            &mut self.pending,
+            self.next.as_slice(),
         );
     }
 
@@ -289,6 +309,9 @@ impl<'a> Sim<'a> {
             modules: self.modules,
             parts: self.parts.as_slice().to_vec(self.alloc)?,
             steps: self.steps.as_slice().to_vec(self.alloc)?,
+            fanout: self.fanout.copy(self.alloc)?,
+            moving: self.moving.as_slice().to_vec(self.alloc)?,
+            pending: self.pending.as_slice().to_vec(self.alloc)?,
             numbers: self.numbers.as_slice().to_vec(self.alloc)?,
             next: self.next.as_slice().to_vec(self.alloc)?,
             words: self.words.as_slice().to_vec(self.alloc)?,
@@ -337,7 +360,13 @@ impl<'a> Sim<'a> {
         requires { FitsAt self.old place number }
         ensures { self.new ≡ with_number self.old place number }
     {
-        set_item(self.numbers.as_mut_slice(), place, number);
+        put(
+            &self.fanout,
+            self.numbers.as_mut_slice(),
+            &mut self.pending,
+            place,
+            number,
+        );
     }
 
     /// Puts a number into a word of a memory, which is the one of number `memory` from the place `first` of all memories on.
@@ -477,7 +506,11 @@ impl<'a> Sim<'a> {
         ensures cause { IfErr result (λ e. e ≡ errors.Memory) }
     {
         let done = further(base_at(placed.parts.as_slice(), 0), number)?;
-        let next = vec![in alloc; 0u64; placed.numbers.len()]?;
+        let words = placed.numbers.len();
+        let fanout = fanout_of(alloc, modules, steps.as_slice(), words)?;
+        let moving = moving(alloc, modules, steps.as_slice())?;
+        let pending = all_pending(alloc, steps.len())?;
+        let next = vec![in alloc; 0u64; words]?;
         let Placed {
             parts,
             numbers,
@@ -489,6 +522,9 @@ impl<'a> Sim<'a> {
             modules,
             parts,
             steps,
+            fanout,
+            moving,
+            pending,
             numbers,
             next,
             words,

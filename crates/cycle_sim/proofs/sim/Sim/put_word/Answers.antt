@@ -22,4 +22,6 @@ invariant_of-self c =
       subst (λ (ws : List ℕ). Stands (running r.modules r.parts r.steps r.numbers ws r.starts r.prefs r.done)) (sym (whole ∙ given)) stands,
       c.self.invariant.1,
       c.self.invariant.2,
+      c.self.invariant.3,
+      c.self.invariant.4,
     )
