@@ -1,11 +1,13 @@
 #!/usr/bin/env python3
 """tests/outside/icarus.py TEXT.v [--held-back SEED | --waits]: runs a written text in Icarus until done is shown.
 
-What the text prints goes to standard output, the number of cycles to standard error as `hls step` says it. Without a seed the wrapper `top_rr` runs.
-With one it is `top`, where in each cycle numbers drawn from the seed say which threads are enabled and whom each arbiter prefers. With --waits the
-number of cycles that threads waited for each arbiter follows on standard error: those in which it may grant a thread and grants another."""
+What the text prints goes to standard output, the number of cycles to standard error as `hls step` says it. Without a
+seed the wrapper `top_rr` runs. With one it is `top`, where in each cycle numbers drawn from the seed say which threads
+are enabled and whom each arbiter prefers. With --waits the number of cycles that threads waited for each arbiter
+follows on standard error: those in which it may grant a thread and grants another."""
+from __future__ import annotations
+
 import argparse
-import os
 import random
 import re
 import shutil
@@ -20,12 +22,12 @@ class Failed(Exception):
     pass
 
 
-def run(words, text="", seconds=120, folder=None):
+def run(words: list[str], text: str = "", seconds: int = 120, folder: str | None = None) -> tuple[int, str, str]:
     ran = subprocess.run(words, input=text.encode("latin-1"), capture_output=True, timeout=seconds, cwd=folder)
     return ran.returncode, ran.stdout.decode("latin-1"), ran.stderr.decode("latin-1")
 
 
-def bench(ports, declared="", first="", each="", last=""):
+def bench(ports: str, declared: str = "", first: str = "", each: str = "", last: str = "") -> str:
     """A bench that drives the clock until done is shown, and then tells the cycles."""
     return f"""module bench;
   reg clk;
@@ -47,50 +49,72 @@ endmodule
 """
 
 
-def lockstep():
+def lockstep() -> str:
     return bench("top_rr dut(.clk(clk), .done(done));")
 
 
-def held_back(verilog, seed):
-    """A bench of top. Which threads are enabled is drawn in each cycle, or for some cycles on end, or it is one at a time, by the seed modulo 3."""
+def first_of(pattern: str, text: str) -> str:
+    """What the group of a pattern matches first; nothing where it is left out."""
+    found = re.search(pattern, text)
+    if not found:
+        raise Failed(f"the text has no {pattern}")
+    return found[1] or ""
+
+
+def for_some(enabled: str, most: int) -> str:
+    """Draws who is enabled, for fewer cycles than so many."""
+    drawn = f"        en = {enabled};\n        left = {{$random(seed)}} % {most};\n"
+    return f"      if (left == 0) begin\n{drawn}      end else left = left - 1;\n"
+
+
+def held_back(verilog: str, seed: int) -> str:
+    """A bench of top. Which threads are enabled is drawn in each cycle, or for some cycles on end, or it is one at a
+    time, by the seed modulo 3."""
     draw = random.Random(seed)
-    last = int(re.search(r"module top\(.*?input wire (?:\[(\d+):0\] )?en\b", verilog)[1] or 0)
-    prefs = re.findall(r"input wire \[(\d+):0\] (pref_\d+)", re.search(r"module top\(([^)]*)\)", verilog)[1])
-    declared = f"  reg [{last}:0] en;\n  integer seed, left;\n" + "".join(f"  reg [{width}:0] {pref};\n" for width, pref in prefs)
-    first = f"    seed = {draw.randrange(1 << 30)};\n    left = 0;\n    en = 0;\n" + "".join(f"    {pref} = 0;\n" for _, pref in prefs)
+    last = int(first_of(r"module top\(.*?input wire (?:\[(\d+):0\] )?en\b", verilog) or 0)
+    prefs = re.findall(r"input wire \[(\d+):0\] (pref_\d+)", first_of(r"module top\(([^)]*)\)", verilog))
+    declared = f"  reg [{last}:0] en;\n  integer seed, left;\n" + "".join(
+        f"  reg [{width}:0] {pref};\n" for width, pref in prefs
+    )
+    first = f"    seed = {draw.randrange(1 << 30)};\n    left = 0;\n    en = 0;\n" + "".join(
+        f"    {pref} = 0;\n" for _, pref in prefs
+    )
     some = "{$random(seed), $random(seed), $random(seed)} >> 16"
     each = [
         f"      en = {some};\n",
-        f"      if (left == 0) begin\n        en = {some};\n        left = {{$random(seed)}} % {draw.choice([5, 30, 200])};\n"
-           "      end else left = left - 1;\n",
-        f"      if (left == 0) begin\n        en = {last + 1}'d1 << ({{$random(seed)}} % {last + 1});\n        left = {{$random(seed)}} % {draw.choice([2, 10, 60])};\n"
-           "      end else left = left - 1;\n",
+        for_some(some, draw.choice([5, 30, 200])),
+        for_some(f"{last + 1}'d1 << ({{$random(seed)}} % {last + 1})", draw.choice([2, 10, 60])),
     ][seed % 3]
     each += "".join(f"      {pref} = $random(seed) >> 7;\n" for _, pref in prefs)
     ports = "".join(f", .{pref}({pref})" for _, pref in prefs)
     return bench(f"top dut(.clk(clk), .en(en), .done(done){ports});", declared, first, each)
 
 
-def waits(verilog):
+def waits(verilog: str) -> tuple[str, list[str]]:
     """A bench of the wrapper that counts what threads wait for arbiters, and the names of their cores."""
-    head = re.search(r"module arbiter\(([^)]*)\)", verilog)[1]
+    head = first_of(r"module arbiter\(([^)]*)\)", verilog)
     asks = re.findall(r"input wire (?:\[0:0\] )?(\w+)", head)[1:]
     grants = re.findall(r"output wire (?:\[0:0\] )?(\w+)", head)
-    top = re.search(r"module top\(.*?endmodule", verilog, re.S)[0]
-    names = [name for module, name in re.findall(r"^\s*(\w+) (\w+)\(\.", top, re.M) if module not in ("arbiter", "idle") and not module.startswith("fn_")]
+    top = first_of(r"(?s)(module top\(.*?endmodule)", verilog)
+    names = [
+        name
+        for module, name in re.findall(r"^\s*(\w+) (\w+)\(\.", top, re.M)
+        if module not in ("arbiter", "idle") and not module.startswith("fn_")
+    ]
     arbiters = re.findall(r"^\s*arbiter (\w+)\(\.", top, re.M)
-    wrapped = re.search(r"^\s*top (\w+)\(\.", verilog, re.M)[1]
+    wrapped = first_of(r"(?m)^\s*top (\w+)\(\.", verilog)
     declared = "".join(f"  integer waits_{k};\n" for k in range(len(arbiters)))
     first = "    #1;\n" + "".join(f"    waits_{k} = 0;\n" for k in range(len(arbiters)))
     each = ""
     for k, arbiter in enumerate(arbiters):
         at = f"dut.{wrapped}.{arbiter}"
-        each += f"      waits_{k} = waits_{k}{''.join(f' + ({at}.{ask} && !{at}.{grant})' for ask, grant in zip(asks, grants))};\n"
+        waiting = "".join(f" + ({at}.{ask} && !{at}.{grant})" for ask, grant in zip(asks, grants))
+        each += f"      waits_{k} = waits_{k}{waiting};\n"
     told = '    $write("\\nwaits");\n' + "".join(f'    $write(" %0d", waits_{k});\n' for k in range(len(arbiters)))
     return bench("top_rr dut(.clk(clk), .done(done));", declared, first, each, told), names
 
 
-def simulated(folder, text, seconds=600):
+def simulated(folder: str, text: str, seconds: int = 600) -> tuple[str, int]:
     """What the text p.v in the folder prints under the bench, and in how many cycles."""
     with open(f"{folder}/bench.v", "w", encoding="ascii") as file:
         file.write(text)
@@ -108,18 +132,22 @@ def simulated(folder, text, seconds=600):
     return printed, int(told[2])
 
 
-def main():
-    words = argparse.ArgumentParser()
-    words.add_argument("text")
-    words.add_argument("--held-back", type=int)
-    words.add_argument("--waits", action="store_true")
-    words = words.parse_args()
+def main() -> None:
+    parser = argparse.ArgumentParser()
+    parser.add_argument("text")
+    parser.add_argument("--held-back", type=int)
+    parser.add_argument("--waits", action="store_true")
+    words = parser.parse_args()
     folder = tempfile.mkdtemp(prefix="icarus-")
     try:
         shutil.copy(words.text, f"{folder}/p.v")
         with open(f"{folder}/p.v", encoding="ascii") as file:
             verilog = file.read()
-        text, names = waits(verilog) if words.waits else (lockstep() if words.held_back is None else held_back(verilog, words.held_back), [])
+        text, names = (
+            waits(verilog)
+            if words.waits
+            else (lockstep() if words.held_back is None else held_back(verilog, words.held_back), [])
+        )
         printed, cycles = simulated(folder, text)
     except (Failed, subprocess.TimeoutExpired) as why:
         print(why, file=sys.stderr)

@@ -1,35 +1,58 @@
-"""Random programs with threads, each from a seed, without undefined steps, that print the same whatever the interleaving.
+"""Random programs with threads, each from a seed, without undefined steps, that print the same whatever the
+interleaving.
 
-A thread writes elements of its own and sums that hang on no order, each under its mutex. The threads of a routine that has a barrier meet at it, all
-as often; between two meetings an element is written by one thread, or read by many. While threads run one routine prints at most, one of its threads
-between two meetings. Threads are created again after they were joined, and create threads of their own."""
+A thread writes elements of its own and sums that hang on no order, each under its mutex. The threads of a routine that
+has a barrier meet at it, all as often; between two meetings an element is written by one thread, or read by many. While
+threads run one routine prints at most, one of its threads between two meetings. Threads are created again after they
+were joined, and create threads of their own."""
+from __future__ import annotations
+
+from typing import Callable
+
 from programs import SIGNED, UNSIGNED, Scope, Writer
 
 OPERATORS = ["+", "+", "^", "|", "&"]
 # how the number of a thread is handed over, and how it is read
-CODES = [("(long){}", "(long)arg"), ("((long){} + 5000000000)", "(long)arg - 5000000000"), ("(-1L - {})", "-1 - (long)arg"), ("({} * 3 + 1)", "((long)arg - 1) / 3")]
+CODES = [
+    ("(long){}", "(long)arg"),
+    ("((long){} + 5000000000)", "(long)arg - 5000000000"),
+    ("(-1L - {})", "-1 - (long)arg"),
+    ("({} * 3 + 1)", "((long)arg - 1) / 3"),
+]
+
+
+ENDS = ["pthread_exit(NULL)", "return NULL", "return (void *)id"]
 
 
 class Group:
-    """The threads of one start routine: its objects with their lengths (0 of a scalar), how many they are, and what they have."""
+    """The threads of one start routine: its objects with their lengths (0 of a scalar), how many they are, and what
+    they have."""
 
-    def __init__(self, routine, objects, code):
+    def __init__(self, routine: str, objects: list[tuple[str, int]], code: tuple[str, str]) -> None:
         self.routine, self.objects, self.code = routine, objects, code
         self.size = sum(max(1, length) for _, length in objects)
-        self.slices, self.barrier, self.row, self.kids, self.prints, self.waits = {}, None, None, None, False, 0
+        self.slices: dict[str, tuple[str, int]] = {}
+        self.barrier: str | None = None
+        self.row: str | None = None
+        self.kids: Group | None = None
+        self.prints, self.waits, self.main = False, 0, 0
 
 
 class ThreadedWriter(Writer):
-    def __init__(self, seed):
+    def __init__(self, seed: int | str) -> None:
         super().__init__(seed)
-        self.locks, self.sums, self.keyed, self.setup, self.lockers = [], {}, [], [], []
+        self.locks: list[str] = []
+        self.sums: dict[str, tuple[str, str, int]] = {}
+        self.keyed: list[tuple[str, int, str, str]] = []
+        self.setup: list[str] = []
+        self.lockers: list[str] = []
 
-    def maybe(self, chance):
+    def maybe(self, chance: float) -> bool:
         return self.draw.random() < chance
 
     # ---- globals
 
-    def objects(self, size):
+    def objects(self, size: int) -> list[tuple[str, int]]:
         """Objects for so many threads: an array, a scalar, or both."""
         if size == 1 and self.maybe(0.7):
             parts = [0]
@@ -39,14 +62,16 @@ class ThreadedWriter(Writer):
             parts = [size]
         return [(self.name("t"), length) for length in parts]
 
-    def declare_objects(self, groups):
-        lines = [f"pthread_t {name}{f'[{length}]' if length else ''};" for group in groups for name, length in group.objects]
+    def declare_objects(self, groups: list[Group]) -> None:
+        lines = [
+            f"pthread_t {name}{f'[{length}]' if length else ''};" for group in groups for name, length in group.objects
+        ]
         lines += [f"pthread_t {self.name('spare')}[{self.draw.randrange(1, 3)}];"] * self.maybe(0.2)
         self.draw.shuffle(lines)
         for line in lines:
             self.put(0, line)
 
-    def declare_locks(self):
+    def declare_locks(self) -> None:
         for _ in range(self.draw.randrange(1, 4)):
             name = self.name("m")
             kind = self.draw.randrange(3)
@@ -65,28 +90,31 @@ class ThreadedWriter(Writer):
                 self.locks += [f"{name}[{at}]" for at in range(length)]
         for _ in range(self.draw.randrange(1, 4)):
             name = self.name("s")
-            kind = self.draw.choice(UNSIGNED)
-            self.put(0, f"{kind} {name} = {self.draw.randrange(128)};")
+            width = self.draw.choice(UNSIGNED)
+            self.put(0, f"{width} {name} = {self.draw.randrange(128)};")
             # a sum under a mutex of an array is not one of the sums that are kept by all of its mutexes
-            self.sums[name] = (kind, self.draw.choice(OPERATORS), self.draw.randrange(len(self.locks)))
+            self.sums[name] = (width, self.draw.choice(OPERATORS), self.draw.randrange(len(self.locks)))
 
-    def global_array(self, length):
+    def global_array(self, length: int) -> str:
         name = self.name("c")
         kind = self.draw.choice(UNSIGNED)
         self.put(0, f"{kind} {name}[{length}];")
         return name
 
-    def declare_slices(self, group):
+    def declare_slices(self, group: Group) -> None:
         for _ in range(self.draw.randrange(1, 3)):
             name, kind, part = self.name("g"), self.draw.choice(UNSIGNED + SIGNED), self.draw.choice([1, 1, 2, 3, 4, 5])
             self.put(0, f"{kind} {name}[{group.size * part}];")
             group.slices[name] = (kind, part)
 
-    def declare_tables(self):
+    def numbers(self, count: int) -> str:
+        return ", ".join(str(self.draw.randrange(128)) for _ in range(count))
+
+    def declare_tables(self) -> Scope:
         tables = Scope()
         for _ in range(self.draw.randrange(3)):
             name, kind, length = self.name("k"), self.draw.choice(UNSIGNED + SIGNED), self.draw.choice([2, 3, 5, 8])
-            self.put(0, f"const {kind} {name}[{length}] = {{{', '.join(str(self.draw.randrange(128)) for _ in range(length))}}};")
+            self.put(0, f"const {kind} {name}[{length}] = {{{self.numbers(length)}}};")
             tables.arrays[name] = (kind, length)
             tables.fixed.add(name)
         name = self.name("k")
@@ -98,16 +126,25 @@ class ThreadedWriter(Writer):
 
     # ---- what threads do
 
-    def update(self, scope, depth, place, operator):
+    def update(self, scope: Scope, depth: int, place: str, operator: str) -> None:
         value = self.unsigned(scope, 1)
-        self.put(depth, self.draw.choice([f"{place} = {place} {operator} {value};", f"{place} {operator}= {value};", f"{place} = ({value}) {operator} {place};"]))
+        self.put(
+            depth,
+            self.draw.choice(
+                [
+                    f"{place} = {place} {operator} {value};",
+                    f"{place} {operator}= {value};",
+                    f"{place} = ({value}) {operator} {place};",
+                ]
+            ),
+        )
 
-    def updates(self, scope, depth, lock):
+    def updates(self, scope: Scope, depth: int, lock: int) -> None:
         for name, (_, operator, at) in sorted(self.sums.items()):
             if at == lock and self.maybe(0.8):
                 self.update(scope, depth, name, operator)
 
-    def section(self, scope, depth):
+    def section(self, scope: Scope, depth: int) -> None:
         """Sums under mutexes, of which the one that stands first is taken first."""
         kind = self.draw.randrange(5)
         if kind == 0 and self.keyed:
@@ -133,7 +170,7 @@ class ThreadedWriter(Writer):
             self.updates(scope, depth, lock)
             self.put(depth, f"pthread_mutex_unlock(&{self.locks[lock]});")
 
-    def locker(self, tables):
+    def locker(self, tables: Scope) -> None:
         name, parameter, kind = self.name("f"), self.name("p"), self.draw.choice(UNSIGNED + SIGNED)
         self.put(0, f"void {name}({kind} {parameter}) {{")
         scope = Scope(tables)
@@ -145,11 +182,11 @@ class ThreadedWriter(Writer):
         self.put(0, "}")
         self.lockers.append(name)
 
-    def wait(self, group, depth, times):
+    def wait(self, group: Group, depth: int, times: int) -> None:
         self.put(depth, f"pthread_barrier_wait(&{group.barrier});")
         group.waits += times
 
-    def meet(self, group, scope, depth, times):
+    def meet(self, group: Group, scope: Scope, depth: int, times: int) -> None:
         """Each writes an element of its own, and after a meeting reads those of others; or one of them prints."""
         if group.prints and self.maybe(0.5):
             self.put(depth, f"if (id == {self.draw.randrange(group.size)}) {{")
@@ -158,20 +195,24 @@ class ThreadedWriter(Writer):
             return self.wait(group, depth, times)
         self.put(depth, f"{group.row}[id] = {self.value(scope, 1)};")
         self.wait(group, depth, times)
-        self.put(depth, f"r = r {self.draw.choice('+^*')} {group.row}[(id + {self.draw.randrange(group.size)}) % {group.size}];")
+        self.put(
+            depth,
+            f"r = r {self.draw.choice('+^*')} {group.row}[(id + {self.draw.randrange(group.size)}) % {group.size}];",
+        )
         self.wait(group, depth, times)
 
-    def descend(self, group, scope, depth):
+    def descend(self, group: Group, scope: Scope, depth: int) -> None:
         """Creates a thread of its own, and joins it."""
         kids = group.kids
-        self.put(depth, f"pthread_create(&{kids.objects[0][0]}[id], NULL, {kids.routine}, (void *){kids.code[0].format('id')});")
+        assert kids
+        self.put(depth, self.creation(kids, f"{kids.objects[0][0]}[id]", "id"))
         if self.maybe(0.7):
             self.section(scope, depth)
         self.put(depth, f"pthread_join({kids.objects[0][0]}[id], NULL);")
         for name, (_, part) in sorted(kids.slices.items()):
             self.put(depth, f"r = r ^ (unsigned){name}[id * {part} + {self.draw.randrange(part)}];")
 
-    def item(self, group, scope, depth, times):
+    def item(self, group: Group, scope: Scope, depth: int, times: int) -> None:
         kind = self.draw.randrange(12)
         if kind < 2:
             self.assign(scope, depth)
@@ -204,7 +245,7 @@ class ThreadedWriter(Writer):
         else:
             self.section(scope, depth)
 
-    def routine(self, group, tables):
+    def routine(self, group: Group, tables: Scope) -> None:
         self.put(0, f"void *{group.routine}(void *arg) {{")
         kind = "int" if self.maybe(0.3) else "long"
         self.put(1, f"{kind} id = {'(int)' if kind == 'int' else ''}({group.code[1]});")
@@ -220,7 +261,7 @@ class ThreadedWriter(Writer):
         for _ in range(self.draw.randrange(1, 6)):
             self.item(group, scope, 1, 1)
         if self.maybe(0.2):
-            self.put(1, f"if ({self.condition(scope, 0)}) {self.draw.choice(['pthread_exit(NULL)', 'return NULL', 'return (void *)id'])};")
+            self.put(1, f"if ({self.condition(scope, 0)}) {self.draw.choice(ENDS)};")
             self.section(scope, 1)
         name, (_, part) = self.draw.choice(sorted(group.slices.items()))
         self.put(1, f"{name}[id * {part} + {self.draw.randrange(part)}] = r;")
@@ -229,24 +270,29 @@ class ThreadedWriter(Writer):
 
     # ---- main
 
-    def each_thread(self, group, depth, line):
+    def each_thread(self, group: Group, depth: int, line: Callable[[str, str], str]) -> None:
         """The line for each thread of the group: of a loop over the elements of an array, or of one after another."""
         first = 0
         for name, length in group.objects:
             if length and self.maybe(0.7):
-                self.put(depth, f"for (i = 0; i < {length}; i++) {line(f'{name}[i]', f'(i + {first})' if first else 'i')}")
+                self.put(
+                    depth, f"for (i = 0; i < {length}; i++) {line(f'{name}[i]', f'(i + {first})' if first else 'i')}"
+                )
             else:
                 for at in range(max(1, length)):
                     self.put(depth, line(f"{name}[{at}]" if length else name, str(first + at)))
             first += max(1, length)
 
-    def create(self, group, depth):
-        self.each_thread(group, depth, lambda place, number: f"pthread_create(&{place}, NULL, {group.routine}, (void *){group.code[0].format(number)});")
+    def creation(self, group: Group, place: str, number: str) -> str:
+        return f"pthread_create(&{place}, NULL, {group.routine}, (void *){group.code[0].format(number)});"
 
-    def join(self, group, depth):
+    def create(self, group: Group, depth: int) -> None:
+        self.each_thread(group, depth, lambda place, number: self.creation(group, place, number))
+
+    def join(self, group: Group, depth: int) -> None:
         self.each_thread(group, depth, lambda place, _: f"pthread_join({place}, NULL);")
 
-    def life(self, groups, scope, depth):
+    def life(self, groups: list[Group], scope: Scope, depth: int) -> None:
         """All threads are created, main does its part, and all are joined."""
         for group in groups:
             if group.barrier:
@@ -277,7 +323,7 @@ class ThreadedWriter(Writer):
             if group.barrier:
                 self.put(depth, f"pthread_barrier_destroy(&{group.barrier});")
 
-    def results(self, groups):
+    def results(self, groups: list[Group]) -> None:
         for name in sorted(self.sums):
             self.put(1, f'printf("%lu\\n", (unsigned long){name});')
         for _, length, counts, _ in self.keyed:
@@ -286,7 +332,7 @@ class ThreadedWriter(Writer):
             for name, (_, part) in group.slices.items():
                 self.put(1, f'for (i = 0; i < {group.size * part}; i++) printf("%ld\\n", (long){name}[i]);')
 
-    def groups(self):
+    def groups(self) -> list[Group]:
         sizes = self.draw.choice([[1], [2], [2], [3], [4], [1, 1], [2, 1], [2, 2], [3, 2], [1, 2, 1]])
         groups = [Group(self.name("work"), self.objects(size), self.draw.choice(CODES)) for size in sizes]
         if self.maybe(0.25):
@@ -294,7 +340,7 @@ class ThreadedWriter(Writer):
             parent.kids = Group(self.name("work"), [(self.name("t"), parent.size)], self.draw.choice(CODES))
         return groups
 
-    def program(self):
+    def program(self) -> None:
         self.put(0, "#include <pthread.h>")
         groups = self.groups()
         kids = [group.kids for group in groups if group.kids]
