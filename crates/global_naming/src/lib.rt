@@ -3,7 +3,7 @@
 
 ghost use Rattle.global_naming.specs.Naming.{NoMoreThanThreads};
 
-mod names;
+pub mod names;
 pub mod naming;
 
 /// No more hardware threads name a global than there are.

@@ -10,7 +10,12 @@ use c_program::tree::{
 };
 use std::alloc::AllocError;
 
-fn push_variable(storage: Storage, variable: u32, names: &mut Vec<u32>) -> Result<(), AllocError>
+/// Appends a variable, where it is a global.
+pub fn push_variable(
+    storage: Storage,
+    variable: u32,
+    names: &mut Vec<u32>,
+) -> Result<(), AllocError>
     ensures { IfOk result (λ _. names.new.items ≡ names.old.items ++ variable_globals storage variable) }
 {
     if storage == Storage::Static {
@@ -19,7 +24,8 @@ fn push_variable(storage: Storage, variable: u32, names: &mut Vec<u32>) -> Resul
     Ok(())
 }
 
-fn push_expression(expression: &Expression, names: &mut Vec<u32>) -> Result<(), AllocError>
+/// Appends the globals that an expression names, once for each time, in the order of the text.
+pub fn push_expression(expression: &Expression, names: &mut Vec<u32>) -> Result<(), AllocError>
     ensures { IfOk result (λ _. names.new.items ≡ names.old.items ++ expression_globals (expression_of expression.now)) }
 {
     match expression {
@@ -39,7 +45,8 @@ fn push_expression(expression: &Expression, names: &mut Vec<u32>) -> Result<(), 
     }
 }
 
-fn push_expressions(expressions: &[Expression], names: &mut Vec<u32>) -> Result<(), AllocError>
+/// Appends the globals that expressions name.
+pub fn push_expressions(expressions: &[Expression], names: &mut Vec<u32>) -> Result<(), AllocError>
     ensures { IfOk result (λ _. names.new.items ≡ names.old.items ++ expressions_globals (expressions_of expressions.now)) }
 {
     for expression in expressions {
@@ -73,7 +80,8 @@ fn push_place(place: &Place, names: &mut Vec<u32>) -> Result<(), AllocError>
     }
 }
 
-fn push_object(place: &ObjectPlace, names: &mut Vec<u32>) -> Result<(), AllocError>
+/// Appends the globals that the index of a pthread object's place names.
+pub fn push_object(place: &ObjectPlace, names: &mut Vec<u32>) -> Result<(), AllocError>
     ensures { IfOk result (λ _. names.new.items ≡ names.old.items ++ object_globals (object_place_of place.now)) }
 {
     match place {
@@ -91,7 +99,8 @@ fn push_right_side(right: &RightSide, names: &mut Vec<u32>) -> Result<(), AllocE
     }
 }
 
-fn push_thread_call(call: &ThreadCall, names: &mut Vec<u32>) -> Result<(), AllocError>
+/// Appends the globals that the operands of a pthread call name.
+pub fn push_thread_call(call: &ThreadCall, names: &mut Vec<u32>) -> Result<(), AllocError>
     ensures { IfOk result (λ _. names.new.items ≡ names.old.items ++ thread_call_globals (thread_call_of call.now)) }
 {
     match call {
