@@ -1,12 +1,14 @@
 """Why no program goes on with the token at a place (E3). The rules stand in the order in which they are tried."""
 from __future__ import annotations
 
+import difflib
 from typing import Callable
 
 from driver.not_taken import NAMES, TYPES, WORDS
-from driver.view import ASSIGNMENTS, OPERATORS, Answer, View, here, wrong
+from driver.view import ASSIGNMENTS, CONTROL_WORDS, OPERATORS, Answer, View, here, wrong
 
 POINTER = "a global array, and an index as the parameter"
+PAIRS = {"(": ")", "[": "]", "{": "}"}
 SEPARATE = "a statement of its own for each"
 
 
@@ -16,7 +18,7 @@ def at_end(view: View) -> Answer | None:
         return None
     last = len(view.tokens) - 1
     if last < 0:
-        return Answer(0, "a text without a program", "`int main(void) { .. }`", lead="")
+        return Answer(0, "there is no program in the text", "`int main(void) { .. }`", lead="")
     blocks = [k for k in view.opened(view.at) if view.word(k) == "{"]
     if not blocks:
         return Answer(
@@ -267,6 +269,11 @@ def missing_semicolon(view: View) -> Answer | None:
     ends = view.ends_operand(last) or view.word(last) in ("break", "continue", "return", "NULL")
     if not ends or not (view.kind(view.at) in ("name", "number") or word in ("}", "{", "++", "--")):
         return None
+    meant = difflib.get_close_matches(view.word(last), sorted(CONTROL_WORDS), 1, 0.7)
+    if meant and view.start(view.at) == last and view.declaration(view.word(last)) is None:
+        return Answer(
+            view.place(last), f"`{view.word(last)}`, which is no word of C", f"`{meant[0]}`, if that is meant", lead=""
+        )
     if not view.begins_line(view.at) and word != "}" and view.is_name(last) and view.is_name(view.at):
         return wrong(view, f"`{word}` behind `{view.word(last)}`", "an operator or a `;` between them")
     what = f"a `;` is missing behind `{view.word(last)}`"
@@ -277,13 +284,15 @@ def missing_bracket(view: View) -> Answer | None:
     around, word = view.opened(view.at), view.word(view.at)
     if word in (";", "{", "}") and around and view.word(around[-1]) in ("(", "["):
         opened = view.word(around[-1])
-        closed = {"(": ")", "[": "]"}[opened]
+        closed = PAIRS[opened]
         return wrong(
             view,
             f"a `{closed}` is missing, for the `{opened}` of line {view.line(around[-1])}",
             f"a `{closed}` before `{word}`",
         )
-    if word in (")", "]", "}") and not around:
+    if view.word(view.at - 1) in ("if", "while", "for") and word != "(":
+        return wrong(view, f"a `(` is missing behind `{view.word(view.at - 1)}`", "the condition in parentheses")
+    if word in (")", "]", "}") and PAIRS.get(view.word(around[-1]) if around else "") != word:
         return wrong(view, f"a `{word}` that closes nothing", "the text without it")
     return None
 

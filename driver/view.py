@@ -14,6 +14,7 @@ OTHER_TYPES = frozenset("float double struct union enum volatile _Bool".split())
 OPERATORS = frozenset(
     "= += -= *= /= %= &= |= ^= <<= >>= + - * / % & | ^ << >> < > <= >= == != && || ! ~ ? : ( [ ,".split()
 )
+CONTROL_WORDS = frozenset("if else while do for return break continue switch case default goto".split())
 ASSIGNMENTS = frozenset("= += -= *= /= %= &= |= ^= <<= >>=".split())
 
 
@@ -47,7 +48,7 @@ class View:
         return self.tokens[k].offset if 0 <= k < len(self.tokens) else self.offset
 
     def is_name(self, k: int) -> bool:
-        return self.kind(k) == "name" and self.word(k) not in TYPE_WORDS | OTHER_TYPES
+        return self.kind(k) == "name" and self.word(k) not in TYPE_WORDS | OTHER_TYPES | CONTROL_WORDS
 
     def is_type(self, k: int) -> bool:
         return self.word(k) in TYPE_WORDS | OTHER_TYPES
