@@ -7,6 +7,8 @@ ghost use Rattle.c_program.specs.Weight.{thread_functions};
 use block_ir::block::Next;
 use block_ir::code::{Act, Stage, ThreadCode};
 use c_profile::{Accepted, ProfileError, accept};
+use c_program::threads::thread_functions;
+use c_program::tree::Program;
 use hls_ints::CType;
 use ir_lower::functions::lower_function;
 use sqlite_items::Items;
@@ -139,21 +141,33 @@ pub(crate) fn is_code(code: &ThreadCode, number: usize, widths: &[u32], shapes: 
 
 /// The program of a text.
 fn resolved(alloc: Global, text: &[u8]) -> Result<Accepted, ProfileError>
-    ensures resolved { IfOk result (λ a. IsResolved (program_of a.program)) }
-    ensures functions { IfOk result (λ a. a.functions.items ≡ thread_functions (program_of a.program)) }
+    ensures { IfOk result (λ a. IsResolved (program_of a.program)) }
 {
     let accepted = accept(alloc, text)?;
     Ok(accepted)
 }
 
+/// The codes of these thread functions.
+fn lower_each(
+    alloc: Global,
+    program: &Program,
+    functions: &[usize],
+) -> Result<Items<ThreadCode>, Fail>
+    requires resolved { IsResolved (program_of program.now) }
+    requires threads { functions.now ≡ thread_functions (program_of program.now) }
+{
+    let mut codes = Items::new(alloc);
+    for function in functions {
+        codes.push(lower_function(alloc, program, *function)?)?;
+    }
+    Ok(codes)
+}
+
 /// The codes of the thread functions of a text, that of main first.
 fn codes_of(alloc: Global, text: &[u8]) -> Result<Items<ThreadCode>, Fail> {
     let accepted = resolved(alloc, text)?;
-    let mut codes = Items::new(alloc);
-    for function in &accepted.functions {
-        codes.push(lower_function(alloc, &accepted.program, *function)?)?;
-    }
-    Ok(codes)
+    let functions = thread_functions(alloc, &accepted.program)?;
+    lower_each(alloc, &accepted.program, &functions)
 }
 
 fn is_lowered(alloc: Global, row: &Lowered) -> Result<bool, Fail> {

@@ -2,5 +2,5 @@ use Rattle.c_program.specs.Plain.{program_of}
 use Rattle.resolved_program.proofs.AcceptedLaws.{resolved_law}
 use Rattle.layer_tests.proofs.lowering.resolved.Goals as goal
 
-pub returns-clause-resolved : goal.returns-clause-resolved
-returns-clause-resolved c = resolved_law c.args.text.now (program_of c.in_ok-accepted.accepted.program) c.in_ok-accepted.accepted.weight c.in_ok-accepted.ensures.ok
+pub returns : goal.returns
+returns c = resolved_law c.args.text.now (program_of c.in_ok-accepted.accepted.program) c.in_ok-accepted.accepted.weight c.in_ok-accepted.ensures.ok
