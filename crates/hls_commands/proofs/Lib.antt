@@ -1,4 +1,5 @@
 pub mod RefusalLemmas
 pub mod RunLemmas
 pub mod SimLemmas
+pub mod CheckLemmas
 pub mod Owing

@@ -81,3 +81,4 @@ sim_owes most left rose d (status.Walked end) is = is
 sim_owes most left rose d (status.Cycles cycles) is = is
 sim_owes most left rose d (status.NotNet offset) is = is
 sim_owes most left rose d (status.Loop signal) is = is
+sim_owes most left rose d (status.Doubt offset name) is = absurd is

@@ -1,7 +1,7 @@
 -- What a call owes for the task that its words ask for and the text that its source gives.
 use Rattle.std.specs.Prelude.{◌≡◌, ◌⊎◌, ℕ, ◌<◌, ◌≤◌, Bool, true, false, List, [], ◌++◌, length, drop, Option, Some, None, IfSome, IsSome, string_bytes}
 use Rattle.hls_words.specs.declared.task.Task.{Task}
-use Rattle.hls_words.specs.declared.task.Task.TheVariants.{Build, Step, Run, Replay, Walk, Sim}
+use Rattle.hls_words.specs.declared.task.Task.TheVariants.{Build, Step, Run, Replay, Walk, Check, Sim}
 use Rattle.turns.specs.declared.Turn.{Turn}
 use Rattle.turns.specs.Turns.{threads_of}
 use Rattle.c_program.specs.Tree.{Program}
@@ -17,6 +17,7 @@ use Rattle.netlist.specs.declared.netlist.Module.{Module}
 use Rattle.netlist.specs.declared.netlist.Netlist.{Netlist}
 use Rattle.netlist.specs.NetlistOf.{netlist_of}
 use Rattle.hls_compile.specs.Compiled.{IsCompiled}
+use Rattle.check_command.specs.Told.{IsDisciplined, IsInDoubt}
 use Rattle.sim_layout.specs.Rounds.{threads_of as enabled_of}
 use Rattle.cycle_sim.specs.Round.{IsRound}
 use Rattle.verilog_reader.specs.Faults.{IsFault, IsRead}
@@ -34,7 +35,7 @@ use Rattle.hls_status.specs.declared.status.Status.{Status}
 use Rattle.hls_status.specs.declared.status.Status.TheVariants as status
 use Rattle.hls_status.specs.declared.status.WalkEnd.{WalkEnd}
 use Rattle.hls_status.specs.declared.status.WalkEnd.TheVariants as walked
-use Rattle.hls_status.specs.Lines.{built_line, cycles_line, loop_line, memory_line, not_net_line, read_fault_line, refusal_line, usage_line, walk_line}
+use Rattle.hls_status.specs.Lines.{built_line, cycles_line, disciplined_line, doubt_line, loop_line, memory_line, not_net_line, read_fault_line, refusal_line, usage_line, walk_line}
 
 -- what a call owes: its status, the Verilog, the journal, the bytes for out and the lines for err
 pub record Due : Type 0 where
@@ -223,6 +224,32 @@ IsVerdict task left v = (d : Due) × IsJudged task left d v
 abbrev pub IsBadEntryOf : Option Task → Option (List ℕ) → ℕ → Type 0
 IsBadEntryOf task left index = (d : Due) × HasBad task left d index
 
+-- ---- lock disciplines
+
+-- the text is accepted as a program of which each global has a discipline, so that it never races
+pub record IsFoundDisciplined (left : Option (List ℕ)) (d : Due) : Type 0 where
+  pub text : List ℕ
+  pub program : Program
+  pub weight : ℕ
+  pub gave : Gave left text
+  pub accepted : IsAccepted text program weight
+  pub globals : ℕ
+  pub disciplined : IsDisciplined program globals
+  pub plain : IsPlain d (disciplined_line globals)
+
+-- the text is accepted as a program that is in doubt, at this place, about the global of this name, or without a name about a creator
+pub record IsFoundInDoubt (left : Option (List ℕ)) (offset : ℕ) (name : List ℕ) : Type 0 where
+  pub text : List ℕ
+  pub program : Program
+  pub weight : ℕ
+  pub gave : Gave left text
+  pub accepted : IsAccepted text program weight
+  pub doubt : IsInDoubt text program offset name
+
+abbrev pub IsDoubtOf : Option Task → Option (List ℕ) → ℕ → List ℕ → Type 0
+IsDoubtOf (Some Check) left offset name = IsFoundInDoubt left offset name
+IsDoubtOf other left offset name = ⊥
+
 -- ---- Verilog texts
 
 -- the text spells a net that a simulator runs, of which no signal depends on itself; so many cycles of it ran under the choices of `top_rr`,
@@ -268,6 +295,7 @@ Succeeds (Some (Step most vcd)) left d = (cycles : ℕ) × IsRun most vcd left d
 Succeeds (Some (Run most listed)) left d = IsRunBy most listed left d verdicts.Done
 Succeeds (Some Replay) left d = IsReplayed left d verdicts.Done
 Succeeds (Some (Walk turns)) left d = IsWalked turns left d status.Ok
+Succeeds (Some Check) left d = IsFoundDisciplined left d
 Succeeds (Some (Sim most)) left d = (cycles : ℕ) × IsSimulated most left d cycles true
 
 -- a walk ended so, before main returned
@@ -305,6 +333,7 @@ OwesAt task left rose d (status.Walked end) = Halts task left d (status.Walked e
 OwesAt task left rose d (status.Cycles cycles) = RunsOut task left d cycles
 OwesAt task left rose d (status.NotNet offset) = IsNotNetOf task left offset × IsPlain d (not_net_line offset)
 OwesAt task left rose d (status.Loop signal) = HasLoopOf task left (string_bytes signal) × IsPlain d (loop_line (string_bytes signal))
+OwesAt task left rose d (status.Doubt offset name) = IsDoubtOf task left offset (string_bytes name) × IsPlain d (doubt_line offset (string_bytes name))
 
 abbrev pub Owes : Option Task → Option (List ℕ) → Type 0 → Due → Type 0
 Owes task left rose d = OwesAt task left rose d d.status

@@ -1,6 +1,8 @@
 -- How the code holds what it owes, and the parts of a command.
 use Rattle.std.specs.Prelude.{◌≡◌, ◌⊎◌, ℕ, true, false, List, [], string_bytes, Option, ⊤}
 use Rattle.hls_words.specs.declared.task.Task.{Task}
+use Rattle.c_profile.specs.declared.text.ProfileError.{ProfileError}
+use Rattle.c_profile.specs.declared.text.ProfileError.TheVariants as profile_error
 use Rattle.hls_compile.specs.declared.CompileError.{CompileError}
 use Rattle.hls_compile.specs.declared.CompileError.TheVariants as error
 use Rattle.journal_laws.specs.declared.verdict.Verdict.{Verdict}
@@ -16,8 +18,10 @@ use Rattle.hls_commands.specs.declared.answer.Out.{Out}
 use Rattle.hls_commands.specs.declared.answer.Out.TheVariants as to_out
 use Rattle.hls_commands.specs.declared.answer.Line.{Line}
 use Rattle.hls_commands.specs.declared.answer.Line.TheVariants as line
-use Rattle.hls_commands.specs.Answers.{Due, Gave, HasBadEntry, HasLoop, IsNotNet, IsPlain, IsRefusedFor, IsReplayed, IsSimulated, verdict_status}
-use Rattle.hls_status.specs.Lines.{cycles_line, loop_line, memory_line, not_net_line, read_fault_line, refusal_line}
+use Rattle.check_command.specs.declared.check.Told.{Told}
+use Rattle.check_command.specs.declared.check.Told.TheVariants as told
+use Rattle.hls_commands.specs.Answers.{Due, Gave, HasBadEntry, HasLoop, IsFoundDisciplined, IsFoundInDoubt, IsNotNet, IsPlain, IsRefusedFor, IsReplayed, IsSimulated, verdict_status}
+use Rattle.hls_status.specs.Lines.{cycles_line, disciplined_line, doubt_line, loop_line, memory_line, not_net_line, read_fault_line, refusal_line}
 
 -- ---- the bytes that an answer owes
 
@@ -53,6 +57,11 @@ abbrev pub stop_of : CompileError → Stop
 stop_of (error.Refused r) = stop.Refused r
 stop_of error.Memory = stop.Memory
 
+-- why a text has no program
+abbrev pub refused : ProfileError → Stop
+refused (profile_error.Refused r) = stop.Refused r
+refused profile_error.Memory = stop.Memory
+
 -- the answer to a stop; want of memory may stand in its place
 abbrev pub StopStatus : Stop → Due → Status → Type 0
 StopStatus s a status.Memory = IsPlain a memory_line
@@ -75,6 +84,19 @@ IsAnswerOf text (BadEntry index line) d s =
 abbrev pub IsReplayOrBad : Option (List ℕ) → Due → Status → Type 0
 IsReplayOrBad left d s =
     ((v : Verdict) × IsReplayed left d v × (s ≡ verdict_status v)) ⊎ ((index : ℕ) × HasBadEntry left d index × (s ≡ status.BadEntry index))
+
+-- ---- lock disciplines
+
+-- the answer that tells this
+abbrev pub TellsIt : Told → Due → Status → Type 0
+TellsIt (told.Disciplined globals) d s = (s ≡ status.Ok) × IsPlain d (disciplined_line globals)
+TellsIt (told.Doubt offset name) d s = (s ≡ status.Doubt offset name) × IsPlain d (doubt_line offset (string_bytes name))
+
+-- what a check owes that is told of its text
+abbrev pub CheckOwes : Option (List ℕ) → Due → Status → Type 0
+CheckOwes left d status.Ok = IsFoundDisciplined left d
+CheckOwes left d (status.Doubt offset name) = IsFoundInDoubt left offset (string_bytes name) × IsPlain d (doubt_line offset (string_bytes name))
+CheckOwes left d s = ⊥
 
 -- ---- Verilog texts
 

@@ -6,12 +6,13 @@ ghost use Rattle.c_program.specs.Plain.{program_of};
 ghost use Rattle.c_program.specs.Weight.{thread_count};
 ghost use Rattle.c_accepted.specs.Profile.{IsAccepted};
 ghost use Rattle.hls_commands.specs.Answers.{Gave, IsBuilt, IsPlain, IsStepped, IsWalked, Owes, RunsAs, run_status, status_of};
-ghost use Rattle.hls_commands.specs.Inside.{AnswersStop, StopsBy, due_of, line_bytes, stop_of};
+ghost use Rattle.hls_commands.specs.Inside.{AnswersStop, StopsBy, due_of, line_bytes, refused, stop_of};
 ghost use Rattle.hls_commands.specs.declared.commands.Stop.TheVariants.{Memory};
 ghost use Rattle.hls_compile.specs.Compiled.{IsCompiled};
 ghost use Rattle.cycle_sim.specs.declared.sim.OpenError.TheVariants as causes;
 
 use crate::answer::{Answer, Line, Out};
+use crate::checks::check;
 use crate::runs::{replay_journal, run_workers};
 use crate::sims::simulate;
 use c_interpreter::walk::{WalkEnd as Ends, walk};
@@ -72,7 +73,7 @@ pub fn plain(alloc: Global, status: Status, line: Line) -> Answer
 }
 
 /// Reads the text to its end.
-fn text_read<S: Source>(alloc: Global, source: &mut S) -> Result<Bytes, Stop>
+pub fn text_read<S: Source>(alloc: Global, source: &mut S) -> Result<Bytes, Stop>
     ensures ok { IfOk result (Gave (S.left source.old)) }
     ensures stop { IfErr result (StopsBy None (S.left source.old) (Rose (S.faults source.old) (S.faults source.new))) }
     ensures later { S.faults source.old ≤ S.faults source.new }
@@ -136,6 +137,16 @@ fn build<R: Threads + Sync, S: Source>(
     })
 }
 
+/// Why a text has no program.
+pub fn refused(error: ProfileError) -> Stop
+    ensures { result ≡ refused error }
+{
+    match error {
+        ProfileError::Refused(refusal) => Stop::Refused(refusal),
+        ProfileError::Memory => Stop::Memory,
+    }
+}
+
 /// Reads the text, of which the program is within all limits.
 fn accepted<S: Source>(alloc: Global, source: &mut S) -> Result<Accepted, Stop>
     ensures ok { IfOk result (λ a. (text : _) × Gave (S.left source.old) text × IsAccepted text (program_of a.program) a.weight) }
@@ -145,8 +156,7 @@ fn accepted<S: Source>(alloc: Global, source: &mut S) -> Result<Accepted, Stop>
     let text = text_read(alloc, source)?;
     match accept(alloc, text.as_slice()) {
         Ok(accepted) => Ok(accepted),
-        Err(ProfileError::Refused(refusal)) => Err(Stop::Refused(refusal)),
-        Err(ProfileError::Memory) => Err(Stop::Memory),
+        Err(error) => Err(refused(error)),
     }
 }
 
@@ -297,6 +307,7 @@ pub fn run_task<R: Threads + Wait + Sync, S: Source, G: Gate + Sync>(
         Task::Run { entries, journal } => run_workers(rt, alloc, source, entries, journal, gate),
         Task::Replay => replay_journal(rt, alloc, source),
         Task::Walk(turns) => walk_turns(alloc, source, turns.as_slice()),
+        Task::Check => check(alloc, source),
         Task::Sim { cycles } => simulate(alloc, source, cycles),
     };
     match done {

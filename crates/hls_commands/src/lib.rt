@@ -2,6 +2,7 @@
 #![tactic(auto)]
 
 pub mod answer;
+pub mod checks;
 pub mod commands;
 pub mod runs;
 pub mod sims;

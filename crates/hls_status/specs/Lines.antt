@@ -1,5 +1,5 @@
 -- The numbers of the statuses, and the lines on err.
-use Rattle.std.specs.Prelude.{ℕ, Bool, true, false, List, ◌++◌, codes, decimal}
+use Rattle.std.specs.Prelude.{ℕ, Bool, true, false, List, [], ◌∷◌, ◌++◌, codes, decimal}
 use Rattle.c_rules.specs.declared.fault.Rule.{Rule}
 use Rattle.c_rules.specs.declared.fault.Rule.TheVariants as rule
 use Rattle.c_rules.specs.Faults.{number}
@@ -32,6 +32,7 @@ status_number (status.Cycles cycles) = 9
 status_number (status.Walked end) = 10
 status_number (status.NotNet offset) = 11
 status_number (status.Loop signal) = 11
+status_number (status.Doubt offset name) = 12
 
 abbrev pub usage_line : List ℕ
 usage_line = codes "hls: usage\n"
@@ -96,6 +97,19 @@ not_net_line offset = codes "hls: not a net at byte " ++ (decimal offset ++ code
 
 abbrev pub loop_line : List ℕ → List ℕ
 loop_line signal = codes "hls: loop at " ++ (signal ++ codes "\n")
+
+-- ---- lock disciplines
+
+abbrev pub disciplined_line : ℕ → List ℕ
+disciplined_line globals = codes "hls: disciplined, " ++ (decimal globals ++ codes " globals\n")
+
+-- a global by its name; a call that creates or joins has none
+abbrev pub doubted : List ℕ → List ℕ
+doubted [] = codes "creator"
+doubted (byte ∷ bytes) = byte ∷ bytes
+
+abbrev pub doubt_line : ℕ → List ℕ → List ℕ
+doubt_line offset name = codes "hls: doubt at byte " ++ (decimal offset ++ (codes ": " ++ (doubted name ++ codes "\n")))
 
 -- ---- walks
 

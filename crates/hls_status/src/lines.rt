@@ -161,6 +161,28 @@ pub fn loop_line(alloc: Global, signal: &str) -> Result<String, AllocError>
     format!(in alloc; "hls: loop at {signal}\n")
 }
 
+/// The line of a program of which each global has a discipline.
+pub fn disciplined_line(alloc: Global, globals: usize) -> Result<String, AllocError>
+    ensures { IfOk result (λ s. string_bytes s ≡ lines.disciplined_line globals) }
+{
+    format!(in alloc; "hls: disciplined, {globals} globals\n")
+}
+
+/// What is in doubt: a global of that name, or without a name a call that creates or joins.
+fn doubted(name: &str) -> &str
+    ensures { result.now ≡ lines.doubted name.now }
+{
+    if name.is_empty() { "creator" } else { name }
+}
+
+/// The line of a program that keeps no discipline.
+pub fn doubt_line(alloc: Global, offset: usize, name: &str) -> Result<String, AllocError>
+    ensures { IfOk result (λ s. string_bytes s ≡ lines.doubt_line offset name.now) }
+{
+    let doubted = doubted(name);
+    format!(in alloc; "hls: doubt at byte {offset}: {doubted}\n")
+}
+
 fn steps_line(alloc: Global, word: &str, steps: u128) -> Result<String, AllocError>
     ensures { IfOk result (λ s. string_bytes s ≡ lines.steps_line word.now steps) }
 {

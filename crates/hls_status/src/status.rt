@@ -53,6 +53,9 @@ pub enum Status {
     NotNet { offset: usize },
     /// A signal of a Verilog text depends on itself: the path of the first, below `top`, with dots between the names.
     Loop { signal: String },
+    /// A program keeps no lock discipline: the place of the name of the first global that has none, where it is accessed first, and the name. Or
+    /// the place of the first call by which a start routine may create or join a thread, and no name.
+    Doubt { offset: usize, name: String },
 }
 
 impl Status {
@@ -74,6 +77,7 @@ impl Status {
             Status::Walked(_) => 10,
             Status::NotNet { .. } => 11,
             Status::Loop { .. } => 11,
+            Status::Doubt { .. } => 12,
         }
     }
 }

@@ -20,3 +20,4 @@ may_be_owed task left rose d (status.Walked end) h = tt
 may_be_owed task left rose d (status.Cycles cycles) h = tt
 may_be_owed task left rose d (status.NotNet offset) h = tt
 may_be_owed task left rose d (status.Loop signal) h = tt
+may_be_owed task left rose d (status.Doubt offset name) h = tt

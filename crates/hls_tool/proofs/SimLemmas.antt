@@ -1,6 +1,6 @@
 -- How a simulation of a Verilog text ends, and that of the text of a build ends as its steps do.
-use Rattle.std.proofs.Common.{◌≡◌, ℕ, ◌<◌, ◌≤◌, Bool, false, true, List, length, Option, Some, None, ap, arith, inl, inr, sym, subst, ◌∙◌, ⊎_elim}
-use Rattle.std.specs.Prelude.{⊤, String, string_bytes}
+use Rattle.std.proofs.Common.{◌≡◌, ℕ, ◌≤◌, Bool, false, true, List, length, Option, Some, None, inl, inr, sym, subst, ⊎_elim}
+use Rattle.std.specs.Prelude.{String, string_bytes}
 use Rattle.std.specs.declared.alloc.Global.{Global}
 use Rattle.verilog_tree.specs.declared.tree.Net.{Net}
 use Rattle.verilog_reader.specs.Faults.{IsRead}
@@ -9,7 +9,7 @@ use Rattle.hls_words.specs.declared.task.Task.TheVariants.{Sim}
 use Rattle.hls_tool.specs.declared.outcome.Outcome.{Outcome}
 use Rattle.hls_status.specs.declared.status.Status.{Status}
 use Rattle.hls_status.specs.declared.status.Status.TheVariants as status
-use Rattle.hls_commands.specs.Answers.{Due, GaveVerilog, HasLoop, HasLoopOf, IsNotNet, IsNotNetOf, IsSimulated, OwesAt, most_simulated}
+use Rattle.hls_commands.specs.Answers.{Due, GaveVerilog, HasLoop, HasLoopOf, IsDoubtOf, IsNotNet, IsNotNetOf, IsSimulated, OwesAt, most_simulated}
 use Rattle.hls_tool.specs.Call.{Answered, AsksToSimulate, Spells, SpellsLoop, SpellsLoopless, SpellsNone, TellsSimulation}
 use Rattle.hls_tool.specs.Delivery.{Ends, Passage}
 
@@ -45,6 +45,7 @@ module _ (text : List ℕ) where
   owes_simulation most rose d (status.Cycles cycles) h = loopless most d cycles false h
   owes_simulation most rose d (status.NotNet offset) h = none offset h.0
   owes_simulation most rose d (status.Loop signal) h = looped (string_bytes signal) h.0
+  owes_simulation most rose d (status.Doubt offset name) h = h.0
 
   ends_so : (owed : Status) (due line : List ℕ) (out err : Passage) (s : Status) → Ends owed due line out err s → TellsSimulation text owed → TellsSimulation text s
   ends_so owed due line out err status.Ok h k = subst (TellsSimulation text) (sym h.0) k
@@ -60,6 +61,7 @@ module _ (text : List ℕ) where
   ends_so owed due line out err (status.Cycles cycles) h k = subst (TellsSimulation text) (sym h.0) k
   ends_so owed due line out err (status.NotNet offset) h k = subst (TellsSimulation text) (sym h.0) k
   ends_so owed due line out err (status.Loop signal) h k = subst (TellsSimulation text) (sym h.0) k
+  ends_so owed due line out err (status.Doubt offset name) h k = subst (TellsSimulation text) (sym h.0) k
 
 module _ (task : Option Task) (left : Option (List ℕ)) (rose : Type 0) (out err : Passage) (outcome : Outcome) (most : ℕ) (text : List ℕ)
     (h : Answered task left rose out err outcome) (asked : AsksToSimulate most task left text) where
@@ -84,3 +86,6 @@ module _ (task : Option Task) (left : Option (List ℕ)) (rose : Type 0) (out er
 
   pub tells_loop : (signal : String Global) → outcome.status ≡ status.Loop signal → HasLoopOf task left (string_bytes signal)
   tells_loop signal e = (owed_so (status.Loop signal) (ended (status.Loop signal) e).0).0
+
+  pub tells_doubt : (offset : ℕ) (name : String Global) → outcome.status ≡ status.Doubt offset name → IsDoubtOf task left offset (string_bytes name)
+  tells_doubt offset name e = (owed_so (status.Doubt offset name) (ended (status.Doubt offset name) e).0).0

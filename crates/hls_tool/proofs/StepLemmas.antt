@@ -1,5 +1,5 @@
 -- A simulation of the text of a build ends as the steps of its C text do.
-use Rattle.std.proofs.Common.{◌≡◌, ℕ, ◌<◌, ◌≤◌, Bool, false, true, List, length, Option, Some, None, ap, arith, sym, subst, ◌∙◌, ⊎_elim}
+use Rattle.std.proofs.Common.{◌≡◌, ℕ, ◌≤◌, Bool, false, true, List, length, Option, Some, None, ap, arith, sym, subst, ◌∙◌, ⊎_elim}
 use Rattle.std.specs.Prelude.{⊤, string_bytes}
 use Rattle.std.proofs.lemmas.Option.{same_Some}
 use Rattle.verilog_tree.specs.declared.tree.Net.{Net}
@@ -10,7 +10,7 @@ use Rattle.netlist.specs.declared.netlist.Netlist.{Netlist}
 use Rattle.netlist.specs.NetlistOf.{netlist_of}
 use Rattle.verilog_meaning.specs.Names.{top_of}
 use Rattle.verilog_meaning.specs.Ports.{HasPorts}
-use Rattle.verilog_meaning.specs.Threads.{Place, Depends}
+use Rattle.verilog_meaning.specs.Threads.{Depends}
 use Rattle.sim_layout.specs.Rounds.{threads_of as enabled_of}
 use Rattle.cycle_sim.specs.Round.{IsRound}
 use Rattle.verilog_reader.specs.Faults.{IsRead}
@@ -121,6 +121,7 @@ module _ (most : ℕ) (c_text : List ℕ) (d : Due) (s : Status) (stepped : IsSt
   owes_same rose owed (status.Cycles cycles) h = simulated owed cycles false h
   owes_same rose owed (status.NotNet offset) h = absurd (never_none offset h.0)
   owes_same rose owed (status.Loop signal) h = absurd (never_looped (string_bytes signal) h.0)
+  owes_same rose owed (status.Doubt offset name) h = absurd h.0
 
   module _ (owed : Due) (out err : Passage) where
     took : (u : Status) → SameAs owed u → TookAll owed.out owed.err out err → (u ≡ s) × TookAll d.out d.err out err
@@ -140,6 +141,7 @@ module _ (most : ℕ) (c_text : List ℕ) (d : Due) (s : Status) (stepped : IsSt
     ends_so (status.Cycles cycles) h k = took (status.Cycles cycles) (subst (IsSame owed) (sym h.0) k) h.1
     ends_so (status.NotNet offset) h k = took (status.NotNet offset) (subst (IsSame owed) (sym h.0) k) h.1
     ends_so (status.Loop signal) h k = took (status.Loop signal) (subst (IsSame owed) (sym h.0) k) h.1
+    ends_so (status.Doubt offset name) h k = took (status.Doubt offset name) (subst (IsSame owed) (sym h.0) k) h.1
 
   pub as_step : (task : Option Task) (left : Option (List ℕ)) (rose : Type 0) (out err : Passage) (outcome : Outcome) → Answered task left rose out err outcome
       → AsksToSimulate most task left d.text → AnswersAs d s out err outcome.status

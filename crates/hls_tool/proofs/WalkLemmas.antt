@@ -40,6 +40,7 @@ module _ (turns : List Turn) (text : List ℕ) (P : Program) (w : ℕ) (accepted
   owes_end rose d (status.Cycles cycles) h = absurd h
   owes_end rose d (status.NotNet offset) h = absurd h.0
   owes_end rose d (status.Loop signal) h = absurd h.0
+  owes_end rose d (status.Doubt offset name) h = absurd h.0
 
 ends_so : (end : WalkEnds) (owed : Status) (due line : List ℕ) (out err : Passage) (s : Status) → Ends owed due line out err s → TellsEnd end owed → TellsEnd end s
 ends_so end owed due line out err status.Ok h k = subst (TellsEnd end) (sym h.0) k
@@ -55,6 +56,7 @@ ends_so end owed due line out err (status.Walked e) h k = subst (TellsEnd end) (
 ends_so end owed due line out err (status.Cycles cycles) h k = subst (TellsEnd end) (sym h.0) k
 ends_so end owed due line out err (status.NotNet offset) h k = subst (TellsEnd end) (sym h.0) k
 ends_so end owed due line out err (status.Loop signal) h k = subst (TellsEnd end) (sym h.0) k
+ends_so end owed due line out err (status.Doubt offset name) h k = subst (TellsEnd end) (sym h.0) k
 
 pub tells_end : (task : Option Task) (left : Option (List ℕ)) (rose : Type 0) (out err : Passage) (outcome : Outcome) (turns : List Turn) (P : Program) →
     Answered task left rose out err outcome → AsksFor (Walk turns) task left P → (end : WalkEnds) (output : List ℕ) → IsWalk P (threads_of turns) end output →

@@ -1,13 +1,15 @@
 -- What a call of the tool says of its answer.
 use Rattle.std.specs.Prelude.{◌≡◌, ◌⊎◌, ℕ, ◌<◌, ◌≤◌, List, length, Option, Some, ⊤, string_bytes}
 use Rattle.hls_words.specs.declared.task.Task.{Task}
-use Rattle.hls_words.specs.declared.task.Task.TheVariants.{Build, Step, Run, Replay, Walk, Sim}
+use Rattle.hls_words.specs.declared.task.Task.TheVariants.{Build, Step, Run, Replay, Walk, Check, Sim}
 use Rattle.verilog_tree.specs.declared.tree.Net.{Net}
 use Rattle.netlist.specs.NetlistOf.{netlist_of}
 use Rattle.verilog_reader.specs.Faults.{IsRead}
 use Rattle.loop_path.specs.First.{IsLoopless}
 use Rattle.loop_path.specs.Dotted.{IsLoopPath}
 use Rattle.c_program.specs.Tree.{Program}
+use Rattle.check_command.specs.Discipline.{Doubt, verdict}
+use Rattle.check_command.specs.Told.{IsDisciplined}
 use Rattle.c_interpreter.specs.declared.walk.WalkEnd.{WalkEnd as Ends}
 use Rattle.c_accepted.specs.Profile.{IsAccepted}
 use Rattle.c_accepted.specs.declared.refusal.Refusal.{Refusal}
@@ -63,6 +65,8 @@ Completes Replay status.Stuck = ⊤
 Completes Replay (status.BadEntry index) = ⊤
 Completes (Walk turns) status.Ok = ⊤
 Completes (Walk turns) (status.Walked end) = ⊤
+Completes Check status.Ok = ⊤
+Completes Check (status.Doubt offset name) = ⊤
 Completes t s = ⊥
 
 -- the status of this end of a walk, but for a fault of the source or of a sink, and want of memory
@@ -71,6 +75,18 @@ TellsEnd end status.Memory = ⊤
 TellsEnd end status.ReadFault = ⊤
 TellsEnd end (status.WriteFault n m) = ⊤
 TellsEnd end s = s ≡ status_of end
+
+-- ---- lock disciplines
+
+-- how a check of the program ends, but for a fault of the source or of a sink, and want of memory. The two cases exclude one another, so each
+-- status comes exactly where its case holds
+abbrev pub TellsDiscipline : Program → Status → Type 0
+TellsDiscipline P status.Ok = (globals : ℕ) × IsDisciplined P globals
+TellsDiscipline P (status.Doubt offset name) = (step : ℕ) × (verdict P ≡ Doubt step (string_bytes name))
+TellsDiscipline P status.ReadFault = ⊤
+TellsDiscipline P (status.WriteFault n m) = ⊤
+TellsDiscipline P status.Memory = ⊤
+TellsDiscipline P s = ⊥
 
 -- ---- Verilog texts
 

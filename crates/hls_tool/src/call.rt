@@ -1,13 +1,13 @@
 ghost use Rattle.std.specs.Prelude.{◌≡◌, ◌⊎◌, ◌≤◌, None, Some, false, length, map, string_bytes};
 ghost use Rattle.hls_io.specs.Causes.{Rose};
 ghost use Rattle.hls_words.specs.Line.{task_of};
-ghost use Rattle.hls_words.specs.declared.task.Task.TheVariants.{Walk};
-ghost use Rattle.hls_tool.specs.Call.{Answered, AnswersAs, AsksFor, AsksToSimulate, Completes, IsWriteFault, TellsEnd, TellsRefusal, TellsSimulation};
+ghost use Rattle.hls_words.specs.declared.task.Task.TheVariants.{Check, Walk};
+ghost use Rattle.hls_tool.specs.Call.{Answered, AnswersAs, AsksFor, AsksToSimulate, Completes, IsWriteFault, TellsDiscipline, TellsEnd, TellsRefusal, TellsSimulation};
 ghost use Rattle.turns.specs.Turns.{threads_of};
 ghost use Rattle.journal_laws.specs.declared.verdict.Verdict.TheVariants.{Entries, Stuck};
 ghost use Rattle.c_interpreter.specs.Walk.{IsWalk};
 ghost use Rattle.hls_tool.specs.Delivery.{passage};
-ghost use Rattle.hls_commands.specs.Answers.{HasLoopOf, HasRunOut, IsBadEntryOf, IsNotNetOf, IsRefusedFor, IsStepped, IsVerdict, IsWalkEnd, most_simulated};
+ghost use Rattle.hls_commands.specs.Answers.{HasLoopOf, HasRunOut, IsBadEntryOf, IsDoubtOf, IsNotNetOf, IsRefusedFor, IsStepped, IsVerdict, IsWalkEnd, most_simulated};
 
 use crate::deliver::deliver;
 use crate::outcome::Outcome;
@@ -41,12 +41,14 @@ pub fn hls<R: Threads + Wait + Sync, S: Source, O: Sink, E: Sink, G: Gate + Sync
     ensures bad_entry { (index : _) → result.status ≡ Status.BadEntry index → IsBadEntryOf (task_of (map string_bytes words.now)) (S.left source.old) index }
     ensures not_net { (offset : _) → result.status ≡ Status.NotNet offset → IsNotNetOf (task_of (map string_bytes words.now)) (S.left source.old) offset }
     ensures loops { (signal : _) → result.status ≡ Status.Loop signal → HasLoopOf (task_of (map string_bytes words.now)) (S.left source.old) (string_bytes signal) }
+    ensures doubt { (offset : _) (name : _) → result.status ≡ Status.Doubt offset name → IsDoubtOf (task_of (map string_bytes words.now)) (S.left source.old) offset (string_bytes name) }
     ensures walked { (end : _) → result.status ≡ Status.Walked end → IsWalkEnd (task_of (map string_bytes words.now)) (S.left source.old) end }
     ensures completes { (task : _) (P : _) → AsksFor task (task_of (map string_bytes words.now)) (S.left source.old) P
         → (Rose (S.faults source.old) (S.faults source.new) → ⊥) → (Rose (O.faults out.old) (O.faults out.new) → ⊥)
         → (Rose (E.faults err.old) (E.faults err.new) → ⊥) → Completes task result.status }
     ensures tells_end { (turns : _) (P : _) (end : _) (output : _) → AsksFor (Walk turns) (task_of (map string_bytes words.now)) (S.left source.old) P
         → IsWalk P (threads_of turns) end output → TellsEnd end result.status }
+    ensures checks { (P : _) → AsksFor Check (task_of (map string_bytes words.now)) (S.left source.old) P → TellsDiscipline P result.status }
     ensures simulates { (most : _) (text : _) → AsksToSimulate most (task_of (map string_bytes words.now)) (S.left source.old) text → TellsSimulation text result.status }
     ensures as_step { (most : _) (c_text : _) (d : _) (s : _) → IsStepped most false (Some c_text) d s → length d.text ≤ most_simulated
         → AsksToSimulate most (task_of (map string_bytes words.now)) (S.left source.old) d.text

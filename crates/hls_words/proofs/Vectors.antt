@@ -3,7 +3,7 @@ use Rattle.std.proofs.Common.{◌≡◌, ℕ, List, [], ◌∷◌, refl, codes}
 use Rattle.std.specs.Prelude.{Some, None, true, false}
 use Rattle.clap.proofs.OnLiterals.{clap_on_literals}
 use Rattle.turns.specs.Turns.{turn}
-use Rattle.hls_words.specs.declared.task.Task.TheVariants.{Build, Step, Run, Replay, Walk, Sim}
+use Rattle.hls_words.specs.declared.task.Task.TheVariants.{Build, Step, Run, Replay, Walk, Check, Sim}
 use Rattle.hls_words.specs.Line.{command_line, task_of}
 
 builds : task_of (codes "hls" ∷ codes "build" ∷ []) ≡ Some (Build 1)
@@ -213,6 +213,20 @@ dumped_with_value = refl
 build_dumps_none : task_of (codes "hls" ∷ codes "build" ∷ codes "--vcd" ∷ []) ≡ None
 unfolding clap_on_literals command_line
 build_dumps_none = refl
+
+-- ---- a lock discipline
+
+checks : task_of (codes "hls" ∷ codes "check" ∷ []) ≡ Some Check
+unfolding clap_on_literals command_line
+checks = refl
+
+checks_of_a_word : task_of (codes "hls" ∷ codes "check" ∷ codes "first.c" ∷ []) ≡ None
+unfolding clap_on_literals command_line
+checks_of_a_word = refl
+
+checks_no_cycles : task_of (codes "hls" ∷ codes "check" ∷ codes "--cycles=9" ∷ []) ≡ None
+unfolding clap_on_literals command_line
+checks_no_cycles = refl
 
 -- ---- a Verilog text
 

@@ -56,12 +56,16 @@ text_rule name = record (new_rule name) { long = Some name }
 abbrev pub walk_line : App
 walk_line = with_rule (new_app (codes "walk")) (required (text_rule (codes "threads")))
 
+-- check
+abbrev pub check_line : App
+check_line = new_app (codes "check")
+
 -- sim --cycles n
 abbrev pub sim_line : App
 sim_line = with_rule (new_app (codes "sim")) (required (number_rule (codes "cycles") 0 4294967295))
 
 abbrev pub commands : List App
-commands = build_line ∷ step_line ∷ run_line ∷ replay_line ∷ walk_line ∷ sim_line ∷ []
+commands = build_line ∷ step_line ∷ run_line ∷ replay_line ∷ walk_line ∷ check_line ∷ sim_line ∷ []
 
 -- the program without its commands, of which one has to be given
 abbrev pub program_line : App
@@ -131,8 +135,9 @@ task_in name rows =
     else (if bytes_eq name (codes "run") then run_in rows
     else (if bytes_eq name (codes "replay") then Some task.Replay
     else (if bytes_eq name (codes "walk") then walk_in rows
+    else (if bytes_eq name (codes "check") then Some task.Check
     else (if bytes_eq name (codes "sim") then sim_in rows
-    else None)))))
+    else None))))))
 
 -- x where clap finds no fault
 abbrev pub unless_fails : Kinds → Option Task → Option Task

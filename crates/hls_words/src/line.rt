@@ -114,6 +114,7 @@ fn whole_command<'a>(alloc: Global) -> Result<Command<'a>, AllocError>
     let program = with_command(program, run_command(alloc));
     let program = with_command(program, Ok(Command::new(alloc, "replay")));
     let program = with_command(program, walk_command(alloc));
+    let program = with_command(program, Ok(Command::new(alloc, "check")));
     with_command(program, sim_command(alloc))
 }
 
@@ -205,6 +206,7 @@ fn task(alloc: Global, name: &str, matches: &ArgMatches<'_>) -> Result<Option<Ta
         "run" => Ok(run_task(matches)),
         "replay" => Ok(Some(Task::Replay)),
         "walk" => walk_task(alloc, matches),
+        "check" => Ok(Some(Task::Check)),
         "sim" => match number(matches, "cycles", 0, u32::MAX, None) {
             Some(cycles) => Ok(Some(Task::Sim { cycles })),
             None => Ok(None),

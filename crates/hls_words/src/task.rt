@@ -15,6 +15,8 @@ pub enum Task {
     Replay,
     /// Take C steps of threads, in these turns.
     Walk(Items<Turn>),
+    /// Say whether each global of the program keeps a lock discipline.
+    Check,
     /// Read a Verilog text, and run it for so many cycles at most.
     Sim { cycles: u32 },
 }

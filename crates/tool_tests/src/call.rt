@@ -32,6 +32,7 @@ pub enum Asked {
     Replay,
     /// So many steps of main.
     Walk { steps: u32 },
+    Check,
     Sim { cycles: u32 },
 }
 
@@ -82,6 +83,7 @@ fn task_of(alloc: Global, asked: Asked) -> Result<Task, AllocError> {
         },
         Asked::Replay => Task::Replay,
         Asked::Walk { steps } => return Ok(Task::Walk(turns_of_main(alloc, steps)?)),
+        Asked::Check => Task::Check,
         Asked::Sim { cycles } => Task::Sim { cycles },
     };
     Ok(task)

@@ -5,7 +5,7 @@ use crate::programs::{COUNTING, MAIN};
 use crate::sims::CLIMBING;
 use std::test::Fail;
 
-const COMMANDS: [Row; 7] = [
+const COMMANDS: [Row; 9] = [
     (
         MAIN,
         Asked::Build,
@@ -35,6 +35,20 @@ const COMMANDS: [Row; 7] = [
         8,
         "",
         "hls: bad entry 0\n",
+    ),
+    (
+        COUNTING,
+        Asked::Check,
+        0,
+        "",
+        "hls: disciplined, 0 globals\n",
+    ),
+    (
+        "pthread_t t; int n; void *w(void *p){n = 1; return NULL;} int main(void){pthread_create(&t, NULL, w, NULL); pthread_join(t, NULL); return 0;}",
+        Asked::Check,
+        12,
+        "",
+        "hls: doubt at byte 37: n\n",
     ),
     (
         CLIMBING,

@@ -20,7 +20,7 @@ const WRITE_FAULT: &[u8] = b"hls: write fault\n";
 type Case = (&'static str, Asked);
 
 /// Calls of each command that answer alike each time, with much, with little and with nothing for out.
-const CASES: [Case; 12] = [
+const CASES: [Case; 13] = [
     (MAIN, Asked::Build),
     ("int x;", Asked::Build),
     (COUNTING, Asked::Step { cycles: 11_520 }),
@@ -29,6 +29,7 @@ const CASES: [Case; 12] = [
     (COUNTING, Asked::Walk { steps: 1_000_000 }),
     (COUNTING, Asked::Walk { steps: 15 }),
     (COUNTING, Asked::Run),
+    (COUNTING, Asked::Check),
     (ENDLESS, Asked::Journal { entries: 1 }),
     (
         "//@ 0 9 -\nint main(void){while (1) ; return 0;}",
@@ -207,11 +208,12 @@ fn tells_what_both_sinks_took(rt: HostRuntime) -> Result<(), Fail> {
 }
 
 /// The second read of four bytes fails. A text is judged only where it is read to its end.
-const ORDER: [Row; 7] = [
+const ORDER: [Row; 8] = [
     ("int x", Asked::Build, 3, "", READ_FAULT),
     ("int x", Asked::Run, 3, "", READ_FAULT),
     ("int x", Asked::Step { cycles: 9 }, 3, "", READ_FAULT),
     ("int x", Asked::Walk { steps: 1 }, 3, "", READ_FAULT),
+    ("int x", Asked::Check, 3, "", READ_FAULT),
     ("modul", Asked::Sim { cycles: 2 }, 3, "", READ_FAULT),
     ("//@ 5 0 -\nint x", Asked::Replay, 3, "", READ_FAULT),
     (MAIN, Asked::Build, 3, "", READ_FAULT),
@@ -261,6 +263,7 @@ fn tells_that_memory_is_wanting(rt: HostRuntime) -> Result<(), Fail> {
 #[test]
 fn has_a_number_for_each_status(rt: HostRuntime) {
     let signal = String::new(rt.alloc());
+    let name = String::new(rt.alloc());
     let numbers = [
         (Status::Ok, 0),
         (Status::Refused(Refusal::NoMain), 1),
@@ -275,6 +278,7 @@ fn has_a_number_for_each_status(rt: HostRuntime) {
         (Status::Walked(WalkEnd::Listed { steps: 0 }), 10),
         (Status::NotNet { offset: 0 }, 11),
         (Status::Loop { signal }, 11),
+        (Status::Doubt { offset: 0, name }, 12),
     ];
     for (status, number) in &numbers {
         assert!(rt; status.number() == *number);

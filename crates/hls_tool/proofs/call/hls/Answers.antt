@@ -3,7 +3,8 @@ use Rattle.hls_tool.proofs.RefusedLemmas.{tells_refusal}
 use Rattle.hls_tool.proofs.CompleteLemmas.{completes}
 use Rattle.hls_tool.proofs.DeliveryLemmas.{may_be_owed}
 use Rattle.hls_tool.proofs.WalkLemmas.{tells_end}
-use Rattle.hls_tool.proofs.SimLemmas.{simulates, tells_loop, tells_not_net}
+use Rattle.hls_tool.proofs.CheckLemmas.{checks}
+use Rattle.hls_tool.proofs.SimLemmas.{simulates, tells_doubt, tells_loop, tells_not_net}
 use Rattle.hls_tool.proofs.StepLemmas.{as_step}
 use Rattle.hls_tool.proofs.call.hls.Goals as goal
 
@@ -30,6 +31,12 @@ returns-clause-not_net g c = λ offset e. tells_not_net _ _ _ _ _ _ (returns-cla
 
 pub returns-clause-loops : goal.returns-clause-loops
 returns-clause-loops g c = λ signal e. tells_loop _ _ _ _ _ _ (returns-clause-answered g c) signal e
+
+pub returns-clause-doubt : goal.returns-clause-doubt
+returns-clause-doubt g c = λ offset name e. tells_doubt _ _ _ _ _ _ (returns-clause-answered g c) offset name e
+
+pub returns-clause-checks : goal.returns-clause-checks
+returns-clause-checks g c = λ P asked. checks _ _ _ _ _ _ P (returns-clause-answered g c) asked
 
 pub returns-clause-simulates : goal.returns-clause-simulates
 returns-clause-simulates g c = λ most text asked. simulates _ _ _ _ _ _ most text (returns-clause-answered g c) asked
