@@ -1,0 +1,3 @@
+mod Explored
+pub mod First
+pub mod Threads
