@@ -187,6 +187,10 @@ class Drawing:
             self.counters += 1
             head, steps, counts = HEADS[0] if self.maybe(0.6) else self.draw.choice(HEADS)
             return [JoinLoop(name, f"i{self.counters}", head, steps, counts)]
+        if self.maybe(0.5):
+            # main goes on where one of the two is joined
+            first = self.draw.randrange(2)
+            return [Thread(False, name, first), *self.part([], 0.9), Thread(False, name, 1 - first)]
         return [Thread(False, name, at) for at in range(2) if self.maybe(0.8)]
 
     def main(self, helpers):
