@@ -12,7 +12,7 @@ use Rattle.block_ir.specs.declared.plan.StagePlan.TheVariants as planned
 use Rattle.interleaving.specs.Memory.{Memory}
 use Rattle.planned_block.specs.Block.{Block, Jump}
 use Rattle.planned_block.specs.Plan.{Plan}
-use Rattle.planned_view.specs.View.{planned_view, plan_view}
+use Rattle.plan_blocks.specs.View.{planned_view, plan_view}
 use Rattle.planned_block.specs.Following.{AtStage}
 use Rattle.race_model.specs.Source.{Local, running, memory_of}
 use Rattle.code_following.specs.Following.{IsAct, IsEnd}

@@ -1,8 +1,8 @@
 -- The rules on calls that only the whole text shows.
 use Rattle.std.specs.Prelude.{◌≡◌, ℕ, ◌<◌, Bool, true, false, List, map, fold, length, Option, Some, None}
 use Rattle.std.specs.Bool.{Decides}
-use Rattle.call_graph.specs.declared.table.Call.{Call}
-use Rattle.call_graph.specs.Reaching.{Leads}
+use Rattle.c_call_graph.specs.declared.table.Call.{Call}
+use Rattle.c_call_graph.specs.Reaching.{Leads}
 use Rattle.c_program.specs.Tree.{Function}
 use Rattle.c_rules.specs.declared.fault.Rule.{Rule}
 use Rattle.c_rules.specs.declared.fault.Rule.TheVariants as rule

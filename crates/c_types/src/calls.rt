@@ -1,14 +1,14 @@
 // The rule on calls that only the whole text shows: none leads back to its caller.
 
 ghost use Rattle.std.specs.Prelude.{◌≡◌, map, fold, IfOk};
-ghost use Rattle.call_graph.specs.Reaching.{leads};
+ghost use Rattle.c_call_graph.specs.Reaching.{leads};
 ghost use Rattle.c_program.specs.Plain.{function_of};
 ghost use Rattle.c_resolution.specs.CallRules as spec;
 
+use c_call_graph::{Call, Reach, reach_of};
 use c_program::tree::Function;
 use c_rules::fault::{Fault, Rule, first};
 use c_rules::findings::{CallSite, Findings};
-use call_graph::{Call, Reach, reach_of};
 use sqlite_items::Items;
 use std::alloc::{AllocError, Global};
 

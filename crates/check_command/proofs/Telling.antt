@@ -8,7 +8,7 @@ use Rattle.c_lexer.specs.declared.fault.LexFault.TheVariants.{Bad, Limit, Memory
 use Rattle.c_program.specs.Tree.{Program}
 use Rattle.c_limits.proofs.Within.{within_limits}
 use Rattle.c_accepted.specs.Profile.{IsAccepted}
-use Rattle.resolved_program.proofs.AcceptedLaws.{resolved_law}
+use Rattle.c_resolved_program.proofs.AcceptedLaws.{resolved_law}
 use Rattle.lock_discipline.specs.Discipline.{Disciplined, Doubt, verdict, is_disciplined}
 use Rattle.lock_discipline.proofs.Calm.{disciplined_is_calm, disciplined_is_good}
 use Rattle.check_command.specs.Told.{IsDisciplined, IsInDoubt, told_at}

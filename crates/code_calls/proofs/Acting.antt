@@ -15,13 +15,13 @@ use Rattle.block_ir.specs.declared.code.Act.TheVariants as code
 use Rattle.block_ir.specs.declared.code.ActOperand.{ActOperand}
 use Rattle.block_ir.specs.declared.code.Stage.TheVariants as stage
 use Rattle.block_ir.specs.Run.{operations_run}
-use Rattle.straight_code.specs.declared.homes.Home.{Home}
-use Rattle.straight_code.specs.declared.open_block.OpenBlock.{OpenBlock}
+use Rattle.code_blocks.specs.declared.homes.Home.{Home}
+use Rattle.code_blocks.specs.declared.open_block.OpenBlock.{OpenBlock}
 use Rattle.code_places.specs.declared.targets.Loop.{Loop}
 use Rattle.code_places.specs.declared.lowering.Lowering.{Lowering}
 use Rattle.code_places.specs.Labels.{IsHere}
-use Rattle.straight_code.specs.Typing.{Typing, HasWords, WorksOnValues}
-use Rattle.straight_code.specs.Printing.{HoldWords, word_operands, PutsValues}
+use Rattle.code_blocks.specs.Typing.{Typing, HasWords, WorksOnValues}
+use Rattle.code_blocks.specs.Printing.{HoldWords, word_operands, PutsValues}
 use Rattle.code_following.specs.Following.{reads_of, conversions_of, converted_values, AfterMove, print_formats, AreValues, IsAct, DoesStage, Follows}
 use Rattle.code_places.specs.Resuming.{Keeping, nothing_kept, IsMid, AtFresh, IsSound}
 use Rattle.code_places.specs.Apart.{IsTypedNow, IsGood}
@@ -29,11 +29,11 @@ use Rattle.code_places.specs.Control.{with_label, ActsAt, Whole, IsIn, GoesOn}
 use Rattle.code_places.specs.Doing.{Grows, at_site, OnwardUpTo, Suits, SuitsTyping, Leads}
 use Rattle.code_places.proofs.Advancing.{pushed_here}
 use Rattle.code_places.proofs.Opening.{act_open}
-use Rattle.straight_code.proofs.Running.{run_length}
-use Rattle.straight_code.proofs.Puts.{arguments_converted}
-use Rattle.straight_code.proofs.Words.{words_are_values}
-use Rattle.straight_code.specs.Evaluating.{held_by}
-use Rattle.thread_rooms.proofs.Sites.{site_at, conversions_length}
+use Rattle.code_blocks.proofs.Running.{run_length}
+use Rattle.code_blocks.proofs.Puts.{arguments_converted}
+use Rattle.code_blocks.proofs.Words.{words_are_values}
+use Rattle.code_blocks.specs.Evaluating.{held_by}
+use Rattle.code_storage.proofs.Sites.{site_at, conversions_length}
 use Rattle.code_places.proofs.Staying.{anywhere_more, print_typed}
 use Rattle.code_places.proofs.Shapes.{have_homes}
 use Rattle.code_places.proofs.Resuming.{Goes, resume_less}

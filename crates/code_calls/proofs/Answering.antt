@@ -19,17 +19,17 @@ use Rattle.block_ir.specs.declared.block.Block.{Block}
 use Rattle.block_ir.specs.declared.code.Stage.TheVariants as stage
 use Rattle.block_ir.specs.Run.{Access, Running, operand_value, operations_run, leads_to, variables_after, stage_after}
 use Rattle.code_following.specs.Following.{reads_of, AfterMove, Follows}
-use Rattle.straight_code.specs.declared.homes.Home.{Home}
-use Rattle.straight_code.specs.declared.homes.Home.TheVariants as home
-use Rattle.straight_code.specs.declared.open_block.OpenBlock.{OpenBlock}
+use Rattle.code_blocks.specs.declared.homes.Home.{Home}
+use Rattle.code_blocks.specs.declared.homes.Home.TheVariants as home
+use Rattle.code_blocks.specs.declared.open_block.OpenBlock.{OpenBlock}
 use Rattle.code_places.specs.declared.targets.Back.{Back}
 use Rattle.code_places.specs.declared.stages.Stages.{Stages}
 use Rattle.code_places.specs.declared.lowering.Lowering.{Lowering}
-use Rattle.straight_code.specs.Needs.{IsBelow, AreBelow}
-use Rattle.straight_code.specs.Evaluating.{current_operand, current_value, local_value, Reads, held_by}
-use Rattle.straight_code.specs.Assigning.{Spares}
-use Rattle.straight_code.specs.Closing.{HasNoted}
-use Rattle.straight_code.specs.Printing.{HoldWords}
+use Rattle.code_blocks.specs.Needs.{IsBelow, AreBelow}
+use Rattle.code_blocks.specs.Evaluating.{current_operand, current_value, local_value, Reads, held_by}
+use Rattle.code_blocks.specs.Assigning.{Spares}
+use Rattle.code_blocks.specs.Closing.{HasNoted}
+use Rattle.code_blocks.specs.Printing.{HoldWords}
 use Rattle.code_places.specs.Labels.{IsHere, led_next}
 use Rattle.code_places.proofs.Advancing.{pushed_here}
 use Rattle.code_places.specs.Resuming.{HasShape, home_value, in_call, going_again, IsHeld, AreHeld, Keeping, words_held, AllResume, IsMid, InBlock}
@@ -37,9 +37,9 @@ use Rattle.code_places.specs.Apart.{IsGood}
 use Rattle.code_places.specs.Control.{marked, LeadsOn, EndsBusy, Jumps, Whole, IsIn, GoesOn}
 use Rattle.code_places.specs.Seats.{GoesBack, IsSeated}
 use Rattle.code_calls.specs.Calling.{PutsReturned}
-use Rattle.straight_code.proofs.Conversions.{from_word}
-use Rattle.straight_code.proofs.Stores.{conversion_right}
-use Rattle.straight_code.proofs.Puts.{same_source, wrapped_twice}
+use Rattle.code_blocks.proofs.Conversions.{from_word}
+use Rattle.code_blocks.proofs.Stores.{conversion_right}
+use Rattle.code_blocks.proofs.Puts.{same_source, wrapped_twice}
 use Rattle.code_places.proofs.Resuming.{Goes}
 use Rattle.code_places.proofs.Controlling.{mid_stands, pushed_at, goes_of_in}
 use Rattle.code_places.proofs.Seating.{seat_kept}

@@ -18,17 +18,17 @@ use Rattle.block_ir.specs.declared.operand.Operand.{Operand}
 use Rattle.block_ir.specs.declared.block.Operation.{Operation}
 use Rattle.block_ir.specs.Run.{Access, Running, operand_value, operations_run}
 use Rattle.code_following.specs.Following.{AfterMove, IsEnd}
-use Rattle.straight_code.specs.declared.homes.Home.{Home}
+use Rattle.code_blocks.specs.declared.homes.Home.{Home}
 use Rattle.code_places.specs.declared.targets.Loop.{Loop}
-use Rattle.straight_code.specs.declared.open_block.OpenBlock.{OpenBlock}
+use Rattle.code_blocks.specs.declared.open_block.OpenBlock.{OpenBlock}
 use Rattle.code_places.specs.declared.targets.Back.{Back}
 use Rattle.code_places.specs.declared.lowering.Lowering.{Lowering}
-use Rattle.straight_code.specs.Needs.{IsBelow, AreBelow}
-use Rattle.straight_code.specs.Evaluating.{current_value, with_more, Reads, Evaluates, held_by}
-use Rattle.straight_code.specs.Closing.{HasNoted}
-use Rattle.straight_code.specs.Printing.{HoldWords}
+use Rattle.code_blocks.specs.Needs.{IsBelow, AreBelow}
+use Rattle.code_blocks.specs.Evaluating.{current_value, with_more, Reads, Evaluates, held_by}
+use Rattle.code_blocks.specs.Closing.{HasNoted}
+use Rattle.code_blocks.specs.Printing.{HoldWords}
 use Rattle.code_following.specs.Typed.{IsTypedOperand}
-use Rattle.straight_code.specs.Typing.{Typing, IsTypedOpen}
+use Rattle.code_blocks.specs.Typing.{Typing, IsTypedOpen}
 use Rattle.code_places.specs.Resuming.{in_call, going_again, Keeping, nothing_kept, words_held, IsMid, IsSound}
 use Rattle.code_places.specs.Apart.{IsTypedNow, IsGood}
 use Rattle.code_places.specs.Control.{EndsCall, Whole, IsIn, GoesOn}
@@ -36,10 +36,10 @@ use Rattle.code_places.specs.Seats.{GoesBack, LeadsBack, IsSeated, HasWord}
 use Rattle.code_places.specs.Weighing.{inlined_weight}
 use Rattle.code_places.specs.Doing.{Grows, Shifts, OnwardUpTo, Leads, LowersHere}
 use Rattle.code_calls.specs.Calling.{return_of, PutsReturned, Returns, StepsBack, ReturnsNothing, Closes}
-use Rattle.straight_code.proofs.Running.{reads_none}
-use Rattle.straight_code.proofs.Steps.{fits_on, read_held, length_on}
-use Rattle.straight_code.proofs.Typing.{operand_converted}
-use Rattle.straight_code.proofs.Working.{variable_stored}
+use Rattle.code_blocks.proofs.Running.{reads_none}
+use Rattle.code_blocks.proofs.Steps.{fits_on, read_held, length_on}
+use Rattle.code_blocks.proofs.Typing.{operand_converted}
+use Rattle.code_blocks.proofs.Working.{variable_stored}
 use Rattle.code_places.proofs.Staying.{IsTypedBut, anywhere_more, now_more}
 use Rattle.code_places.proofs.Growing.{grows_both, shifts_refl, jumps_shifts, jumps_but, call_shifts}
 use Rattle.code_places.proofs.Stepping.{block_grows, call_goes}

@@ -16,34 +16,34 @@ use Rattle.thread_semantics.specs.State.{Frame, fresh_locals, begun}
 use Rattle.thread_semantics.specs.Move.{moving, entered, called, statement_move, work_move}
 use Rattle.block_ir.specs.Run.{Cells, Running, operations_run}
 use Rattle.code_following.specs.Following.{reads_of, AfterMove}
-use Rattle.straight_code.specs.declared.homes.Home.{Home}
-use Rattle.straight_code.specs.declared.homes.Home.TheVariants as home
-use Rattle.straight_code.specs.declared.open_block.OpenBlock.{OpenBlock}
+use Rattle.code_blocks.specs.declared.homes.Home.{Home}
+use Rattle.code_blocks.specs.declared.homes.Home.TheVariants as home
+use Rattle.code_blocks.specs.declared.open_block.OpenBlock.{OpenBlock}
 use Rattle.code_places.specs.declared.lowering.Caller.{Caller as CallerCode}
 use Rattle.code_places.specs.declared.lowering.Lowering.{Lowering}
-use Rattle.straight_code.specs.Assigning.{HaveHomes}
-use Rattle.thread_rooms.specs.declared.rooms.Rooms.{Rooms}
-use Rattle.thread_rooms.specs.Objects.{AreObjects}
+use Rattle.code_blocks.specs.Assigning.{HaveHomes}
+use Rattle.code_storage.specs.declared.rooms.Rooms.{Rooms}
+use Rattle.code_storage.specs.Objects.{AreObjects}
 use Rattle.code_places.specs.Labels.{is_used}
 use Rattle.code_places.specs.Weighing.{inlined_weight}
-use Rattle.straight_code.specs.Typing.{Typing, Fits, HasWords}
-use Rattle.straight_code.specs.Passing.{IsPassed, ArePassed, IsReady, Passed, Passes}
-use Rattle.thread_rooms.specs.Housing.{IsHomeOf, AreHomes, homes_there, homes_in, site_there, site_in, Runs}
+use Rattle.code_blocks.specs.Typing.{Typing, Fits, HasWords}
+use Rattle.code_blocks.specs.Passing.{IsPassed, ArePassed, IsReady, Passed, Passes}
+use Rattle.code_storage.specs.Housing.{IsHomeOf, AreHomes, homes_there, homes_in, site_there, site_in, Runs}
 use Rattle.code_places.specs.Resuming.{HasShape, home_value, HoldLocals, Caller, Setting, in_call, going_again, nothing_kept, words_held, IsMid, IsSound}
-use Rattle.thread_rooms.specs.Formats.{HasSites}
+use Rattle.code_storage.specs.Formats.{HasSites}
 use Rattle.code_places.specs.Apart.{IsTypedNow, IsGood}
 use Rattle.code_places.specs.Control.{with_label, Whole, IsIn, GoesOn}
 use Rattle.code_places.specs.Seats.{IsWaiting, LeadsBack, IsSeated, HasWord, IsSeatedTyping}
 use Rattle.code_places.specs.Doing.{Grows, Shifts, OnwardUpTo, Suits, SuitsTyping, Leads}
 use Rattle.code_calls.specs.Calling.{OpensCall, Calls}
-use Rattle.straight_code.proofs.Running.{run_length}
-use Rattle.straight_code.proofs.Puts.{homes_more}
-use Rattle.straight_code.proofs.Arguments.{passed_none}
-use Rattle.straight_code.specs.Evaluating.{held_by}
+use Rattle.code_blocks.proofs.Running.{run_length}
+use Rattle.code_blocks.proofs.Puts.{homes_more}
+use Rattle.code_blocks.proofs.Arguments.{passed_none}
+use Rattle.code_blocks.specs.Evaluating.{held_by}
 use Rattle.code_places.proofs.Shapes.{have_homes, length_blank, blank_none}
-use Rattle.thread_rooms.proofs.Housed.{local_there}
+use Rattle.code_storage.proofs.Housed.{local_there}
 use Rattle.code_places.proofs.Weighing.{body_weighs}
-use Rattle.thread_rooms.proofs.Reached.{runs_callee, is_function}
+use Rattle.code_storage.proofs.Reached.{runs_callee, is_function}
 use Rattle.code_places.proofs.Staying.{anywhere_more, now_more}
 use Rattle.code_places.proofs.Resuming.{Goes, resume_less}
 use Rattle.code_places.proofs.Seating.{callers_kept, seat_on}

@@ -20,18 +20,18 @@ use Rattle.block_ir.specs.declared.operand.Operand.{Operand}
 use Rattle.block_ir.specs.declared.block.Operation.{Operation}
 use Rattle.block_ir.specs.Run.{Write, Running, index_of, operand_value, operations_run}
 use Rattle.code_following.specs.Following.{reads_of, AfterMove, IsEnd}
-use Rattle.straight_code.specs.declared.homes.Home.{Home}
+use Rattle.code_blocks.specs.declared.homes.Home.{Home}
 use Rattle.code_places.specs.declared.targets.Loop.{Loop}
-use Rattle.straight_code.specs.declared.open_block.OpenBlock.{OpenBlock}
+use Rattle.code_blocks.specs.declared.open_block.OpenBlock.{OpenBlock}
 use Rattle.code_places.specs.declared.lowering.Lowering.{Lowering}
-use Rattle.straight_code.specs.Needs.{IsBelow, AreBelow}
-use Rattle.straight_code.specs.Evaluating.{current_operand, Holds, held_by}
-use Rattle.straight_code.specs.Assigning.{HaveHomes, IsThere, memory_after, writes_of, Assigned}
-use Rattle.straight_code.specs.Closing.{HasNoted}
-use Rattle.straight_code.specs.Printing.{HoldWords}
+use Rattle.code_blocks.specs.Needs.{IsBelow, AreBelow}
+use Rattle.code_blocks.specs.Evaluating.{current_operand, Holds, held_by}
+use Rattle.code_blocks.specs.Assigning.{HaveHomes, IsThere, memory_after, writes_of, Assigned}
+use Rattle.code_blocks.specs.Closing.{HasNoted}
+use Rattle.code_blocks.specs.Printing.{HoldWords}
 use Rattle.code_following.specs.Typed.{IsTypedOperand}
-use Rattle.straight_code.specs.Typing.{Typing, Fits, IsTypedOpen, Works}
-use Rattle.thread_rooms.specs.Housing.{AreHomes}
+use Rattle.code_blocks.specs.Typing.{Typing, Fits, IsTypedOpen, Works}
+use Rattle.code_storage.specs.Housing.{AreHomes}
 use Rattle.code_places.specs.Resuming.{Keeping, nothing_kept, words_held, IsMid, IsSound}
 use Rattle.code_places.specs.Weighing.{inlined_weight}
 use Rattle.code_places.specs.Apart.{IsTypedNow, IsGood}
@@ -39,14 +39,14 @@ use Rattle.code_places.specs.Control.{Whole, IsIn, GoesOn}
 use Rattle.code_places.specs.Seats.{IsSeated}
 use Rattle.code_places.specs.Doing.{Grows, Leads}
 use Rattle.code_calls.specs.Calling.{Calls, Delivers, HandsBack, Hands}
-use Rattle.straight_code.proofs.Conversions.{from_word}
-use Rattle.straight_code.proofs.Running.{parts, run_append, run_length, operand_kept, below_more, are_below_more, reads_none}
-use Rattle.straight_code.proofs.Values.{nothing_added}
-use Rattle.straight_code.proofs.Stores.{store_operations, store_added, store_size, store_steps, store_noted, store_below, store_done}
-use Rattle.straight_code.proofs.Steps.{gives_is, Located, located, fits_on, length_on, hold_on, read_held}
-use Rattle.straight_code.proofs.Puts.{homes_more}
+use Rattle.code_blocks.proofs.Conversions.{from_word}
+use Rattle.code_blocks.proofs.Running.{parts, run_append, run_length, operand_kept, below_more, are_below_more, reads_none}
+use Rattle.code_blocks.proofs.Values.{nothing_added}
+use Rattle.code_blocks.proofs.Stores.{store_operations, store_added, store_size, store_steps, store_noted, store_below, store_done}
+use Rattle.code_blocks.proofs.Steps.{gives_is, Located, located, fits_on, length_on, hold_on, read_held}
+use Rattle.code_blocks.proofs.Puts.{homes_more}
 use Rattle.code_places.proofs.Shapes.{have_homes, target_there}
-use Rattle.straight_code.proofs.Working.{operand_on, place_typed, place_count, place_grows, store_count, store_typed, stepped_typed, stepped_count}
+use Rattle.code_blocks.proofs.Working.{operand_on, place_typed, place_count, place_grows, store_count, store_typed, stepped_typed, stepped_count}
 use Rattle.code_places.proofs.Staying.{now_more, works_typed}
 use Rattle.code_places.proofs.Resuming.{Goes}
 use Rattle.code_places.proofs.Seating.{seat_on}

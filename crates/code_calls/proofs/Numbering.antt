@@ -11,8 +11,8 @@ use Rattle.thread_semantics.specs.declared.cause.UndefinedCause.TheVariants.{Ind
 use Rattle.thread_semantics.specs.Memory.{Location, Memory, Evaluation, Gives, Fails, and_then, after_reads}
 use Rattle.thread_semantics.specs.Value.{value, values, binary_value, checked_index}
 use Rattle.thread_semantics.specs.Move.{object_number, alone, with_operand}
-use Rattle.straight_code.proofs.Running.{parts}
-use Rattle.straight_code.proofs.Steps.{gives_is}
+use Rattle.code_blocks.proofs.Running.{parts}
+use Rattle.code_blocks.proofs.Steps.{gives_is}
 use Rattle.code_calls.specs.Acts.{number_expression}
 
 pub small_typed : (n : ℕ) → n < 2 ^ 63 → HasType long_int (pos n)

@@ -4,15 +4,15 @@ use Rattle.std.specs.Prelude.{slice_get}
 use Rattle.std.proofs.lemmas.List.Elements.{Contains-push}
 use Rattle.c_program.specs.Tree.{Expression, Place, RightSide, Statement, Function, Program}
 use Rattle.c_program.specs.Weight.{place_weight, arguments_weight, function_weight}
-use Rattle.straight_code.specs.declared.fault.LoweringFault.{LoweringFault}
+use Rattle.code_blocks.specs.declared.fault.LoweringFault.{LoweringFault}
 use Rattle.code_places.specs.declared.lowering.Caller.{Caller as CallerCode}
 use Rattle.code_places.specs.declared.lowering.Lowering.{Lowering}
 use Rattle.code_places.specs.Weighing.{inlined_weight}
 use Rattle.code_places.specs.Doing.{Leads}
 use Rattle.code_calls.specs.Calling.{OpensCall, Calls}
-use Rattle.straight_code.specs.Room.{IsFull}
+use Rattle.code_blocks.specs.Room.{IsFull}
 use Rattle.code_places.specs.Needing.{needed, IsFullFor, IsFullCall}
-use Rattle.straight_code.proofs.Room.{full_more}
+use Rattle.code_blocks.proofs.Room.{full_more}
 use Rattle.code_places.proofs.Weighing.{body_weighs}
 use Rattle.code_calls.proofs.Callees.{at_function, typed_begun, suits_there, calls_grows, calls_typed}
 use Rattle.code_calls.proofs.Continuing.{right_call}

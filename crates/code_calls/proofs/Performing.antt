@@ -16,11 +16,11 @@ use Rattle.block_ir.specs.Run.{Cells, operations_run}
 use Rattle.code_following.specs.Following.{reads_of, AfterMove, AreValues, NamesObject, SameAct, IsAct, AtStage, DoesAct, DoesStage, Follows}
 use Rattle.code_following.specs.Operands.{RunsIts}
 use Rattle.code_following.proofs.Operands.{operands_fit}
-use Rattle.thread_rooms.specs.declared.objects.Objects.{Objects}
-use Rattle.straight_code.specs.declared.homes.Home.{Home}
-use Rattle.straight_code.specs.declared.open_block.OpenBlock.{OpenBlock}
-use Rattle.straight_code.proofs.Running.{run_length}
-use Rattle.straight_code.specs.Evaluating.{held_by}
+use Rattle.code_storage.specs.declared.objects.Objects.{Objects}
+use Rattle.code_blocks.specs.declared.homes.Home.{Home}
+use Rattle.code_blocks.specs.declared.open_block.OpenBlock.{OpenBlock}
+use Rattle.code_blocks.proofs.Running.{run_length}
+use Rattle.code_blocks.specs.Evaluating.{held_by}
 use Rattle.code_places.specs.declared.lowering.Lowering.{Lowering}
 use Rattle.code_places.specs.Labels.{IsHere}
 use Rattle.code_places.specs.Resuming.{Keeping, nothing_kept, IsMid, AtFresh, IsSound}

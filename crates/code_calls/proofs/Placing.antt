@@ -13,8 +13,8 @@ use Rattle.c_program.specs.Resolved.{IsObjectPlace, IsThreadCall, object_of, thr
 use Rattle.thread_semantics.specs.Memory.{Location, Memory, Gives}
 use Rattle.thread_semantics.specs.Value.{value, values}
 use Rattle.thread_semantics.specs.Move.{object_number, alone, operands_of, first_thread, first_mutex, first_barrier}
-use Rattle.thread_rooms.specs.declared.objects.Objects.{Objects}
-use Rattle.thread_rooms.specs.Objects.{AreObjects, number_there, first_in}
+use Rattle.code_storage.specs.declared.objects.Objects.{Objects}
+use Rattle.code_storage.specs.Objects.{AreObjects, number_there, first_in}
 use Rattle.code_calls.specs.Acts.{number_expression, operand_expressions}
 use Rattle.code_calls.proofs.Numbering.{place_length, number_value, one_value, two_values}
 

@@ -16,18 +16,18 @@ use Rattle.block_ir.specs.declared.code.ActOperand.TheVariants as act_operand
 use Rattle.block_ir.specs.Asked.{act_value}
 use Rattle.block_ir.specs.Run.{operations_run}
 use Rattle.code_following.specs.Following.{AreValues}
-use Rattle.thread_rooms.specs.declared.objects.Objects.{Objects}
-use Rattle.straight_code.specs.declared.homes.Home.{Home}
-use Rattle.straight_code.specs.declared.open_block.OpenBlock.{OpenBlock}
-use Rattle.straight_code.specs.Needs.{plain, IsConverted, AreBelow}
-use Rattle.straight_code.specs.Evaluating.{current_value, with_more, Evaluates, held_by}
-use Rattle.straight_code.specs.Assigning.{StoresVariable}
-use Rattle.straight_code.specs.Printing.{converted_argument}
-use Rattle.straight_code.proofs.Running.{parts, current_kept, run_append, run_length, reads_none, reads_both}
-use Rattle.straight_code.proofs.Values.{constant_at, cast_at, binary_at}
-use Rattle.straight_code.proofs.Steps.{gives_is}
-use Rattle.straight_code.proofs.Puts.{wrapped_twice, homes_more, puts_value}
-use Rattle.straight_code.proofs.Working.{value_works}
+use Rattle.code_storage.specs.declared.objects.Objects.{Objects}
+use Rattle.code_blocks.specs.declared.homes.Home.{Home}
+use Rattle.code_blocks.specs.declared.open_block.OpenBlock.{OpenBlock}
+use Rattle.code_blocks.specs.Needs.{plain, IsConverted, AreBelow}
+use Rattle.code_blocks.specs.Evaluating.{current_value, with_more, Evaluates, held_by}
+use Rattle.code_blocks.specs.Assigning.{StoresVariable}
+use Rattle.code_blocks.specs.Printing.{converted_argument}
+use Rattle.code_blocks.proofs.Running.{parts, current_kept, run_append, run_length, reads_none, reads_both}
+use Rattle.code_blocks.proofs.Values.{constant_at, cast_at, binary_at}
+use Rattle.code_blocks.proofs.Steps.{gives_is}
+use Rattle.code_blocks.proofs.Puts.{wrapped_twice, homes_more, puts_value}
+use Rattle.code_blocks.proofs.Working.{value_works}
 use Rattle.code_calls.specs.Acts.{place_of, values_of, first_of_call, number_expression, number_operand, with_values, act_on, act_at, Prepared, Prepares}
 use Rattle.code_calls.specs.Acts.{PutsWord, PutsNumber, PutsIfAny, PreparesCall, WorksOnCall}
 use Rattle.code_calls.proofs.Typed.{object_works, value_works_}

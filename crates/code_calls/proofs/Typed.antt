@@ -11,10 +11,10 @@ use Rattle.c_program.specs.Weight.{expression_weight, object_place_weight, threa
 use Rattle.block_ir.specs.declared.code.Act.{Act as CodeAct}
 use Rattle.code_following.specs.Typed.{Types, IsTypedNumber, IsTypedAct}
 use Rattle.thread_semantics.specs.Move.{first_thread, first_mutex, first_barrier}
-use Rattle.thread_rooms.specs.declared.objects.Objects.{Objects}
-use Rattle.straight_code.specs.declared.homes.Home.{Home}
-use Rattle.straight_code.specs.declared.open_block.OpenBlock.{OpenBlock}
-use Rattle.straight_code.specs.Typing.{Typing, Fits, HasWords, IsTypedOpen}
+use Rattle.code_storage.specs.declared.objects.Objects.{Objects}
+use Rattle.code_blocks.specs.declared.homes.Home.{Home}
+use Rattle.code_blocks.specs.declared.open_block.OpenBlock.{OpenBlock}
+use Rattle.code_blocks.specs.Typing.{Typing, Fits, HasWords, IsTypedOpen}
 use Rattle.code_places.specs.Weighing.{inlined_weight}
 use Rattle.code_places.specs.declared.lowering.Lowering.{Lowering}
 use Rattle.code_places.specs.Apart.{IsTypedNow}
@@ -22,8 +22,8 @@ use Rattle.code_places.specs.Control.{ActsAt}
 use Rattle.code_places.specs.Doing.{Grows, SuitsTyping}
 use Rattle.code_places.proofs.Staying.{anywhere_more, act_stage}
 use Rattle.code_places.proofs.Growing.{acts_typed}
-use Rattle.thread_rooms.specs.Objects.{AreObjects, first_in}
-use Rattle.thread_rooms.specs.Values.{operand_count}
+use Rattle.code_storage.specs.Objects.{AreObjects, first_in}
+use Rattle.code_storage.specs.Values.{operand_count}
 use Rattle.code_calls.specs.Acts.{place_of, values_of, first_of_call, number_operand, act_at, PutsWord, PutsNumber, PreparesCall, WorksOnCall}
 use Rattle.code_calls.proofs.Numbering.{small_typed}
 use Rattle.code_calls.proofs.Placing.{IsPlaced, thread_placed, mutex_placed, barrier_placed}

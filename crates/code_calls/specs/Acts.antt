@@ -14,17 +14,17 @@ use Rattle.block_ir.specs.declared.code.ActOperand.{ActOperand}
 use Rattle.block_ir.specs.declared.code.ActOperand.TheVariants as act_operand
 use Rattle.block_ir.specs.Run.{Running, operations_run}
 use Rattle.code_following.specs.Following.{AreValues}
-use Rattle.thread_rooms.specs.declared.objects.Objects.{Objects}
-use Rattle.straight_code.specs.declared.homes.Home.{Home}
-use Rattle.straight_code.specs.declared.open_block.OpenBlock.{OpenBlock}
-use Rattle.straight_code.specs.Needs.{AreBelow}
-use Rattle.straight_code.specs.Evaluating.{Holds, Reads, held_by}
-use Rattle.straight_code.specs.Assigning.{HaveHomes, Spares}
-use Rattle.straight_code.specs.Closing.{HasNoted}
-use Rattle.straight_code.specs.Printing.{PutsValue}
-use Rattle.straight_code.specs.Typing.{Typing, HasWords, Works, WorksOnValue}
-use Rattle.thread_rooms.specs.Objects.{AreObjects, first_in}
-use Rattle.thread_rooms.specs.Values.{operand_count}
+use Rattle.code_storage.specs.declared.objects.Objects.{Objects}
+use Rattle.code_blocks.specs.declared.homes.Home.{Home}
+use Rattle.code_blocks.specs.declared.open_block.OpenBlock.{OpenBlock}
+use Rattle.code_blocks.specs.Needs.{AreBelow}
+use Rattle.code_blocks.specs.Evaluating.{Holds, Reads, held_by}
+use Rattle.code_blocks.specs.Assigning.{HaveHomes, Spares}
+use Rattle.code_blocks.specs.Closing.{HasNoted}
+use Rattle.code_blocks.specs.Printing.{PutsValue}
+use Rattle.code_blocks.specs.Typing.{Typing, HasWords, Works, WorksOnValue}
+use Rattle.code_storage.specs.Objects.{AreObjects, first_in}
+use Rattle.code_storage.specs.Values.{operand_count}
 
 -- ---- operands
 

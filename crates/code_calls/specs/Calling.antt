@@ -5,18 +5,18 @@ use Rattle.c_program.specs.declared.tree.ReturnType.{ReturnType}
 use Rattle.c_program.specs.declared.tree.ReturnType.TheVariants.{Void, Integer, Pointer}
 use Rattle.c_program.specs.Tree.{Expression, Place, RightSide, Statement, Function, Program}
 use Rattle.block_ir.specs.declared.operand.Operand.{Operand}
-use Rattle.straight_code.specs.declared.homes.Home.{Home}
-use Rattle.straight_code.specs.declared.places.Target.{Target}
-use Rattle.straight_code.specs.declared.open_block.OpenBlock.{OpenBlock}
+use Rattle.code_blocks.specs.declared.homes.Home.{Home}
+use Rattle.code_blocks.specs.declared.places.Target.{Target}
+use Rattle.code_blocks.specs.declared.open_block.OpenBlock.{OpenBlock}
 use Rattle.code_places.specs.declared.targets.Back.{Back}
 use Rattle.code_places.specs.declared.lowering.Caller.{Caller}
 use Rattle.code_places.specs.declared.lowering.Lowering.{Lowering}
-use Rattle.straight_code.specs.Needs.{IsConverted}
-use Rattle.straight_code.specs.Evaluating.{current_operand}
-use Rattle.straight_code.specs.Closing.{HasNoted}
-use Rattle.straight_code.specs.Assigning.{Stores, Places}
-use Rattle.thread_rooms.specs.Housing.{homes_there, site_there}
-use Rattle.straight_code.specs.Passing.{Passes, WorksOnArguments}
+use Rattle.code_blocks.specs.Needs.{IsConverted}
+use Rattle.code_blocks.specs.Evaluating.{current_operand}
+use Rattle.code_blocks.specs.Closing.{HasNoted}
+use Rattle.code_blocks.specs.Assigning.{Stores, Places}
+use Rattle.code_storage.specs.Housing.{homes_there, site_there}
+use Rattle.code_blocks.specs.Passing.{Passes, WorksOnArguments}
 use Rattle.code_places.specs.Control.{with_label, Jumps, Begins, EndsCall, StaysOff}
 use Rattle.code_places.specs.Doing.{Proceeds, Leads}
 

@@ -6,9 +6,9 @@ ghost use Rattle.c_program.specs.Plain.{expression_of, expressions_of, object_pl
 ghost use Rattle.c_program.specs.Resolved as resolved;
 ghost use Rattle.c_program.specs.Tree as tree;
 ghost use Rattle.c_program.specs.Weight.{expression_weight, expressions_weight, object_place_weight, thread_call_weight};
-ghost use Rattle.straight_code.specs.Assigning as assigning;
-ghost use Rattle.straight_code.specs.Evaluating as evaluating;
-ghost use Rattle.straight_code.specs.Room.{IsFull};
+ghost use Rattle.code_blocks.specs.Assigning as assigning;
+ghost use Rattle.code_blocks.specs.Evaluating as evaluating;
+ghost use Rattle.code_blocks.specs.Room.{IsFull};
 ghost use Rattle.code_places.specs.Doing as doing;
 ghost use Rattle.code_calls.specs.Acts as acts;
 
@@ -16,16 +16,16 @@ use block_ir::block::Operation;
 use block_ir::code::{Act, ActOperand};
 use block_ir::operand::{Operand, Source};
 use c_program::tree::{BinaryOperator, Expression, ObjectPlace, Piece, ThreadCall};
+use code_blocks::expressions::lower_expression;
+use code_blocks::fault::{LoweringFault, number_of};
+use code_blocks::homes::Home;
+use code_blocks::open_block::OpenBlock;
+use code_blocks::operands::{converted, plain};
+use code_blocks::printing::{conversions_of, lower_values, word_operands};
 use code_places::lowering::Lowering;
+use code_storage::objects::{Objects, first_of};
 use hls_ints::CType;
 use std::alloc::{AllocError, Global};
-use straight_code::expressions::lower_expression;
-use straight_code::fault::{LoweringFault, number_of};
-use straight_code::homes::Home;
-use straight_code::open_block::OpenBlock;
-use straight_code::operands::{converted, plain};
-use straight_code::printing::{conversions_of, lower_values, word_operands};
-use thread_rooms::objects::{Objects, first_of};
 
 /// The number of an element of an array of objects: the index is added to the number of the first.
 fn element_number(

@@ -6,17 +6,17 @@ ghost use Rattle.c_program.specs.Weight.{arguments_weight, place_weight};
 ghost use Rattle.code_calls.specs.Calling as calling;
 ghost use Rattle.code_places.specs.Doing as doing;
 ghost use Rattle.code_places.specs.Labels.{IsOpen};
-ghost use Rattle.straight_code.specs.Room.{IsFull};
+ghost use Rattle.code_blocks.specs.Room.{IsFull};
 
 use crate::returning::{return_reached, return_value};
 use c_program::tree::{Expression, Function, Place};
+use code_blocks::fault::LoweringFault;
+use code_blocks::passing::pass_arguments;
+use code_blocks::places::{lower_place, store};
 use code_places::lowering::{Caller, Lowering};
 use code_places::targets::Back;
 use hls_ints::CType;
 use std::alloc::Global;
-use straight_code::fault::LoweringFault;
-use straight_code::passing::pass_arguments;
-use straight_code::places::{lower_place, store};
 
 /// The step that evaluates the arguments. The code goes on in the function that is called.
 pub fn open_call(

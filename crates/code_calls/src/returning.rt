@@ -7,18 +7,18 @@ ghost use Rattle.c_program.specs.Weight.{expression_weight};
 ghost use Rattle.code_calls.specs.Calling as calling;
 ghost use Rattle.code_places.specs.Doing as doing;
 ghost use Rattle.code_places.specs.Labels.{IsTarget};
-ghost use Rattle.straight_code.specs.Room.{IsFull};
+ghost use Rattle.code_blocks.specs.Room.{IsFull};
 
 use block_ir::operand::Operand;
 use c_program::tree::{Expression, ReturnType};
+use code_blocks::expressions::lower_expression;
+use code_blocks::fault::LoweringFault;
+use code_blocks::open_block::OpenBlock;
+use code_blocks::operands::converted;
 use code_places::lowering::Lowering;
 use code_places::targets::Back;
 use hls_ints::CType;
 use std::alloc::{AllocError, Global};
-use straight_code::expressions::lower_expression;
-use straight_code::fault::LoweringFault;
-use straight_code::open_block::OpenBlock;
-use straight_code::operands::converted;
 
 /// The value that a caller gets, if any, stands in the variable for it.
 fn put_returned(

@@ -20,20 +20,20 @@ use Rattle.block_ir.specs.declared.block.Block.{Block}
 use Rattle.block_ir.specs.declared.code.Stage.TheVariants as stage
 use Rattle.block_ir.specs.Run.{Running, operand_value, operations_run, leads_to, variables_after, stage_after}
 use Rattle.code_following.specs.Following.{reads_of, AfterMove, Follows}
-use Rattle.straight_code.specs.declared.homes.Home.{Home}
-use Rattle.straight_code.specs.declared.open_block.OpenBlock.{OpenBlock}
+use Rattle.code_blocks.specs.declared.homes.Home.{Home}
+use Rattle.code_blocks.specs.declared.open_block.OpenBlock.{OpenBlock}
 use Rattle.code_places.specs.declared.lowering.Lowering.{Lowering}
-use Rattle.straight_code.specs.Evaluating.{local_value, Reads, Evaluates, held_by}
-use Rattle.straight_code.specs.Closing.{HasNoted, IsFresh}
+use Rattle.code_blocks.specs.Evaluating.{local_value, Reads, Evaluates, held_by}
+use Rattle.code_blocks.specs.Closing.{HasNoted, IsFresh}
 use Rattle.code_following.specs.Typed.{IsTypedOperand}
-use Rattle.straight_code.specs.Typing.{Typing, Fits, IsTypedOpen}
+use Rattle.code_blocks.specs.Typing.{Typing, Fits, IsTypedOpen}
 use Rattle.code_places.specs.Apart.{IsTypedNow, IsGood}
 use Rattle.code_places.specs.Resuming.{nothing_kept, AreHeld, CallersResume, IsMid, Comes, InBlock, IsSound}
 use Rattle.code_places.specs.Labels.{IsHere, led_next, led, with_used, is_used, IsAt, Advances, IsFirst}
 use Rattle.code_places.specs.Control.{marked, Begun, EndsAt, Begins, Branches, Keeps, StaysTyped, with_label, Whole, IsIn, AtLabel, GoesOn}
 use Rattle.code_control.specs.Deciding.{side, Tests, Decides}
-use Rattle.straight_code.proofs.Steps.{hold_on, read_held}
-use Rattle.straight_code.proofs.Running.{same_function}
+use Rattle.code_blocks.proofs.Steps.{hold_on, read_held}
+use Rattle.code_blocks.proofs.Running.{same_function}
 use Rattle.code_places.proofs.Controlling.{whole_placed, begin_at, after_held, after_local, whole_pushed, pushed_at, goes_of_in}
 use Rattle.code_places.proofs.Resuming.{fresh_sound}
 use Rattle.code_places.proofs.Staying.{anywhere_more, now_more, ends_typed}

@@ -12,21 +12,21 @@ use Rattle.code_following.specs.Following.{formats_of, print_formats}
 use Rattle.code_places.specs.declared.targets.Loop.{Loop}
 use Rattle.code_control.specs.declared.branching.ChoiceLabels.{ChoiceLabels}
 use Rattle.code_control.specs.declared.branching.LoopLabels.{LoopLabels}
-use Rattle.straight_code.specs.declared.fault.LoweringFault.{LoweringFault}
+use Rattle.code_blocks.specs.declared.fault.LoweringFault.{LoweringFault}
 use Rattle.code_places.specs.declared.lowering.Lowering.{Lowering}
 use Rattle.code_places.specs.Weighing.{inlined_weight}
-use Rattle.thread_rooms.specs.Values.{most_values}
-use Rattle.straight_code.specs.Typing.{Typing, Fits}
-use Rattle.thread_rooms.specs.Formats.{HasSites}
+use Rattle.code_storage.specs.Values.{most_values}
+use Rattle.code_blocks.specs.Typing.{Typing, Fits}
+use Rattle.code_storage.specs.Formats.{HasSites}
 use Rattle.code_places.specs.Apart.{IsTypedNow, IsGood}
 use Rattle.code_places.specs.Control.{with_label, Begins, Binds}
 use Rattle.code_control.specs.Deciding.{Decides}
 use Rattle.code_places.specs.Doing.{Grows, Shifts, at_site, SuitsTyping, Leads}
 use Rattle.code_control.specs.Branching.{OpensChoice, TurnsChoice, OpensLoop, OpensTurn}
-use Rattle.straight_code.specs.Room.{IsFull}
+use Rattle.code_blocks.specs.Room.{IsFull}
 use Rattle.code_places.specs.Needing.{IsFullAt, IsDeep, needed, IsFullFor}
-use Rattle.straight_code.proofs.Room.{full_more}
-use Rattle.thread_rooms.proofs.Sites.{formats_length, part_sites}
+use Rattle.code_blocks.proofs.Room.{full_more}
+use Rattle.code_storage.proofs.Sites.{formats_length, part_sites}
 use Rattle.code_places.proofs.Growing.{grows_refl, grows_both, site_grows, site_typed, label_relabels, begins_shifts, binds_shifts, leaps_shifts}
 use Rattle.code_control.proofs.Growing.{decides_grows}
 use Rattle.code_control.proofs.Nesting.{typing_part, loop_shifts, turn_grows, turn_site, turn_typed}

@@ -12,22 +12,22 @@ use Rattle.c_program.specs.Resolved.{IsCondition, IsStatement}
 use Rattle.thread_semantics.specs.Work.{Work, Do, Ask, Choose, Turn, Next, Loop as WorkLoop, Going, Onward, Leaving, Turning, in_order, in_loop, asked, while_loop, for_loop}
 use Rattle.thread_semantics.specs.Work.{opened, settled, decided}
 use Rattle.code_following.specs.Following.{formats_of}
-use Rattle.straight_code.specs.declared.homes.Home.{Home}
+use Rattle.code_blocks.specs.declared.homes.Home.{Home}
 use Rattle.code_places.specs.declared.targets.Loop.{Loop}
 use Rattle.code_control.specs.declared.branching.ChoiceLabels.{ChoiceLabels}
 use Rattle.code_control.specs.declared.branching.LoopLabels.{LoopLabels}
 use Rattle.code_places.specs.declared.lowering.Lowering.{Lowering}
-use Rattle.thread_rooms.specs.Values.{most_values}
-use Rattle.straight_code.specs.Typing.{Typing, Fits}
+use Rattle.code_storage.specs.Values.{most_values}
+use Rattle.code_blocks.specs.Typing.{Typing, Fits}
 use Rattle.code_places.specs.Resuming.{nothing_kept}
-use Rattle.thread_rooms.specs.Formats.{HasSites}
+use Rattle.code_storage.specs.Formats.{HasSites}
 use Rattle.code_places.specs.Labels.{is_used}
 use Rattle.code_places.specs.Apart.{IsTypedNow, IsGood}
 use Rattle.code_control.specs.Deciding.{side}
 use Rattle.code_places.specs.Control.{Binds, Whole, IsIn, AtLabel, AtLabelUpTo, GoesOn}
 use Rattle.code_places.specs.Doing.{Grows, Shifts, at_site, OnwardUpTo, IfUsed, LeadsOut, Suits, SuitsTyping, Leads, LowersHere}
 use Rattle.code_control.specs.Branching.{OpensChoice, TurnsChoice, OpensLoop, OpensTurn, ClosesTurn, Asks, ClosesDo}
-use Rattle.thread_rooms.proofs.Sites.{formats_length, part_sites}
+use Rattle.code_storage.proofs.Sites.{formats_length, part_sites}
 use Rattle.code_places.proofs.Seating.{seat_on, typed_seat_on}
 use Rattle.code_places.proofs.Staying.{now_more, words_less}
 use Rattle.code_places.proofs.Controlling.{begin_at, begun_idle, begin_goes_on}

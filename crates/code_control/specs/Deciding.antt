@@ -4,7 +4,7 @@ use Rattle.c_program.specs.Tree.{Expression, Condition}
 use Rattle.c_program.specs.Weight.{expression_weight, condition_weight}
 use Rattle.c_program.specs.Resolved.{IsExpression, IsCondition}
 use Rattle.thread_semantics.specs.Work.{Work, Ask, first_operand, waiting_parts, decided}
-use Rattle.straight_code.specs.declared.homes.Home.{Home}
+use Rattle.code_blocks.specs.declared.homes.Home.{Home}
 use Rattle.code_places.specs.declared.lowering.Lowering.{Lowering}
 use Rattle.code_places.specs.Resuming.{nothing_kept, IsSound}
 use Rattle.code_places.specs.Labels.{IsHere, is_used, IsAt, Advances, IsFirst}

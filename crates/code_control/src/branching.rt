@@ -11,10 +11,10 @@ ghost use Rattle.code_places.specs.Needing.{IsFullAt};
 
 use crate::conditions::lower_condition;
 use c_program::tree::{Condition, Statement};
+use code_blocks::fault::LoweringFault;
 use code_places::lowering::Lowering;
+use code_storage::prints::print_count;
 use std::alloc::{AllocError, Global};
-use straight_code::fault::LoweringFault;
-use thread_rooms::prints::print_count;
 
 /// The labels of an if: its two statements, and what comes after it.
 #[derive(Clone, Copy)]

@@ -5,13 +5,13 @@ ghost use Rattle.c_program.specs.Plain.{condition_of, expression_of};
 ghost use Rattle.c_program.specs.Weight.{expression_weight};
 ghost use Rattle.code_control.specs.Deciding as deciding;
 ghost use Rattle.code_places.specs.Needing.{IsFullAt};
-ghost use Rattle.straight_code.specs.Room.{IsFull};
+ghost use Rattle.code_blocks.specs.Room.{IsFull};
 
 use c_program::tree::{Condition, Expression};
+use code_blocks::expressions::lower_expression;
+use code_blocks::fault::LoweringFault;
 use code_places::lowering::Lowering;
 use std::alloc::Global;
-use straight_code::expressions::lower_expression;
-use straight_code::fault::LoweringFault;
 
 /// A step that evaluates an operand of a condition, and leads to the first label where it isn't 0.
 fn lower_test(

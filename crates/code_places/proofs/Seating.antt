@@ -6,18 +6,18 @@ use Rattle.c_program.specs.declared.tree.LocalVariable.{LocalVariable}
 use Rattle.c_program.specs.Tree.{Program}
 use Rattle.thread_semantics.specs.State.{Frame}
 use Rattle.block_ir.specs.Run.{Cells}
-use Rattle.straight_code.specs.declared.homes.Home.{Home}
-use Rattle.straight_code.specs.declared.homes.Home.TheVariants as home
+use Rattle.code_blocks.specs.declared.homes.Home.{Home}
+use Rattle.code_blocks.specs.declared.homes.Home.TheVariants as home
 use Rattle.code_places.specs.declared.lowering.Lowering.{Lowering}
-use Rattle.straight_code.specs.Assigning.{Spares}
-use Rattle.thread_rooms.specs.declared.rooms.Rooms.{Rooms}
-use Rattle.thread_rooms.specs.Housing.{IsHomeOf, homes_in, IsHousing}
-use Rattle.thread_rooms.specs.Objects.{AreObjects}
+use Rattle.code_blocks.specs.Assigning.{Spares}
+use Rattle.code_storage.specs.declared.rooms.Rooms.{Rooms}
+use Rattle.code_storage.specs.Housing.{IsHomeOf, homes_in, IsHousing}
+use Rattle.code_storage.specs.Objects.{AreObjects}
 use Rattle.code_places.specs.Resuming.{home_value, HoldLocals, Caller, IsHeld, AreHeld}
 use Rattle.code_places.specs.Control.{Whole}
 use Rattle.code_places.specs.Seats.{IsWaiting, LeadsBack, IsSeated, HasWord, IsSeatedTyping}
-use Rattle.straight_code.specs.Typing.{Typing}
-use Rattle.straight_code.proofs.Cells.{row_of}
+use Rattle.code_blocks.specs.Typing.{Typing}
+use Rattle.code_blocks.proofs.Cells.{row_of}
 use Rattle.code_places.proofs.Shapes.{local_at}
 
 module _ (P : Program) (root : ℕ) (H : Rooms) (housed : IsHousing P root H) (rank : ℕ → ℕ) (number : ℕ) (variables after : ℕ → ℤ) (arrays cells : Cells)

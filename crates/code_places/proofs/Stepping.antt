@@ -16,15 +16,15 @@ use Rattle.block_ir.specs.declared.block.Operation.{Operation}
 use Rattle.block_ir.specs.declared.code.Act.TheVariants as code
 use Rattle.block_ir.specs.declared.code.Stage.TheVariants as stage
 use Rattle.block_ir.specs.Run.{Cells, Access, Running, operations_run}
-use Rattle.straight_code.specs.declared.homes.Home.{Home}
-use Rattle.straight_code.specs.declared.open_block.OpenBlock.{OpenBlock}
+use Rattle.code_blocks.specs.declared.homes.Home.{Home}
+use Rattle.code_blocks.specs.declared.open_block.OpenBlock.{OpenBlock}
 use Rattle.code_places.specs.declared.targets.Loop.{Loop}
 use Rattle.code_places.specs.declared.stages.Stages.{Stages}
 use Rattle.code_places.specs.declared.lowering.Lowering.{Lowering}
-use Rattle.straight_code.specs.Evaluating.{Holds, held_by}
-use Rattle.straight_code.specs.Assigning.{HaveHomes, IsThere, memory_after, writes_of, Assigned, Assigns}
+use Rattle.code_blocks.specs.Evaluating.{Holds, held_by}
+use Rattle.code_blocks.specs.Assigning.{HaveHomes, IsThere, memory_after, writes_of, Assigned, Assigns}
 use Rattle.code_places.specs.Labels.{IsHere, is_used}
-use Rattle.straight_code.specs.Typing.{Typing}
+use Rattle.code_blocks.specs.Typing.{Typing}
 use Rattle.code_following.specs.Following.{reads_of, AfterMove, IsEnd, DoesStage, Follows}
 use Rattle.code_places.specs.Resuming.{HasShape, Caller, in_call, Keeping, nothing_kept, AreHeld, CallersResume, IsMid, InBlock, AtFresh, IsSound}
 use Rattle.code_places.specs.Apart.{IsTypedNow, IsGood}
@@ -32,9 +32,9 @@ use Rattle.code_places.specs.Seats.{IsSeated}
 use Rattle.code_places.specs.Control.{EndsCall, Whole, IsIn, GoesOn}
 use Rattle.code_places.specs.Doing.{Grows, Suits, SuitsTyping, Leads}
 use Rattle.code_places.proofs.Advancing.{pushed_here}
-use Rattle.straight_code.proofs.Running.{parts, run_length}
-use Rattle.straight_code.proofs.Steps.{gives_is}
-use Rattle.straight_code.proofs.Puts.{homes_more}
+use Rattle.code_blocks.proofs.Running.{parts, run_length}
+use Rattle.code_blocks.proofs.Steps.{gives_is}
+use Rattle.code_blocks.proofs.Puts.{homes_more}
 use Rattle.code_places.proofs.Shapes.{lengths_with_element, have_homes}
 use Rattle.code_places.proofs.Resuming.{Goes, in_more}
 use Rattle.code_places.proofs.Seating.{seat_kept}

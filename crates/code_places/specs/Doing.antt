@@ -7,21 +7,21 @@ use Rattle.c_program.specs.Calls.{calls_of}
 use Rattle.c_program.specs.Resolved.{IsStatement}
 use Rattle.thread_semantics.specs.Work.{Work, Do, settled, Onward, Leaving, Turning}
 use Rattle.block_ir.specs.declared.code.ThreadCode.{ThreadCode}
-use Rattle.straight_code.specs.declared.homes.Home.{Home}
+use Rattle.code_blocks.specs.declared.homes.Home.{Home}
 use Rattle.code_places.specs.declared.targets.Back.{Back}
 use Rattle.code_places.specs.declared.targets.Loop.{Loop}
 use Rattle.code_places.specs.declared.stages.Stages.{Stages}
 use Rattle.code_places.specs.declared.lowering.Lowering.{Lowering}
-use Rattle.straight_code.specs.Closing.{IsFresh}
-use Rattle.thread_rooms.specs.declared.rooms.Rooms.{Rooms}
-use Rattle.thread_rooms.specs.Objects.{AreObjects}
-use Rattle.thread_rooms.specs.Values.{most_values}
+use Rattle.code_blocks.specs.Closing.{IsFresh}
+use Rattle.code_storage.specs.declared.rooms.Rooms.{Rooms}
+use Rattle.code_storage.specs.Objects.{AreObjects}
+use Rattle.code_storage.specs.Values.{most_values}
 use Rattle.code_places.specs.Weighing.{inlined_weight}
 use Rattle.code_places.specs.Seats.{IsSeated, IsSeatedTyping}
-use Rattle.straight_code.specs.Typing.{Typing, Fits, HasWords}
-use Rattle.thread_rooms.specs.Housing.{AreHomes, homes_in, site_in}
+use Rattle.code_blocks.specs.Typing.{Typing, Fits, HasWords}
+use Rattle.code_storage.specs.Housing.{AreHomes, homes_in, site_in}
 use Rattle.code_places.specs.Resuming.{nothing_kept}
-use Rattle.thread_rooms.specs.Formats.{HasSites}
+use Rattle.code_storage.specs.Formats.{HasSites}
 use Rattle.code_places.specs.Labels.{IsHere, Finishes, is_used, IsTarget, Advances}
 use Rattle.code_places.specs.Apart.{IsTypedNow, IsGood}
 use Rattle.code_places.specs.Control.{with_label, Begun, BegunOr, Begins, Whole, IsIn, AtLabelUpTo, GoesOn}

@@ -5,14 +5,14 @@ use Rattle.c_program.specs.Calls.{calls_of, IsAcyclic}
 use Rattle.c_program.specs.Weight.{condition_weight, arguments_weight, function_weight}
 use Rattle.c_program.specs.Resolved.{IsCondition, IsCall}
 use Rattle.code_following.specs.Following.{print_formats}
-use Rattle.straight_code.specs.declared.fault.LoweringFault.{LoweringFault}
+use Rattle.code_blocks.specs.declared.fault.LoweringFault.{LoweringFault}
 use Rattle.code_places.specs.declared.lowering.Lowering.{Lowering}
-use Rattle.straight_code.specs.Typing.{Typing, Fits, HasWords}
+use Rattle.code_blocks.specs.Typing.{Typing, Fits, HasWords}
 use Rattle.code_places.specs.Weighing.{inlined_weight}
 use Rattle.code_places.specs.Seats.{IsSeatedTyping}
 use Rattle.code_places.specs.Apart.{IsTypedNow, IsGood}
 use Rattle.code_places.specs.Doing.{SuitsTyping}
-use Rattle.straight_code.specs.Room.{IsFull}
+use Rattle.code_blocks.specs.Room.{IsFull}
 
 -- behind typed code of statements that weigh w, code of a part that weighs so much, and more
 abbrev pub IsFullIn : ℕ → ℕ → (Typing → Type 0) → Lowering → LoweringFault → Type 0

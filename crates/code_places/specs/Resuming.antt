@@ -11,13 +11,13 @@ use Rattle.block_ir.specs.declared.code.Stage.{Stage}
 use Rattle.block_ir.specs.declared.code.Stage.TheVariants as stage
 use Rattle.block_ir.specs.Run.{Cells, Access, Running, operations_run, variables_after, stage_after}
 use Rattle.code_following.specs.Following.{AfterMoves, Follows}
-use Rattle.straight_code.specs.declared.homes.Home.{Home}
-use Rattle.straight_code.specs.declared.homes.Home.TheVariants as home
-use Rattle.straight_code.specs.declared.open_block.OpenBlock.{OpenBlock}
-use Rattle.straight_code.specs.Needs.{AreBelow}
-use Rattle.straight_code.specs.Evaluating.{Holds, held_by}
-use Rattle.straight_code.specs.Closing.{HasNoted, IsFresh}
-use Rattle.straight_code.specs.Printing.{HoldWords}
+use Rattle.code_blocks.specs.declared.homes.Home.{Home}
+use Rattle.code_blocks.specs.declared.homes.Home.TheVariants as home
+use Rattle.code_blocks.specs.declared.open_block.OpenBlock.{OpenBlock}
+use Rattle.code_blocks.specs.Needs.{AreBelow}
+use Rattle.code_blocks.specs.Evaluating.{Holds, held_by}
+use Rattle.code_blocks.specs.Closing.{HasNoted, IsFresh}
+use Rattle.code_blocks.specs.Printing.{HoldWords}
 
 -- a call's locals have as many elements as they were declared with
 abbrev pub HasShape : List LocalVariable → List (List (Option ℤ)) → Type 0

@@ -4,15 +4,15 @@ use Rattle.std.specs.List.{AllByRecursion}
 use Rattle.hls_ints.specs.Types.{long_int}
 use Rattle.c_program.specs.Tree.{Function, Program}
 use Rattle.c_program.specs.Resolved.{IsResolved}
-use Rattle.straight_code.specs.declared.homes.Home.{Home}
+use Rattle.code_blocks.specs.declared.homes.Home.{Home}
 use Rattle.code_places.specs.declared.targets.Back.{Back}
 use Rattle.code_places.specs.declared.lowering.Lowering.{Lowering}
-use Rattle.thread_rooms.specs.declared.rooms.Rooms.{Rooms}
-use Rattle.thread_rooms.specs.Housing.{homes_in, Runs, IsHousing}
-use Rattle.thread_rooms.specs.Objects.{AreObjects}
-use Rattle.thread_rooms.specs.Values.{most_values}
+use Rattle.code_storage.specs.declared.rooms.Rooms.{Rooms}
+use Rattle.code_storage.specs.Housing.{homes_in, Runs, IsHousing}
+use Rattle.code_storage.specs.Objects.{AreObjects}
+use Rattle.code_storage.specs.Values.{most_values}
 use Rattle.code_following.specs.Typed.{Types}
-use Rattle.straight_code.specs.Typing.{Typing, Fits, HasWords}
+use Rattle.code_blocks.specs.Typing.{Typing, Fits, HasWords}
 use Rattle.code_places.specs.Resuming.{Caller}
 use Rattle.code_places.specs.Control.{Whole}
 

@@ -21,7 +21,7 @@ use Rattle.planned_block.specs.Advance.{answered, is_ready, is_answered, wires, 
 use Rattle.planned_block.proofs.Bits.{same_is}
 use Rattle.planned_block.proofs.Total.{wires_wired, registers_right}
 use Rattle.planned_block.proofs.Advancing.{any_tells}
-use Rattle.planned_view.specs.View.{planned_view, plan_view}
+use Rattle.plan_blocks.specs.View.{planned_view, plan_view}
 use Rattle.netlist.specs.declared.netlist.Module.{Module}
 use Rattle.verilog_meaning.specs.Readings.{Reading, next_reading, word_after}
 use Rattle.circuit.specs.Modules.{Obeys}

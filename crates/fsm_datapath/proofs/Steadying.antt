@@ -17,7 +17,7 @@ use Rattle.planned_block.specs.Slot.{Slot}
 use Rattle.planned_block.specs.Advance.{any_below}
 use Rattle.planned_block.specs.Closed.{IsClosed}
 use Rattle.planned_block.proofs.Advancing.{some_tells}
-use Rattle.planned_view.specs.View.{planned_view, plan_view}
+use Rattle.plan_blocks.specs.View.{planned_view, plan_view}
 use Rattle.netlist.specs.declared.netlist.Source.{Source}
 use Rattle.netlist.specs.declared.netlist.Source.TheVariants.{Register}
 use Rattle.netlist.specs.declared.netlist.Signal.{Signal}

@@ -9,7 +9,7 @@ use Rattle.block_ir.specs.declared.plan.BlockPlan.{BlockPlan}
 use Rattle.block_ir.specs.declared.plan.Planned.{Planned}
 use Rattle.planned_block.specs.Slot.{Slot}
 use Rattle.planned_block.specs.Closed.{IsClosed}
-use Rattle.planned_view.specs.View.{planned_view, plan_view}
+use Rattle.plan_blocks.specs.View.{planned_view, plan_view}
 use Rattle.netlist.specs.declared.netlist.Signal.{Signal}
 use Rattle.netlist.specs.declared.netlist.Module.{Module}
 use Rattle.verilog_meaning.specs.Names.{IsSignal}

@@ -8,8 +8,8 @@ use Rattle.lists.proofs.Places.{get_there}
 use Rattle.c_program.specs.Tree.{Function}
 use Rattle.c_program.specs.Calls.{calls_of, IsAcyclic}
 use Rattle.c_program.specs.Weight.{with_callees, inlined}
-use Rattle.call_graph.specs.Graphs.{callees}
-use Rattle.call_graph.specs.Reaching.{Leads, Here, Further}
+use Rattle.c_call_graph.specs.Graphs.{callees}
+use Rattle.c_call_graph.specs.Reaching.{Leads, Here, Further}
 use Rattle.global_naming.specs.Tables.{calls_from}
 use Rattle.global_naming.proofs.Callees.{callees_are}
 

@@ -7,7 +7,7 @@ use Rattle.std.proofs.lemmas.Bool.Decides.{nat_tests}
 use Rattle.std.proofs.lemmas.Bool.{eq-eqb}
 use Rattle.c_program.specs.Tree.{Function}
 use Rattle.c_program.specs.Calls.{calls_of}
-use Rattle.call_graph.specs.Graphs.{with_call, callees}
+use Rattle.c_call_graph.specs.Graphs.{with_call, callees}
 use Rattle.global_naming.specs.Tables.{call_from, calls_after, calls_from}
 
 apart : (k n : ℕ) → n < k → nat_eq k n ≡ false

@@ -6,7 +6,7 @@ use Rattle.c_program.specs.declared.tree.Function.{Function as FunctionTree}
 use Rattle.c_program.specs.Plain.{function_of}
 use Rattle.c_program.specs.Tree.{Function}
 use Rattle.c_program.specs.Calls.{calls_of}
-use Rattle.call_graph.specs.declared.table.Call.{Call}
+use Rattle.c_call_graph.specs.declared.table.Call.{Call}
 use Rattle.global_naming.specs.Tables.{call_from, calls_after, calls_from}
 
 more_after : (k n : ℕ) (fs : List Function) (f : Function) → k + length fs ≡ n → calls_after k (fs ++ f ∷ []) ≡ calls_after k fs ++ map (call_from n) (calls_of f.body)

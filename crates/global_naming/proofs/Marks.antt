@@ -3,8 +3,8 @@ use Rattle.std.proofs.Common.{◌≡◌, refl, sym, ap, ◌∙◌, subst, inl, i
 use Rattle.std.proofs.lemmas.Bool.{false≢true, eqb-true}
 use Rattle.std.proofs.lemmas.Bool.Decides.{nat_tests}
 use Rattle.std.proofs.lemmas.List.{length-set}
-use Rattle.call_graph.specs.Graphs.{has}
-use Rattle.call_graph.proofs.Marks.{set_has, set_keeps, set_back}
+use Rattle.c_call_graph.specs.Graphs.{has}
+use Rattle.c_call_graph.proofs.Marks.{set_has, set_keeps, set_back}
 use Rattle.global_naming.specs.Tables.{with_names}
 
 pub set_beyond : (marks : List Bool) (k : ℕ) → length marks ≤ k → slice_set marks k true ≡ marks

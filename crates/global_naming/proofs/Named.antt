@@ -4,9 +4,9 @@ use Rattle.std.specs.Prelude.{Option, Some, None, slice_get}
 use Rattle.std.proofs.lemmas.Bool.{false≢true, cases_lt}
 use Rattle.std.proofs.lemmas.List.{length-replicate}
 use Rattle.c_program.specs.Tree.{Function, Program}
-use Rattle.call_graph.specs.Reaching.{leads}
-use Rattle.call_graph.specs.Graphs.{has}
-use Rattle.call_graph.proofs.Marks.{none_has}
+use Rattle.c_call_graph.specs.Reaching.{leads}
+use Rattle.c_call_graph.specs.Graphs.{has}
+use Rattle.c_call_graph.proofs.Marks.{none_has}
 use Rattle.global_naming.specs.Naming.{statement_globals, mentions}
 use Rattle.global_naming.specs.Tables.{with_names, globals_at, named_to}
 use Rattle.global_naming.proofs.Marks.{IsOf, names_length, keeps, marked_by, marks_it}

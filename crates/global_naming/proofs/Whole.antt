@@ -14,8 +14,8 @@ use Rattle.c_program.specs.Tree.{Program}
 use Rattle.c_program.specs.Calls.{IsAcyclic}
 use Rattle.c_program.specs.Counting.{capped}
 use Rattle.c_program.specs.Weight.{inlined, thread_count}
-use Rattle.call_graph.specs.Graphs.{has}
-use Rattle.call_graph.specs.Reaching.{IsReach}
+use Rattle.c_call_graph.specs.Graphs.{has}
+use Rattle.c_call_graph.specs.Reaching.{IsReach}
 use Rattle.global_naming.specs.Naming.{one_if, mentions, names_global, runner_names, naming_threads, AreCounts}
 use Rattle.global_naming.specs.Tables.{Running, IsCounted, share, sum_of, running, runners_by, object_runners, calls_from, named_to, all_runners}
 use Rattle.global_naming.proofs.Amounts.{positive_inside, found, positive}

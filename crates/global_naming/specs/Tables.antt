@@ -5,9 +5,9 @@ use Rattle.c_program.specs.declared.tree.ThreadObject.{ThreadObject}
 use Rattle.c_program.specs.Tree.{Function, Program}
 use Rattle.c_program.specs.Calls.{calls_of}
 use Rattle.c_program.specs.Counting.{capped}
-use Rattle.call_graph.specs.declared.table.Call.{Call}
-use Rattle.call_graph.specs.Graphs.{has}
-use Rattle.call_graph.specs.Reaching.{leads}
+use Rattle.c_call_graph.specs.declared.table.Call.{Call}
+use Rattle.c_call_graph.specs.Graphs.{has}
+use Rattle.c_call_graph.specs.Reaching.{leads}
 use Rattle.global_naming.specs.declared.naming.Runner.{Runner}
 use Rattle.global_naming.specs.Naming.{statement_globals}
 

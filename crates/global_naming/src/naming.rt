@@ -4,15 +4,15 @@ ghost use Rattle.c_program.specs.Plain.{function_of, program_of};
 ghost use Rattle.c_program.specs.Calls.{calls_of, IsAcyclic};
 ghost use Rattle.c_program.specs.Counting.{capped};
 ghost use Rattle.c_program.specs.Weight.{thread_count};
-ghost use Rattle.call_graph.specs.Reaching.{IsReach};
+ghost use Rattle.c_call_graph.specs.Reaching.{IsReach};
 ghost use Rattle.global_naming.specs.declared.naming.Runner.{Runner};
 ghost use Rattle.global_naming.specs.Naming.{statement_globals, AreCounts};
 ghost use Rattle.global_naming.specs.Tables.{call_from, calls_from, with_names, named_to, share, runner_of, all_runners};
 
 use crate::names::push_globals;
+use c_call_graph::{Call, Reach, reach_of};
 use c_program::tree::{Function, Program};
 use c_program::weight::{MOST, push_calls};
-use call_graph::{Call, Reach, reach_of};
 use std::alloc::{AllocError, Global};
 
 /// Appends the calls of the function of a number.

@@ -21,8 +21,8 @@ use Rattle.check_command.specs.Told.{IsDisciplined, IsInDoubt}
 use Rattle.sim_layout.specs.Rounds.{threads_of as enabled_of}
 use Rattle.cycle_sim.specs.Round.{IsRound}
 use Rattle.verilog_reader.specs.Faults.{IsFault, IsRead}
-use Rattle.loop_path.specs.First.{IsLoopless}
-use Rattle.loop_path.specs.Dotted.{IsLoopPath}
+use Rattle.sim_loops.specs.First.{IsLoopless}
+use Rattle.sim_loops.specs.Dotted.{IsLoopPath}
 use Rattle.vcd_trace.specs.Trace.{IsTraced}
 use Rattle.journal_text.specs.declared.entry.Entry.{Entry}
 use Rattle.journal_text.specs.Texts.{IsParted}

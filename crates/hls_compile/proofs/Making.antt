@@ -17,23 +17,23 @@ use Rattle.bank_partition.specs.declared.banks.Spread.{Spread}
 use Rattle.block_refine.specs.Routines.{RoutineCode}
 use Rattle.netlist.specs.declared.netlist.Module.{Module}
 use Rattle.netlist.specs.declared.netlist.Netlist.{Netlist}
-use Rattle.table_text.specs.Cores.{Cores}
-use Rattle.thread_numbers.specs.Numbers.{place_in, number_in, module_numbers, has_idle, function_module}
-use Rattle.thread_numbers.proofs.Few.{no_more_modules}
-use Rattle.thread_numbers.proofs.Numbers as numbers
-use Rattle.table_text.specs.Written.{FitsTable, IsTextOf}
+use Rattle.net_emitter.specs.Cores.{Cores}
+use Rattle.program_modules.specs.Numbers.{place_in, number_in, module_numbers, has_idle, function_module}
+use Rattle.program_modules.proofs.Few.{no_more_modules}
+use Rattle.program_modules.proofs.Numbers as numbers
+use Rattle.net_emitter.specs.Written.{FitsTable, IsTextOf}
 use Rattle.program_cores.specs.Cores.{AreCoresOf}
-use Rattle.thread_bodies.specs.Parts.{code_at, thread_module, AreBodies, IsGoodText}
-use Rattle.thread_bodies.proofs.ModuleNames.{same_function}
-use Rattle.thread_bodies.proofs.PartsAreGood.{parts_are_good}
-use Rattle.thread_bodies.specs.PlannedFunction.{PlannedFunction}
-use Rattle.thread_bodies.specs.Plans.{routine_of}
-use Rattle.thread_bodies.specs.Bodies.{shape_of, IsLaid}
-use Rattle.thread_bodies.specs.Modules.{AreLaid, module_shape, bodies_of}
-use Rattle.thread_bodies.proofs.Served.{codes_are_served}
+use Rattle.program_bodies.specs.Parts.{code_at, thread_module, AreBodies, IsGoodText}
+use Rattle.program_bodies.proofs.ModuleNames.{same_function}
+use Rattle.program_bodies.proofs.PartsAreGood.{parts_are_good}
+use Rattle.program_bodies.specs.PlannedFunction.{PlannedFunction}
+use Rattle.program_bodies.specs.Plans.{routine_of}
+use Rattle.program_bodies.specs.Bodies.{shape_of, IsLaid}
+use Rattle.program_bodies.specs.Modules.{AreLaid, module_shape, bodies_of}
+use Rattle.program_bodies.proofs.Served.{codes_are_served}
 use Rattle.hls_compile.specs.Banks.{AreBanksOf}
 use Rattle.hls_compile.specs.Plans.{RunsPlanned, RunPlanned}
-use Rattle.thread_bodies.proofs.FirstNamed.{first_named}
+use Rattle.program_bodies.proofs.FirstNamed.{first_named}
 
 -- a program within the limits has few threads
 pub few_threads : (P : Program) → first_passed P ≡ None → thread_count P ≤ 64

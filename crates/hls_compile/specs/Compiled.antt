@@ -4,8 +4,8 @@ use Rattle.c_program.specs.Tree.{Program}
 use Rattle.c_program.specs.Weight.{thread_count}
 use Rattle.netlist.specs.declared.netlist.Netlist.{Netlist}
 use Rattle.good_verilog.specs.GoodVerilog.{IsGoodVerilog}
-use Rattle.thread_bodies.specs.Texts.{IsNetOf}
-use Rattle.thread_bodies.specs.Parts.{IsThreadedNet, HaveModules}
+use Rattle.program_bodies.specs.Texts.{IsNetOf}
+use Rattle.program_bodies.specs.Parts.{IsThreadedNet, HaveModules}
 use Rattle.c_accepted.specs.Profile.{IsAccepted}
 
 -- the text is accepted as this program, of this weight; what is written is good Verilog of it, and reads as this netlist, which is

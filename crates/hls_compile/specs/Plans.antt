@@ -8,13 +8,13 @@ use Rattle.global_naming.specs.Naming.{AreCounts}
 use Rattle.netlist.specs.declared.netlist.Module.{Module}
 use Rattle.netlist.specs.declared.netlist.Netlist.{Netlist}
 use Rattle.verilog_meaning.specs.Names.{module_named}
-use Rattle.table_text.specs.Cores.{Cores}
+use Rattle.net_emitter.specs.Cores.{Cores}
 use Rattle.program_cores.specs.Cores.{AreCoresOf}
-use Rattle.thread_numbers.specs.Numbers.{function_module}
-use Rattle.thread_bodies.specs.Thread.{IsServed}
-use Rattle.thread_bodies.specs.PlannedFunction.{PlannedFunction}
-use Rattle.thread_bodies.specs.Plans.{routine_of, ArePlanned}
-use Rattle.thread_bodies.specs.Bodies.{shape_of, IsLaid}
+use Rattle.program_modules.specs.Numbers.{function_module}
+use Rattle.program_bodies.specs.Thread.{IsServed}
+use Rattle.program_bodies.specs.PlannedFunction.{PlannedFunction}
+use Rattle.program_bodies.specs.Plans.{routine_of, ArePlanned}
+use Rattle.program_bodies.specs.Bodies.{shape_of, IsLaid}
 
 -- beside these banks and cores, the module `fn_NAME` of the net, NAME being that of the thread function f, runs the function's code by its plan
 pub record RunsPlanned (P : Program) (spreads : List Spread) (w : Cores) (n : Netlist) (f : ℕ) (p : PlannedFunction) : Type 0 where

@@ -4,9 +4,9 @@ ghost use Rattle.std.specs.Prelude.{◌≡◌, None, IfOk};
 ghost use Rattle.c_limits.specs.Counts.{first_passed};
 ghost use Rattle.c_program.specs.Plain.{program_of};
 ghost use Rattle.c_program.specs.Resolved.{IsResolved};
-ghost use Rattle.thread_bodies.specs.Parts.{IsGoodText};
-ghost use Rattle.thread_bodies.specs.Plans.{ArePlanned};
-ghost use Rattle.thread_numbers.specs.Numbers.{module_numbers};
+ghost use Rattle.program_bodies.specs.Parts.{IsGoodText};
+ghost use Rattle.program_bodies.specs.Plans.{ArePlanned};
+ghost use Rattle.program_modules.specs.Numbers.{module_numbers};
 ghost use Rattle.hls_compile.specs.Banks.{AreBanksOf};
 ghost use Rattle.hls_compile.specs.Plans.{RunPlanned};
 
@@ -14,12 +14,12 @@ use bank_partition::banks::{Banks, partition};
 use c_program::threads::thread_functions;
 use c_program::tree::Program;
 use global_naming::naming::naming_threads;
+use net_emitter::{Written, verilog};
+use program_bodies::{PlannedFunction, modules};
 use program_cores::wanted;
+use program_modules::module_numbers;
 use sqlite_items::Items;
 use std::alloc::{AllocError, Global};
-use table_text::{Written, verilog};
-use thread_bodies::{PlannedFunction, modules};
-use thread_numbers::module_numbers;
 
 /// The banks of the globals, by the numbers of hardware threads that name them.
 fn banks(alloc: Global, program: &Program) -> Result<Banks, AllocError>

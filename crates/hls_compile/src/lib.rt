@@ -17,11 +17,11 @@ use c_profile::{Accepted, ProfileError, accept};
 use c_program::tree::Program;
 use hls_io::Bytes;
 use netlist::netlist::Netlist;
+use program_bodies::{PlannedFunction, plan_functions};
 use sqlite_items::Items;
 use std::alloc::{AllocError, Global};
 use std::thread::Threads;
 use thiserror::Error;
-use thread_bodies::{PlannedFunction, plan_functions};
 
 /// What a text compiles to.
 #[derive(Drop)]

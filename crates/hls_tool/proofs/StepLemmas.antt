@@ -16,8 +16,8 @@ use Rattle.cycle_sim.specs.Round.{IsRound}
 use Rattle.verilog_reader.specs.Faults.{IsRead}
 use Rattle.well_formed_net.proofs.ReadAgain.{read_again}
 use Rattle.well_formed_net.proofs.RunsOnce.{runs_alike}
-use Rattle.loop_path.specs.First.{IsLoopless}
-use Rattle.loop_path.specs.Dotted.{IsLoopPath}
+use Rattle.sim_loops.specs.First.{IsLoopless}
+use Rattle.sim_loops.specs.Dotted.{IsLoopPath}
 use Rattle.c_program.specs.Weight.{thread_count}
 use Rattle.hls_commands.specs.Compiled.{IsCompiled}
 use Rattle.hls_words.specs.declared.task.Task.{Task}

@@ -5,8 +5,8 @@ use Rattle.hls_words.specs.declared.task.Task.TheVariants.{Build, Step, Run, Rep
 use Rattle.verilog_tree.specs.declared.tree.Net.{Net}
 use Rattle.netlist.specs.NetlistOf.{netlist_of}
 use Rattle.verilog_reader.specs.Faults.{IsRead}
-use Rattle.loop_path.specs.First.{IsLoopless}
-use Rattle.loop_path.specs.Dotted.{IsLoopPath}
+use Rattle.sim_loops.specs.First.{IsLoopless}
+use Rattle.sim_loops.specs.Dotted.{IsLoopPath}
 use Rattle.c_program.specs.Tree.{Program}
 use Rattle.check_command.specs.Discipline.{Doubt, verdict}
 use Rattle.check_command.specs.Told.{IsDisciplined}

@@ -1,5 +1,5 @@
-// Left-edge packing: intervals, some of which may have no place, into as few rows as the most crowded place needs.
-// `rt plant`: of 19 wrong bodies in 6 functions 13 are refused, 1 answers the same and 5 could not be judged.
+//! Left-edge packing: intervals, some of which may have no place, into as few rows as the most crowded place needs.
+//! `rt plant`: of 19 wrong bodies in 6 functions 13 are refused, 1 answers the same and 5 could not be judged.
 #![tactic(auto)]
 
 mod chosen;

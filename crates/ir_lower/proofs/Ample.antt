@@ -14,33 +14,33 @@ use Rattle.c_program.specs.Limits.{local_elements, IsWithinLimits}
 use Rattle.c_program.specs.Calls.{calls_of, IsAcyclic}
 use Rattle.c_program.specs.Weight.{function_weight, thread_functions}
 use Rattle.c_program.specs.Resolved.{IsFunction, IsResolved}
-use Rattle.straight_code.specs.declared.fault.LoweringFault.{LoweringFault}
-use Rattle.straight_code.specs.declared.fault.LoweringFault.TheVariants.{TooLarge}
-use Rattle.straight_code.specs.declared.homes.Home.{Home}
-use Rattle.straight_code.specs.declared.homes.Home.TheVariants as home
-use Rattle.thread_rooms.specs.declared.rooms.Rooms.{Rooms}
+use Rattle.code_blocks.specs.declared.fault.LoweringFault.{LoweringFault}
+use Rattle.code_blocks.specs.declared.fault.LoweringFault.TheVariants.{TooLarge}
+use Rattle.code_blocks.specs.declared.homes.Home.{Home}
+use Rattle.code_blocks.specs.declared.homes.Home.TheVariants as home
+use Rattle.code_storage.specs.declared.rooms.Rooms.{Rooms}
 use Rattle.code_places.specs.declared.lowering.Lowering.{Lowering}
-use Rattle.thread_rooms.specs.Values.{most_values, all_values}
-use Rattle.thread_rooms.specs.Housing.{homes_in, Runs, types_in, IsHousing}
-use Rattle.thread_rooms.specs.Objects.{AreObjects}
+use Rattle.code_storage.specs.Values.{most_values, all_values}
+use Rattle.code_storage.specs.Housing.{homes_in, Runs, types_in, IsHousing}
+use Rattle.code_storage.specs.Objects.{AreObjects}
 use Rattle.code_places.specs.Weighing.{inlined_weight}
-use Rattle.straight_code.specs.Typing.{Typing, IsTypedHome, Fits, HasWords}
-use Rattle.thread_rooms.specs.Formats.{HasSites}
+use Rattle.code_blocks.specs.Typing.{Typing, IsTypedHome, Fits, HasWords}
+use Rattle.code_storage.specs.Formats.{HasSites}
 use Rattle.code_places.specs.Apart.{IsTypedNow, IsGood}
 use Rattle.code_places.specs.Seats.{HasWord}
 use Rattle.code_places.specs.Doing.{Shifts, SuitsTyping, IsNew, Starts}
-use Rattle.straight_code.specs.Room.{IsFull}
+use Rattle.code_blocks.specs.Room.{IsFull}
 use Rattle.code_places.specs.Needing.{needed, IsFullFor}
 use Rattle.ir_lower.specs.Codes.{function_needs}
-use Rattle.straight_code.proofs.Room.{full_more}
+use Rattle.code_blocks.proofs.Room.{full_more}
 use Rattle.code_places.proofs.Staying.{fresh_typed, words_less}
 use Rattle.code_places.proofs.Resuming.{fresh_sound}
 use Rattle.code_places.proofs.Growing.{shifts_both, begins_shifts}
 use Rattle.code_places.proofs.Weighing.{body_weighs}
 use Rattle.ir_lower.proofs.Whole.{get_none, values_among, word_at}
 use Rattle.ir_lower.proofs.Roots.{thread_function, holds_of}
-use Rattle.thread_rooms.proofs.Sites.{formats_count}
-use Rattle.thread_rooms.proofs.Reached.{is_function}
+use Rattle.code_storage.proofs.Sites.{formats_count}
+use Rattle.code_storage.proofs.Reached.{is_function}
 
 -- a thread function, whose code begins
 module _ (p : ProgramTree) (r : ℕ) (f : FunctionTree) (at : slice_get p.functions.items r ≡ Some f) (H : Rooms) (first begun : Lowering) (start : ℕ)

@@ -6,10 +6,10 @@ use Rattle.std.proofs.lemmas.Bool.Decides.{leb_tells}
 use Rattle.c_program.specs.Tree.{Expression, Piece, RightSide, Statement, Program}
 use Rattle.c_program.specs.Weight.{expressions_weight, right_side_weight, returned_weight}
 use Rattle.code_places.specs.Weighing.{right_with, returned_with, inlined_weight}
-use Rattle.straight_code.specs.declared.fault.LoweringFault.{LoweringFault}
+use Rattle.code_blocks.specs.declared.fault.LoweringFault.{LoweringFault}
 use Rattle.code_places.specs.declared.lowering.Lowering.{Lowering}
-use Rattle.straight_code.specs.Room.{IsFull}
-use Rattle.straight_code.proofs.Room.{full_more}
+use Rattle.code_blocks.specs.Room.{IsFull}
+use Rattle.code_blocks.proofs.Room.{full_more}
 use Rattle.code_places.specs.Needing.{needed, IsFullFor}
 use Rattle.code_control.proofs.Filling.{sites_within}
 use Rattle.ir_lower.specs.Taken.{conversion_count, is_taken}

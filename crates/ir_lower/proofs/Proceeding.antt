@@ -6,7 +6,7 @@ use Rattle.c_program.specs.declared.tree.Function.{Function as FunctionTree}
 use Rattle.c_program.specs.declared.tree.Program.{Program as ProgramTree}
 use Rattle.c_program.specs.Plain.{function_of, program_of, statement_of}
 use Rattle.c_program.specs.Tree.{Program}
-use Rattle.thread_rooms.specs.declared.rooms.Rooms.{Rooms}
+use Rattle.code_storage.specs.declared.rooms.Rooms.{Rooms}
 use Rattle.code_places.specs.declared.lowering.Lowering.{Lowering}
 use Rattle.ir_lower.specs.Taken.{is_taken, are_taken}
 use Rattle.code_places.specs.Labels.{is_used, IsFit, IsFirst}

@@ -10,12 +10,12 @@ use Rattle.code_places.specs.Weighing.{inlined_weight}
 use Rattle.c_program.specs.Resolved.{IsExpression, IsPlace, IsUpdate}
 use Rattle.thread_semantics.specs.Work.{Work, Do, Onward, Leaving, Turning, settled}
 use Rattle.thread_semantics.specs.Move.{assignment, update, without_values, going_on, work_move}
-use Rattle.straight_code.specs.declared.homes.Home.{Home}
-use Rattle.straight_code.specs.declared.open_block.OpenBlock.{OpenBlock}
+use Rattle.code_blocks.specs.declared.homes.Home.{Home}
+use Rattle.code_blocks.specs.declared.open_block.OpenBlock.{OpenBlock}
 use Rattle.code_places.specs.declared.targets.Loop.{Loop}
 use Rattle.code_places.specs.declared.lowering.Lowering.{Lowering}
-use Rattle.straight_code.specs.Assigning.{Assigns}
-use Rattle.straight_code.specs.Typing.{WorksOnAssignment, WorksOnUpdate}
+use Rattle.code_blocks.specs.Assigning.{Assigns}
+use Rattle.code_blocks.specs.Typing.{WorksOnAssignment, WorksOnUpdate}
 use Rattle.code_following.specs.Following.{AfterMove}
 use Rattle.code_places.specs.Resuming.{nothing_kept, IsMid, IsSound}
 use Rattle.code_places.specs.Control.{Jumps, Whole}

@@ -7,7 +7,7 @@ use Rattle.std.specs.Prelude.{slice_get, slice_index, string_bytes, Contains, �
 use Rattle.std.proofs.lemmas.List.{length-map, length-replicate}
 use Rattle.lists.proofs.Places.{get_front, copies_there, get_mapped}
 use Rattle.hls_ints.specs.Types.{IntegerType, long_int, wrapped}
-use Rattle.straight_code.specs.Passing.{IsPassed, ArePassed}
+use Rattle.code_blocks.specs.Passing.{IsPassed, ArePassed}
 use Rattle.block_ir.specs.Run.{Cells}
 use Rattle.c_program.specs.declared.tree.LocalVariable.{LocalVariable}
 use Rattle.c_program.specs.declared.tree.Function.{Function as FunctionTree}
@@ -21,25 +21,25 @@ use Rattle.thread_semantics.specs.Work.{Do, Onward, settled}
 use Rattle.block_ir.specs.declared.code.Stage.{Stage}
 use Rattle.block_ir.specs.declared.code.ThreadCode.{ThreadCode}
 use Rattle.code_following.specs.Following.{HasArguments, Follows, IsLowered}
-use Rattle.straight_code.specs.declared.homes.Home.{Home}
-use Rattle.straight_code.specs.declared.homes.Home.TheVariants as home
+use Rattle.code_blocks.specs.declared.homes.Home.{Home}
+use Rattle.code_blocks.specs.declared.homes.Home.TheVariants as home
 use Rattle.code_places.specs.Resuming.{HasShape, HoldLocals, nothing_kept}
-use Rattle.thread_rooms.specs.Formats.{HasSites}
+use Rattle.code_storage.specs.Formats.{HasSites}
 use Rattle.code_places.specs.Labels.{led_stage, led}
 use Rattle.code_places.specs.Apart.{IsTypedNow, IsGood}
 use Rattle.code_places.specs.Control.{Whole, IsIn, AtLabel}
 use Rattle.code_places.specs.Seats.{LeadsBack, IsSeated, HasWord}
 use Rattle.code_places.specs.Doing.{Grows, Shifts, OnwardUpTo, Suits, SuitsTyping, Leads}
 use Rattle.ir_lower.specs.Codes.{variable_of, IsCodeOf}
-use Rattle.thread_rooms.specs.declared.rooms.Rooms.{Rooms}
-use Rattle.thread_rooms.specs.Housing.{IsHomeOf, homes_in, Runs, types_in, IsHousing}
-use Rattle.thread_rooms.specs.Objects.{AreObjects}
-use Rattle.thread_rooms.specs.Values.{most_values, all_values}
-use Rattle.thread_rooms.proofs.Reached.{is_function}
+use Rattle.code_storage.specs.declared.rooms.Rooms.{Rooms}
+use Rattle.code_storage.specs.Housing.{IsHomeOf, homes_in, Runs, types_in, IsHousing}
+use Rattle.code_storage.specs.Objects.{AreObjects}
+use Rattle.code_storage.specs.Values.{most_values, all_values}
+use Rattle.code_storage.proofs.Reached.{is_function}
 use Rattle.code_places.specs.Weighing.{inlined_weight}
 use Rattle.code_following.specs.Typed.{types_of, IsTypedStage, BeginsWith, IsNameIfAny, IsTypedCode, IsThreadCode}
 use Rattle.code_following.proofs.Arguments.{none_given, none_named}
-use Rattle.straight_code.specs.Typing.{Typing, IsTypedHome, Fits, HasWords}
+use Rattle.code_blocks.specs.Typing.{Typing, IsTypedHome, Fits, HasWords}
 use Rattle.code_places.proofs.Staying.{stage_more, fresh_typed, words_less}
 use Rattle.code_places.proofs.Resuming.{fresh_sound}
 use Rattle.code_places.proofs.Controlling.{led_length, begin_at, begun_idle}
@@ -49,7 +49,7 @@ use Rattle.code_calls.proofs.Backing.{closes_shifts, closes_goes}
 use Rattle.code_calls.proofs.Callees.{AreScalars, shape_passed, locals_passed}
 use Rattle.code_places.proofs.Weighing.{body_weighs}
 use Rattle.code_places.proofs.Shapes.{shape_fresh, nothing_written}
-use Rattle.straight_code.proofs.Arguments.{passed_none}
+use Rattle.code_blocks.proofs.Arguments.{passed_none}
 use Rattle.ir_lower.proofs.Roots.{thread_function, function_weighs}
 
 pub get_none : {A B : Type 0} (g : A → B) (xs : List A) (n : ℕ) → slice_get xs n ≡ None → slice_get (map g xs) n ≡ None

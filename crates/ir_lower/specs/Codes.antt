@@ -5,12 +5,12 @@ use Rattle.c_program.specs.declared.tree.Program.{Program as ProgramTree}
 use Rattle.c_program.specs.Plain.{program_of, statement_of}
 use Rattle.c_program.specs.Tree.{Program}
 use Rattle.block_ir.specs.declared.code.ThreadCode.{ThreadCode}
-use Rattle.straight_code.specs.declared.homes.Home.{Home}
-use Rattle.straight_code.specs.declared.homes.Home.TheVariants as home
+use Rattle.code_blocks.specs.declared.homes.Home.{Home}
+use Rattle.code_blocks.specs.declared.homes.Home.TheVariants as home
 use Rattle.code_places.specs.declared.lowering.Lowering.{Lowering}
-use Rattle.thread_rooms.specs.declared.rooms.Rooms.{Rooms}
-use Rattle.thread_rooms.specs.Housing.{homes_in, IsHousing, AreNames}
-use Rattle.thread_rooms.specs.Values.{all_values}
+use Rattle.code_storage.specs.declared.rooms.Rooms.{Rooms}
+use Rattle.code_storage.specs.Housing.{homes_in, IsHousing, AreNames}
+use Rattle.code_storage.specs.Values.{all_values}
 use Rattle.code_places.specs.Doing.{Leads, IsNew, Starts, IsFinished}
 use Rattle.c_program.specs.Limits.{local_elements, print_sites, mutex_elements, barrier_elements}
 use Rattle.c_program.specs.Resolved.{IsResolved}

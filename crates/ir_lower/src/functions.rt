@@ -11,14 +11,14 @@ ghost use Rattle.ir_lower.specs.Codes as spec;
 use crate::statements::lower_body;
 use block_ir::code::ThreadCode;
 use c_program::tree::Program;
+use code_blocks::fault::LoweringFault;
+use code_blocks::homes::Home;
 use code_places::lowering::Lowering;
+use code_storage::objects::objects_of;
+use code_storage::prints::all_values;
+use code_storage::rooms::{Housing, Rooms, rooms_of};
 use sqlite_items::at;
 use std::alloc::Global;
-use straight_code::fault::LoweringFault;
-use straight_code::homes::Home;
-use thread_rooms::objects::objects_of;
-use thread_rooms::prints::all_values;
-use thread_rooms::rooms::{Housing, Rooms, rooms_of};
 
 /// The variable that has the argument of a thread function: that of its one parameter. Main has none.
 fn argument_of(program: &Program, function: usize, rooms: &Rooms) -> Option<u32>

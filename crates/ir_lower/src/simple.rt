@@ -6,17 +6,17 @@ ghost use Rattle.c_program.specs.Tree as tree;
 ghost use Rattle.c_program.specs.Weight.{expression_weight, place_weight, returned_weight, right_side_weight};
 ghost use Rattle.code_places.specs.Doing as doing;
 ghost use Rattle.code_places.specs.Needing.{IsFullFor};
-ghost use Rattle.straight_code.specs.Room.{IsFull};
+ghost use Rattle.code_blocks.specs.Room.{IsFull};
 ghost use Rattle.ir_lower.specs.Taken.{is_simple, is_taken, is_value, is_value_or_none};
 
 use c_program::tree::{Place, RightSide, Statement};
+use code_blocks::assignments::{lower_assignment, lower_update};
+use code_blocks::fault::LoweringFault;
 use code_calls::acts::{lower_print, lower_thread_call};
 use code_calls::returning::{lower_return, return_nothing};
 use code_places::lowering::Lowering;
 use code_places::targets::Loop;
 use std::alloc::Global;
-use straight_code::assignments::{lower_assignment, lower_update};
-use straight_code::fault::LoweringFault;
 
 /// An assignment, whose right side is no call.
 fn lower_assign(

@@ -9,6 +9,7 @@ ghost use Rattle.ir_lower.specs.Taken.{are_taken, is_taken};
 
 use crate::simple::lower_simple;
 use c_program::tree::{Expression, Program, RightSide, Statement};
+use code_blocks::fault::LoweringFault;
 use code_calls::calling::{close_call, lower_delivery, lower_handing, open_call};
 use code_calls::returning::return_reached;
 use code_control::branching::{
@@ -17,10 +18,9 @@ use code_control::branching::{
 };
 use code_places::lowering::Lowering;
 use code_places::targets::Loop;
+use code_storage::prints::print_count;
 use sqlite_items::at;
 use std::alloc::Global;
-use straight_code::fault::LoweringFault;
-use thread_rooms::prints::print_count;
 
 /// The code of a statement, in which calls are less than so deep. What the program never comes to has none.
 #[cycle(statements)]

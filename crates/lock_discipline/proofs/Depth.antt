@@ -163,4 +163,5 @@ pub none_too_deep : NoneTooDeep
 none_too_deep P resolved =
     none_deep (all_seen P)
     (both (walked P true P.main) (flat_map (walked P false) (routines P)) (walked_are P resolved true P.main (inside P.functions P.main resolved.main.code resolved.main.found))
-    (routines_are P resolved (routines P) (filtered (λ f. f < length P.functions) (is_routine P.threads) (range_with_len 0 (length P.functions)) (in_order (length P.functions) 0 (length P.functions) (omega arith)))))
+    (routines_are P resolved (routines P) (filtered (λ f. f < length P.functions) (is_routine P.threads) (range_with_len 0 (length P.functions))
+    (in_order (length P.functions) 0 (length P.functions) (omega arith)))))

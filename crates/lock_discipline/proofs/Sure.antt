@@ -123,7 +123,8 @@ module _ (P : Program) where
         let is = number.is in
         let object : object_of mutex ≢ m = λ same. false≢true (sym (unset_has a.held (object_of mutex)) ∙ ap (λ x. has (slice_set a.held (object_of mutex) false) x) same ∙ h) in
         let other : n ≢ first_mutex P m =
-        λ same. object (one_object (λ (o : MutexObject). o.length) P.mutexes (object_of mutex) m number.index 0 there.0 w.object there.1 w.found (omega (arith, inside, long)) w.some (omega (arith, is, same))) in
+        λ same. object (one_object (λ (o : MutexObject). o.length) P.mutexes (object_of mutex) m number.index 0 there.0 w.object there.1 w.found
+        (omega (arith, inside, long)) w.some (omega (arith, is, same))) in
         record {
           object = w.object;
           found = w.found;

@@ -1,11 +1,11 @@
 -- Instances, by the modules that stand earlier.
-use Rattle.std.specs.Prelude.{Bool, ◌&&◌, List}
+use Rattle.std.specs.Prelude.{Bool, List}
 use Rattle.verilog_tree.specs.declared.tree.Port.{Port}
 use Rattle.verilog_tree.specs.declared.tree.Connection.{Connection}
 use Rattle.verilog_tree.specs.declared.tree.Instance.{Instance}
 use Rattle.verilog_tree.specs.Scope.{Names, Scope, is_known}
 use Rattle.verilog_tree.specs.Rules as rule
-use Rattle.verilog_tree.specs.Facts.{Interface, interface_named, ports_of, outputs, prints_below_top}
+use Rattle.verilog_tree.specs.Facts.{Interface, interface_named}
 use Rattle.verilog_tree.specs.WellFormed.{instance_right}
 
 -- each connection is to a port that takes its signal
@@ -19,11 +19,3 @@ all_connected names = rule.all_right (λ p. is_known names p.name)
 -- the module stands earlier, and the connections are right
 abbrev pub is_right : List Interface → Scope → Instance → Bool
 is_right earlier scope x = instance_right (interface_named earlier x.module_name) (λ ports. rule.connections_right scope ports x.connections)
-
--- what its outputs drive
-abbrev pub driven_by : List Interface → Instance → Names
-driven_by earlier x = outputs (ports_of (interface_named earlier x.module_name)) x.connections
-
--- its module prints, and has an instance among these
-abbrev pub places_again : List Interface → Names → Instance → Bool
-places_again earlier placed x = prints_below_top (interface_named earlier x.module_name) && is_known placed x.module_name

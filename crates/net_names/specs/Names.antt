@@ -26,11 +26,6 @@ item_name (i.Wire x) = x.name ∷ []
 item_name (i.Register x) = x.name ∷ []
 item_name _ = []
 
-abbrev pub is_signal : Item → Bool
-is_signal (i.Wire x) = true
-is_signal (i.Register x) = true
-is_signal _ = false
-
 abbrev pub item_names : List Item → List Name
 item_names items = flat_map item_name items
 

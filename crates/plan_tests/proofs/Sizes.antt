@@ -6,7 +6,7 @@ use Rattle.op_graph.specs.declared.node.Kind.{Kind}
 use Rattle.op_graph.specs.declared.node.Kind.TheVariants.{Simple, Multiply, Divide, Global, Array}
 use Rattle.op_graph.specs.declared.node.Node.{Node}
 use Rattle.op_graph.specs.Graph.{nodes_from, nodes_of, latency_of, kind_at, Fits}
-use Rattle.least_plan.specs.Steps.{AreSoon}
+use Rattle.fsm_plan.specs.Steps.{AreSoon}
 
 length_from : (os : List Operation) (k : ℕ) → length (nodes_from k os) ≡ length os
 length_from [] k = refl

@@ -3,7 +3,7 @@ ghost use Rattle.std.specs.Prelude.{◌^◌, ◌<◌, length};
 
 use crate::small::{PRODUCTS, block};
 use block_ir::block::Block;
-use least_plan::least_starts;
+use fsm_plan::least_starts;
 use op_graph::node::{Kind, nodes};
 use register_binding::{Registers, bind_registers};
 use std::alloc::{AllocError, Global};

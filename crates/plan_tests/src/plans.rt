@@ -4,7 +4,7 @@ use crate::small::Small::{Binary, ReadGlobal, WriteGlobal};
 use crate::small::{PRODUCTS, Small, code};
 use block_ir::plan::{Planned, StagePlan};
 use c_program::tree::BinaryOperator::{Add, Divide, Multiply};
-use least_plan::plan;
+use fsm_plan::plan;
 use std::alloc::{AllocError, Global};
 use std::process::Abort;
 use std::test::Fail;

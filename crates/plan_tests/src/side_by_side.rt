@@ -5,7 +5,7 @@ use crate::small::{Small, code};
 use block_ir::code::ThreadCode;
 use block_ir::plan::{Planned, StagePlan};
 use c_program::tree::BinaryOperator::Multiply;
-use least_plan::{plan, plan_all};
+use fsm_plan::{plan, plan_all};
 use std::alloc::{AllocError, Global};
 use std::process::Abort;
 use std::test::Fail;

@@ -54,7 +54,8 @@ pub record AreChains (blocks : ℕ → ℕ → Block) (plans : ℕ → ℕ → P
   pub short : (f l : ℕ) → (plans f l).states ≤ own_latencies (blocks f l)
   pub holds : (f l : ℕ) → own_latencies (blocks f l) ≤ chain f l
   -- the stage after a stepless block, wherever it leads, is in the chain of that block
-  pub stepless : (f l : ℕ) → 0 < (plans f l).states → (blocks f l).steps ≡ 0 → (value : Operand → ℤ) → own_latencies (blocks f l) + (chain f (leads_to value (blocks f l).next) + spare f (leads_to value (blocks f l).next) 0) ≤ chain f l
+  pub stepless : (f l : ℕ) → 0 < (plans f l).states → (blocks f l).steps ≡ 0 → (value : Operand → ℤ)
+      → own_latencies (blocks f l) + (chain f (leads_to value (blocks f l).next) + spare f (leads_to value (blocks f l).next) 0) ≤ chain f l
   -- the chain of an act has room for that of the stage after it, to which a waiting slot may go on
   pub bounded : (f l : ℕ) → 2 * chain f l + spare f l 0 ≤ 64 * (weight + 1)
 

@@ -22,9 +22,9 @@ use Rattle.bank_partition.specs.Partition.{shapes, IsPartition, HasElements, Are
 use Rattle.bank_partition.proofs.Counting.{count_is}
 use Rattle.bank_cores.specs.declared.bank.Shape.{Shape as Bank}
 use Rattle.thread_promise.specs.Globals.{IsSmallPower, bank_total}
-use Rattle.bank_memory.specs.Partition.{ArePartitioned}
-use Rattle.bank_memory.proofs.Banks.{totals, below_all}
-use Rattle.placed_cores.specs.Kinds.{IsWantedBank}
+use Rattle.law_banks.specs.Partition.{ArePartitioned}
+use Rattle.law_banks.proofs.Banks.{totals, below_all}
+use Rattle.core_places.specs.Kinds.{IsWantedBank}
 use Rattle.program_cores.specs.Banks.{core_shape, core_shapes, IsNamed, AreNamed}
 
 -- ---- few elements, and few banks

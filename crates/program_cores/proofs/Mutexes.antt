@@ -13,7 +13,7 @@ use Rattle.thread_semantics.specs.declared.object.MutexState.TheVariants.{Uninit
 use Rattle.thread_semantics.specs.State.{first_mutex, first_mutexes, start}
 use Rattle.circuit.specs.Rows.{EachOf}
 use Rattle.mutex_cores.specs.declared.mutex.Shape.{Shape}
-use Rattle.net_cycle.specs.Built.{AreMutexes}
+use Rattle.law_cycle.specs.Built.{AreMutexes}
 use Rattle.program_cores.specs.Cores.{object_mutexes, mutex_shapes}
 
 module _ (T : ℕ) where

@@ -7,13 +7,13 @@ use Rattle.c_program.specs.Tree.{Piece, Program}
 use Rattle.c_program.specs.Limits.{print_sites}
 use Rattle.c_program.specs.Resolved.{is_text_byte, IsPiece, IsResolved}
 use Rattle.code_following.specs.Following.{conversions_of, print_formats}
-use Rattle.thread_rooms.specs.Formats.{IsPrinted}
-use Rattle.thread_rooms.proofs.Formats.{program_prints, formats_listed}
+use Rattle.code_storage.specs.Formats.{IsPrinted}
+use Rattle.code_storage.proofs.Formats.{program_prints, formats_listed}
 use Rattle.circuit.specs.Rows.{EachOf}
 use Rattle.print_core.specs.Format.{is_printable, all_printable, values_of, IsPart, IsSite}
 use Rattle.print_core.specs.Printer.{IsShape}
 use Rattle.print_core.specs.declared.format.Part.{Part}
-use Rattle.net_cycle.specs.Built.{conversion_part, part_of}
+use Rattle.law_cycle.specs.Built.{conversion_part, part_of}
 use Rattle.program_cores.specs.Sites.{site_of, sites_of}
 
 swapped : (x y z : Bool) → IsTrue (x || y || z) → (z || (y || x)) ≡ true

@@ -7,11 +7,11 @@ use Rattle.c_program.specs.Limits.{barrier_elements}
 use Rattle.c_program.specs.Weight.{thread_count}
 use Rattle.bank_partition.specs.declared.banks.Spread.{Spread}
 use Rattle.mutex_cores.specs.declared.mutex.Shape.{Shape as MutexShape}
-use Rattle.bank_memory.specs.Partition.{ArePartitioned}
+use Rattle.law_banks.specs.Partition.{ArePartitioned}
 use Rattle.core_family.specs.declared.cores.Cores.{Cores}
-use Rattle.placed_cores.specs.Placing.{placed}
-use Rattle.placed_cores.specs.Kinds.{HaveModules}
-use Rattle.net_cycle.specs.Built.{AreMutexes, IsPrinterOf}
+use Rattle.core_places.specs.Placing.{placed}
+use Rattle.core_places.specs.Kinds.{HaveModules}
+use Rattle.law_cycle.specs.Built.{AreMutexes, IsPrinterOf}
 
 -- a mutex for each element of the objects, free at the start where the object is initialised
 abbrev pub object_mutexes : ℕ → MutexObject → List MutexShape

@@ -1,5 +1,5 @@
 pub mod Banks
 pub mod Cores
 pub mod Sites
-pub use Rattle.net_cycle.specs.Built
-pub use Rattle.placed_cores.specs.Placing
+pub use Rattle.law_cycle.specs.Built
+pub use Rattle.core_places.specs.Placing

@@ -4,7 +4,7 @@ use Rattle.c_program.specs.Tree.{Piece, Statement, Program}
 use Rattle.code_following.specs.Following.{formats_of, print_formats}
 use Rattle.print_core.specs.declared.format.Part.{Part}
 use Rattle.print_core.specs.declared.printer.Shape.{Shape}
-use Rattle.net_cycle.specs.Built.{part_of}
+use Rattle.law_cycle.specs.Built.{part_of}
 
 abbrev pub site_of : List Piece → List Part
 site_of format = map part_of format

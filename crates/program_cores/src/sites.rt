@@ -2,7 +2,7 @@
 
 ghost use Rattle.std.specs.Prelude.{◌≡◌, [], ◌∷◌, ◌++◌, map, IfOk, OnOk};
 ghost use Rattle.c_program.specs.Plain.{piece_of, pieces_of, statement_of, function_of, program_of};
-ghost use Rattle.net_cycle.specs.Built.{part_of};
+ghost use Rattle.law_cycle.specs.Built.{part_of};
 ghost use Rattle.program_cores.specs.Sites.{site_of, sites_in, sites_of};
 
 use c_program::tree::{Piece, Program, Statement};

@@ -12,9 +12,9 @@ use Rattle.block_ir.specs.declared.code.Stage.TheVariants as stage
 use Rattle.block_ir.specs.declared.code.ThreadCode.{ThreadCode}
 use Rattle.block_ir.specs.declared.plan.Planned.{Planned}
 use Rattle.code_following.specs.Typed.{IsTypedCode}
-use Rattle.least_plan.specs.Planned.{IsNumbered, IsNumberedCode, IsPlanned, PlannedIsRight}
-use Rattle.least_plan.specs.Plans as parallel
-use Rattle.routine_plans.specs.Plans.{IsRoutine}
+use Rattle.fsm_plan.specs.Planned.{IsNumbered, IsNumberedCode, IsPlanned, PlannedIsRight}
+use Rattle.fsm_plan.specs.Plans as parallel
+use Rattle.law_routines.specs.Plans.{IsRoutine}
 use Rattle.program_plans.specs.declared.PlannedFunction.{PlannedFunction}
 use Rattle.program_plans.specs.Plans.{IsPlannedFunction, ArePlanned, routine_of, PlannedAreRoutines}
 use Rattle.program_plans.specs.Steps.{function_name, AreCodes, AreZipped}

@@ -5,10 +5,10 @@ use Rattle.c_program.specs.Counting.{capped}
 use Rattle.c_program.specs.Weight.{weight, thread_functions}
 use Rattle.code_following.specs.Typed.{IsThreadCode}
 use Rattle.block_refine.specs.Routines.{RoutineCode}
-use Rattle.block_merge.specs.Maximal.{IsMaximal}
-use Rattle.least_plan.specs.Planned.{IsPlanned}
-use Rattle.routine_plans.specs.Plans.{IsRoutine}
-use Rattle.thread_numbers.specs.Numbers.{name_if}
+use Rattle.code_merge.specs.Maximal.{IsMaximal}
+use Rattle.fsm_plan.specs.Planned.{IsPlanned}
+use Rattle.law_routines.specs.Plans.{IsRoutine}
+use Rattle.program_modules.specs.Numbers.{name_if}
 use Rattle.program_plans.specs.declared.PlannedFunction.{PlannedFunction}
 
 -- the thread function f by its name: its code, whose blocks are maximal, with at most 4 operations in each for each unit of the program's weight,

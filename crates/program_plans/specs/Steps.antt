@@ -6,8 +6,8 @@ use Rattle.c_program.specs.Weight.{weight}
 use Rattle.code_following.specs.Typed.{IsThreadCode}
 use Rattle.block_ir.specs.declared.code.ThreadCode.{ThreadCode}
 use Rattle.block_ir.specs.declared.plan.Planned.{Planned}
-use Rattle.block_merge.specs.Maximal.{IsMaximal}
-use Rattle.thread_numbers.specs.Numbers.{name_if}
+use Rattle.code_merge.specs.Maximal.{IsMaximal}
+use Rattle.program_modules.specs.Numbers.{name_if}
 use Rattle.program_plans.specs.declared.PlannedFunction.{PlannedFunction}
 
 -- the code of the thread function f, with maximal blocks

@@ -7,17 +7,17 @@ ghost use Rattle.c_program.specs.Plain.{program_of};
 ghost use Rattle.c_program.specs.Resolved.{IsResolved};
 ghost use Rattle.c_program.specs.Weight.{thread_functions, weight as weight_of};
 ghost use Rattle.code_following.specs.Typed.{IsThreadCode};
-ghost use Rattle.block_merge.specs.Maximal.{IsMaximal};
+ghost use Rattle.code_merge.specs.Maximal.{IsMaximal};
 ghost use Rattle.program_plans.specs.Steps.{AreCodes};
 
 use block_ir::code::ThreadCode;
-use block_merge::{drop_empty, merge};
 use c_program::threads::weight;
 use c_program::tree::Program;
+use code_blocks::fault::LoweringFault;
+use code_merge::{drop_empty, merge};
 use ir_lower::functions::lower_function;
 use sqlite_items::Items;
 use std::alloc::{AllocError, Global};
-use straight_code::fault::LoweringFault;
 
 /// The code of a thread function, as it is lowered.
 fn lowered(alloc: Global, program: &Program, function: usize) -> Result<ThreadCode, AllocError>

@@ -2,7 +2,7 @@
 
 ghost use Rattle.program_plans.specs.Plans.{PlannedAreRoutines};
 
-use least_plan::law::least_plans;
+use fsm_plan::law::least_plans;
 
 /// The code and the plan of each planned function are what a machine of the program is built of.
 pub fn planned_are_routines()

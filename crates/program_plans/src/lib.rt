@@ -17,7 +17,7 @@ use block_ir::code::ThreadCode;
 use block_ir::plan::Planned;
 use c_program::threads::thread_functions;
 use c_program::tree::Program;
-use least_plan::plan_all;
+use fsm_plan::plan_all;
 use sqlite_items::Items;
 use std::alloc::{AllocError, Global};
 use std::thread::Threads;

@@ -1,4 +1,4 @@
-// Least solutions of systems of difference constraints: the start times of schedules.
+//! Least solutions of systems of difference constraints: the start times of schedules.
 #![tactic(auto)]
 
 pub mod constraint;

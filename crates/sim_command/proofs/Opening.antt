@@ -12,8 +12,8 @@ use Rattle.netlist.specs.NetlistOf.{netlist_of}
 use Rattle.well_formed_net.proofs.Connected.{port_found}
 use Rattle.well_formed_net.proofs.Signals.{range_of}
 use Rattle.cycle_sim.specs.Opened.{IsOpenable}
-use Rattle.top_ports.specs.Top.{IsWanted, IsDone, pref}
-use Rattle.top_ports.specs.Top.IsWanted.{Clock, Done, Enable, Pref}
+use Rattle.verilog_reader.specs.Top.{IsWanted, IsDone, pref}
+use Rattle.verilog_reader.specs.Top.IsWanted.{Clock, Done, Enable, Pref}
 use Rattle.verilog_reader.specs.Faults.{IsSimulated}
 use Rattle.well_formed_net.specs.Openable.{HasTop}
 use Rattle.well_formed_net.proofs.Texts.{openable_text}

@@ -12,7 +12,7 @@ use Rattle.verilog_reader.specs.declared.read.ReadError.{ReadError}
 use Rattle.verilog_reader.specs.declared.read.ReadError.TheVariants as read
 use Rattle.verilog_reader.specs.Faults.{IsRead}
 use Rattle.verilog_reader.specs.Answers.{TellsNotNet, Finds}
-use Rattle.loop_path.specs.First.{IsLoopless}
+use Rattle.sim_loops.specs.First.{IsLoopless}
 use Rattle.sim_command.specs.declared.sim.SimError.{SimError}
 use Rattle.sim_command.specs.Simulated.{IsRun, IsSimulatedRun, IsNetlistOf, Fails, not_read}
 

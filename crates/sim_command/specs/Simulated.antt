@@ -11,8 +11,8 @@ use Rattle.cycle_sim.specs.declared.run.Ran.{Ran}
 use Rattle.verilog_reader.specs.declared.read.ReadError.{ReadError}
 use Rattle.verilog_reader.specs.declared.read.ReadError.TheVariants as read
 use Rattle.verilog_reader.specs.Faults.{IsRead, IsFault}
-use Rattle.loop_path.specs.First.{IsLoopless}
-use Rattle.loop_path.specs.Dotted.{IsLoopPath}
+use Rattle.sim_loops.specs.First.{IsLoopless}
+use Rattle.sim_loops.specs.Dotted.{IsLoopPath}
 use Rattle.sim_command.specs.declared.sim.SimError.{SimError}
 use Rattle.sim_command.specs.declared.sim.SimError.TheVariants as error
 

@@ -3,14 +3,14 @@
 ghost use Rattle.std.specs.Prelude.{◌≡◌, IfOk, IfErr, string_bytes};
 ghost use Rattle.cycle_sim.specs.Opened.{IsOpenable};
 ghost use Rattle.sim_values.specs.Loops.{IsFirstLoop};
-ghost use Rattle.loop_path.specs.Dotted.{IsLoopPath};
+ghost use Rattle.sim_loops.specs.Dotted.{IsLoopPath};
 ghost use Rattle.sim_command.specs.Simulated as spec;
 
 use cycle_sim::run::{Ran, run};
 use cycle_sim::sim::OpenError;
-use loop_path::dotted::loop_path;
 use net_netlist::netlist;
 use netlist::netlist::{Module, Netlist};
+use sim_loops::dotted::loop_path;
 use std::alloc::{AllocError, Global};
 use thiserror::Error;
 use verilog_reader::read::{ReadError, read};

@@ -4,7 +4,7 @@ use Rattle.std.proofs.Common.{slice_index, Option, Some, None, ℤ, refl, sym, a
 use Rattle.std.proofs.lemmas.Bool.{cases_lt, ltb-true, leb-true, eqb-true, not-true, and_from, and_parts, lt-ltb}
 use Rattle.std.proofs.lemmas.Bool.Decides.{nat_tests}
 use Rattle.std.proofs.Math.Bool.{and-false, and-true, or-false}
-use Rattle.planned_view.proofs.Running.{size-view}
+use Rattle.plan_blocks.proofs.Running.{size-view}
 use Rattle.hls_ints.specs.Residues.{bit_of}
 use Rattle.hls_ints.specs.Types.{IntegerType, HasType}
 use Rattle.bank_partition.specs.declared.banks.Spread.{Spread}
@@ -21,7 +21,7 @@ use Rattle.planned_block.specs.Slot.{Slot, is_request, asks, value_now}
 use Rattle.planned_block.specs.Advance.{any_below, answered, is_ready, is_answered}
 use Rattle.planned_block.proofs.Bits.{same_is}
 use Rattle.planned_block.proofs.Advancing.{any_tells, some_tells}
-use Rattle.planned_view.specs.View.{planned_view, plan_view}
+use Rattle.plan_blocks.specs.View.{planned_view, plan_view}
 use Rattle.netlist.specs.declared.netlist.Module.{Module}
 use Rattle.verilog_meaning.specs.Readings.{Reading}
 use Rattle.circuit.specs.Modules.{Obeys}

@@ -6,7 +6,7 @@ use Rattle.std.proofs.lemmas.Option.{slice_get_within}
 use Rattle.std.proofs.Math.Bool.{and-false, or-true}
 use Rattle.std.proofs.lemmas.List.{get_or-append_right, get_or_append_left}
 use Rattle.lists.proofs.Places.{get_there}
-use Rattle.planned_view.proofs.Running.{size-view}
+use Rattle.plan_blocks.proofs.Running.{size-view}
 use Rattle.hls_ints.specs.Residues.{bit_of}
 use Rattle.c_program.specs.declared.tree.BinaryOperator.{BinaryOperator}
 use Rattle.c_program.specs.declared.tree.BinaryOperator.TheVariants as operators
@@ -26,7 +26,7 @@ use Rattle.planned_block.specs.Slot.{Slot}
 use Rattle.planned_block.specs.Advance.{any_below}
 use Rattle.planned_block.specs.Closed.{IsClosed}
 use Rattle.planned_block.proofs.Advancing.{some_tells}
-use Rattle.planned_view.specs.View.{operation_view, binary_kind, planned_view, plan_view}
+use Rattle.plan_blocks.specs.View.{operation_view, binary_kind, planned_view, plan_view}
 use Rattle.netlist.specs.declared.netlist.Module.{Module}
 use Rattle.verilog_meaning.specs.Readings.{Reading, width}
 use Rattle.circuit.specs.Modules.{Obeys}

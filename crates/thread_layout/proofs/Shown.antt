@@ -3,7 +3,7 @@ use Rattle.std.proofs.Common.{◌≡◌, ℕ, zero, suc, ◌+◌, ◌%◌, ◌<�
 use Rattle.std.specs.Prelude.{replicate}
 use Rattle.std.proofs.lemmas.List.{length-replicate}
 use Rattle.std.proofs.lemmas.Option.{slice_get_within}
-use Rattle.planned_view.proofs.Running.{size-view}
+use Rattle.plan_blocks.proofs.Running.{size-view}
 use Rattle.lists.proofs.Places.{get_there}
 use Rattle.hls_ints.specs.Types.{width_of}
 use Rattle.operator_words.proofs.Typed.{residue_of-zero, has_zero}
@@ -19,7 +19,7 @@ use Rattle.block_ir.specs.declared.plan.Planned.{Planned}
 use Rattle.planned_block.specs.Block.{Operation as PlannedOperation, operation_at, size}
 use Rattle.planned_block.specs.Plan.{OfGlobal, target_of}
 use Rattle.planned_block.specs.Slot.{Slot}
-use Rattle.planned_view.specs.View.{operation_view, binary_kind, planned_view}
+use Rattle.plan_blocks.specs.View.{operation_view, binary_kind, planned_view}
 use Rattle.netlist.specs.declared.netlist.Memory.{Memory as Words}
 use Rattle.netlist.specs.declared.netlist.Module.{Module}
 use Rattle.verilog_meaning.specs.Readings.{Reading, initial_reading, initial_word, or_zero}

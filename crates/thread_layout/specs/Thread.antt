@@ -13,7 +13,7 @@ use Rattle.block_ir.specs.declared.code.ThreadCode.{ThreadCode}
 use Rattle.block_ir.specs.declared.plan.BlockPlan.{BlockPlan}
 use Rattle.block_ir.specs.declared.plan.StagePlan.TheVariants as planned
 use Rattle.block_ir.specs.declared.plan.Planned.{Planned}
-use Rattle.planned_view.specs.View.{register_at}
+use Rattle.plan_blocks.specs.View.{register_at}
 use Rattle.netlist.specs.declared.netlist.Module.{Module}
 use Rattle.thread_promise.specs.Slots.{Places}
 use Rattle.thread_promise.specs.Globals.{IsSmallPower, bank_total}

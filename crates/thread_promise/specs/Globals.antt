@@ -4,18 +4,18 @@
 -- Banks have numbers in order of declaration, and of one global by their own: element j of a global with K banks stands in the word j / K of
 -- its bank j mod K.
 use Rattle.std.specs.Prelude.{◌≡◌, ℕ, ◌+◌, ◌/◌, ◌%◌, ◌<◌, ◌≤◌, ◌⊎◌, Bool, true, sum_by, List, Option, Some, None, slice_get, ℤ}
-use Rattle.right_plan.specs.Memory.{Location}
+use Rattle.plan_conditions.specs.Memory.{Location}
 use Rattle.bank_partition.specs.declared.banks.Spread.{Spread}
 use Rattle.bank_partition.specs.Counts.{words_of}
 use Rattle.block_ir.specs.declared.block.Operation.{Operation}
 use Rattle.block_ir.specs.declared.block.Operation.TheVariants.{Unary, Binary, ReadGlobal, WriteGlobal, ReadArray, WriteArray}
 use Rattle.block_ir.specs.declared.block.Block.{Block}
 use Rattle.block_ir.specs.declared.plan.BlockPlan.{BlockPlan}
-use Rattle.right_plan.specs.Block.{operation_at, size, element}
-use Rattle.right_plan.specs.Plan.{OfGlobal, target_of}
-use Rattle.right_plan.specs.Slot.{Slot, operand_now}
-use Rattle.right_plan.specs.Advance.{requests, wires}
-use Rattle.right_plan.specs.View.{planned_view, plan_view}
+use Rattle.plan_conditions.specs.Block.{operation_at, size, element}
+use Rattle.plan_conditions.specs.Plan.{OfGlobal, target_of}
+use Rattle.plan_conditions.specs.Slot.{Slot, operand_now}
+use Rattle.plan_conditions.specs.Advance.{requests, wires}
+use Rattle.plan_conditions.specs.View.{planned_view, plan_view}
 
 -- ---- banks
 

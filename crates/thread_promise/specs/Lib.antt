@@ -4,5 +4,5 @@ pub mod Slots
 pub mod Promise
 pub mod Moves
 pub mod Serving
-pub use Rattle.right_plan.specs.Right
-pub use Rattle.right_plan.specs.View
+pub use Rattle.plan_conditions.specs.Right
+pub use Rattle.plan_conditions.specs.View

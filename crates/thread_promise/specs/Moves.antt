@@ -9,7 +9,7 @@ use Rattle.block_ir.specs.declared.code.Act.TheVariants as act
 use Rattle.block_ir.specs.declared.code.Stage.{Stage}
 use Rattle.block_ir.specs.declared.code.Stage.TheVariants as stage
 use Rattle.block_ir.specs.Asked.{Asked, asked, Numbers, core_of}
-use Rattle.right_plan.specs.Slot.{Slot}
+use Rattle.plan_conditions.specs.Slot.{Slot}
 
 abbrev pub meeting : ℕ → ℕ → ℕ
 meeting n l = n + 1 + l

@@ -12,10 +12,10 @@ use Rattle.block_ir.specs.declared.code.ThreadCode.{ThreadCode}
 use Rattle.block_ir.specs.declared.plan.BlockPlan.{BlockPlan}
 use Rattle.block_ir.specs.declared.plan.StagePlan.TheVariants as planned
 use Rattle.block_ir.specs.declared.plan.Planned.{Planned}
-use Rattle.right_plan.specs.Plan.{KeepsOrders}
-use Rattle.right_plan.specs.Slot.{Slot}
-use Rattle.right_plan.specs.View.{planned_view, plan_view}
-use Rattle.right_plan.specs.Right.{WorksFromRegisters, AreUnitsApart}
+use Rattle.plan_conditions.specs.Plan.{KeepsOrders}
+use Rattle.plan_conditions.specs.Slot.{Slot}
+use Rattle.plan_conditions.specs.View.{planned_view, plan_view}
+use Rattle.plan_conditions.specs.Right.{WorksFromRegisters, AreUnitsApart}
 use Rattle.circuit.specs.Readings.{Reading}
 use Rattle.thread_promise.specs.Types.{IsTypedBlock}
 use Rattle.thread_promise.specs.Globals.{IsAddress, IsAccess}

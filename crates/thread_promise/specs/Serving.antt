@@ -3,7 +3,7 @@
 use Rattle.std.specs.Prelude.{◌≡◌, ◌≢◌, ℕ, suc, ◌+◌, ◌<◌, ◌≤◌, Bool, true, false, List, length, ℤ, Option, Some, None, slice_get, nat_eq}
 use Rattle.hls_ints.specs.Residues.{residue_of, bit_of}
 use Rattle.hls_ints.specs.Types.{IntegerType, HasType, width_of}
-use Rattle.right_plan.specs.Memory.{Memory}
+use Rattle.plan_conditions.specs.Memory.{Memory}
 use Rattle.bank_partition.specs.declared.banks.Spread.{Spread}
 use Rattle.block_ir.specs.declared.block.Block.{Block}
 use Rattle.block_ir.specs.declared.code.Act.{Act}
@@ -14,9 +14,9 @@ use Rattle.block_ir.specs.declared.code.ThreadCode.{ThreadCode}
 use Rattle.block_ir.specs.declared.plan.BlockPlan.{BlockPlan}
 use Rattle.block_ir.specs.declared.plan.Planned.{Planned}
 use Rattle.block_ir.specs.Asked.{act_value, Asked, Numbers, barrier_core, ids_core, printer_core}
-use Rattle.right_plan.specs.Slot.{Slot}
-use Rattle.right_plan.specs.Advance.{is_ready, advance}
-use Rattle.right_plan.specs.View.{planned_view, plan_view}
+use Rattle.plan_conditions.specs.Slot.{Slot}
+use Rattle.plan_conditions.specs.Advance.{is_ready, advance}
+use Rattle.plan_conditions.specs.View.{planned_view, plan_view}
 use Rattle.circuit.specs.Module.{Module}
 use Rattle.circuit.specs.Readings.{Reading, next_reading, initial_reading}
 use Rattle.circuit.specs.Modules.{Obeys, Agree}

@@ -2,16 +2,16 @@
 use Rattle.std.specs.Prelude.{◌≡◌, ℕ, ◌%◌, ◌^◌, ◌<◌, ◌≤◌, Bool, false, List, length, pos, Some, slice_get}
 use Rattle.hls_ints.specs.Residues.{residue_of, bit_of}
 use Rattle.hls_ints.specs.Types.{IntegerType, HasType, width_of}
-use Rattle.right_plan.specs.Memory.{Location}
+use Rattle.plan_conditions.specs.Memory.{Location}
 use Rattle.block_ir.specs.declared.block.Operation.{Operation}
 use Rattle.block_ir.specs.declared.block.Block.{Block}
 use Rattle.block_ir.specs.declared.code.Array.{Array}
 use Rattle.block_ir.specs.declared.code.ThreadCode.{ThreadCode}
 use Rattle.block_ir.specs.declared.plan.BlockPlan.{BlockPlan}
-use Rattle.right_plan.specs.Block.{operation_at, size}
-use Rattle.right_plan.specs.Plan.{OfGlobal, target_of, last_state}
-use Rattle.right_plan.specs.Slot.{Slot}
-use Rattle.right_plan.specs.View.{planned_view, plan_view}
+use Rattle.plan_conditions.specs.Block.{operation_at, size}
+use Rattle.plan_conditions.specs.Plan.{OfGlobal, target_of, last_state}
+use Rattle.plan_conditions.specs.Slot.{Slot}
+use Rattle.plan_conditions.specs.View.{planned_view, plan_view}
 use Rattle.circuit.specs.Readings.{Reading}
 use Rattle.thread_promise.specs.Types.{value_type}
 

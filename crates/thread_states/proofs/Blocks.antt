@@ -24,7 +24,7 @@ use Rattle.circuit.specs.Modules.{Obeys}
 use Rattle.planned_block.specs.Plan.{last_state}
 use Rattle.planned_block.specs.Slot.{Slot, value_now}
 use Rattle.planned_block.proofs.Bits.{other_is}
-use Rattle.planned_view.specs.View.{planned_view, plan_view}
+use Rattle.plan_blocks.specs.View.{planned_view, plan_view}
 use Rattle.operator_wires.specs.Gives.{Grows}
 use Rattle.operator_wires.proofs.Giving.{grows_refl, grows_then}
 use Rattle.thread_promise.specs.Types.{IsTypedOperation}

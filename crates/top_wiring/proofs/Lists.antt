@@ -118,13 +118,6 @@ length-flat_spread f c i (suc n) all =
     let s = suc-mul n c in
     omega arith
 
-pub record IsSpread {B : Type 0} (f : ℕ → List B) (c i n p : ℕ) (y : B) : Type 0 where
-  pub number : ℕ
-  pub few : number < n
-  pub rest : ℕ
-  pub found : slice_get (f (i + number)) rest ≡ Some y
-  pub place : p ≡ number * c + rest
-
 -- ---- where the wires of an instance begin
 
 pub starts_at : (at : ℕ) (ps : List Part) (modules : List Module) (i j : ℕ) (p : Part) → slice_get ps j ≡ Some p

@@ -13,7 +13,7 @@ use Rattle.op_graph.specs.declared.node.Kind.{Kind}
 use Rattle.op_graph.specs.declared.node.Kind.TheVariants.{Multiply, Divide}
 use Rattle.op_graph.specs.Graph.{node_of, nodes_from, nodes_of, no_node, kind_at, same_kind, operator_kind}
 use Rattle.planned_block.specs.Plan.{is_simple}
-use Rattle.planned_view.specs.View.{binary_kind}
+use Rattle.plan_blocks.specs.View.{binary_kind}
 use Rattle.block_ir.specs.declared.operand.Operand.{Operand}
 use Rattle.block_datapath.specs.Units.{same_type, unit_type, has_constant}
 use Rattle.unit_datapath.specs.declared.kinds.UnitKind.{UnitKind}

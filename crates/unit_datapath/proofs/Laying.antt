@@ -14,7 +14,7 @@ use Rattle.block_ir.specs.declared.code.ThreadCode.{ThreadCode}
 use Rattle.block_ir.specs.declared.plan.BlockPlan.{BlockPlan}
 use Rattle.block_ir.specs.declared.plan.Planned.{Planned}
 use Rattle.planned_block.specs.Slot.{Slot, operand_now}
-use Rattle.planned_view.specs.View.{operand_view, planned_view, plan_view}
+use Rattle.plan_blocks.specs.View.{operand_view, planned_view, plan_view}
 use Rattle.operator_words.specs.Shown.{binary_result}
 use Rattle.netlist.specs.declared.netlist.Signal.{Signal}
 use Rattle.netlist.specs.declared.netlist.Module.{Module}

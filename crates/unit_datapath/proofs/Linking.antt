@@ -26,7 +26,7 @@ use Rattle.planned_block.specs.Block.{Operation as PlannedOperation, operand_val
 use Rattle.planned_block.specs.Plan.{further_states, is_simple, last_state}
 use Rattle.planned_block.specs.Slot.{Slot, value_now, operand_now}
 use Rattle.planned_block.proofs.Bits.{same_is, other_is}
-use Rattle.planned_view.specs.View.{operand_view, planned_view, plan_view, register_at}
+use Rattle.plan_blocks.specs.View.{operand_view, planned_view, plan_view, register_at}
 use Rattle.netlist.specs.declared.netlist.Signal.{Signal}
 use Rattle.netlist.specs.declared.netlist.Module.{Module}
 use Rattle.verilog_meaning.specs.Readings.{Reading, width}

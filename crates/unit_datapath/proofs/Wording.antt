@@ -6,7 +6,7 @@ use Rattle.block_ir.specs.declared.operand.Source.TheVariants.{Constant, Variabl
 use Rattle.block_ir.specs.declared.operand.Operand.{Operand}
 use Rattle.block_ir.specs.declared.plan.BlockPlan.{BlockPlan}
 use Rattle.planned_block.specs.Block.{operand_value}
-use Rattle.planned_view.specs.View.{source_view, operand_view, register_at}
+use Rattle.plan_blocks.specs.View.{source_view, operand_view, register_at}
 use Rattle.netlist.specs.declared.netlist.Signal.{Signal}
 use Rattle.verilog_meaning.specs.Readings.{width}
 use Rattle.operator_wires.specs.declared.words.Word.{Word}

@@ -16,8 +16,8 @@ use Rattle.block_ir.specs.declared.plan.Planned.{Planned}
 use Rattle.planned_block.specs.Block.{operand_value}
 use Rattle.planned_block.specs.Plan.{further_states, last_state}
 use Rattle.planned_block.specs.Slot.{Slot, operand_now}
-use Rattle.planned_view.specs.View.{operand_view, operation_view, planned_view, plan_view}
-use Rattle.right_plan.specs.Right.{AreUnitsApart}
+use Rattle.plan_blocks.specs.View.{operand_view, operation_view, planned_view, plan_view}
+use Rattle.plan_conditions.specs.Right.{AreUnitsApart}
 use Rattle.netlist.specs.declared.netlist.Signal.{Signal}
 use Rattle.netlist.specs.declared.netlist.Module.{Module}
 use Rattle.verilog_meaning.specs.Readings.{Reading, width}

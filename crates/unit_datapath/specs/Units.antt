@@ -14,7 +14,7 @@ use Rattle.block_ir.specs.declared.plan.StagePlan.TheVariants as planned
 use Rattle.block_ir.specs.declared.plan.Planned.{Planned}
 use Rattle.planned_block.specs.Plan.{last_state}
 use Rattle.planned_block.specs.Slot.{Slot, operand_now}
-use Rattle.planned_view.specs.View.{operand_view, planned_view, plan_view}
+use Rattle.plan_blocks.specs.View.{operand_view, planned_view, plan_view}
 use Rattle.netlist.specs.declared.netlist.Signal.{Signal}
 use Rattle.netlist.specs.declared.netlist.Module.{Module}
 use Rattle.verilog_meaning.specs.Readings.{Reading}

@@ -19,8 +19,8 @@ use Rattle.net_check.specs.declared.fault.NetPart.TheVariants as net
 use Rattle.net_check.specs.Breaks.{StandsBefore, GoesBefore, IsFirstBroken}
 use Rattle.net_check.proofs.Rules.{not_empty}
 use Rattle.net_check.proofs.Found.{breaks_none}
-use Rattle.top_ports.specs.Top.{top, IsWanted}
-use Rattle.top_ports.specs.Ports.{IsUnwantedOf, has_ports}
+use Rattle.verilog_reader.specs.Top.{top, IsWanted}
+use Rattle.verilog_reader.specs.Ports.{IsUnwantedOf, has_ports}
 use Rattle.verilog_reader.specs.declared.read.Place.{Place}
 use Rattle.verilog_reader.specs.declared.read.Place.TheVariants as place
 use Rattle.verilog_reader.specs.Faults.{IsTopAt, IsRunnable, IsSimulated, IsWrong, Broken, Unwanted, IsFirstWrong, NoneWrong}

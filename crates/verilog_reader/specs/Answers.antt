@@ -11,8 +11,8 @@ use Rattle.net_check.specs.declared.fault.ModulePart.TheVariants as part
 use Rattle.net_check.specs.declared.fault.NetPart.{NetPart}
 use Rattle.net_check.specs.declared.fault.NetPart.TheVariants as net
 use Rattle.net_check.specs.Breaks.{IsFirstBroken}
-use Rattle.top_ports.specs.Top.{top}
-use Rattle.top_ports.specs.Ports.{has_ports}
+use Rattle.verilog_reader.specs.Top.{top}
+use Rattle.verilog_reader.specs.Ports.{has_ports}
 use Rattle.verilog_reader.specs.Before.{before}
 use Rattle.verilog_lexer.specs.declared.tokens.Lexed.{Lexed}
 use Rattle.verilog_reader.specs.declared.read.ReadError.{ReadError}

@@ -9,7 +9,7 @@ use Rattle.verilog_tree.specs.Grammar as g
 use Rattle.verilog_tree.specs.Reads.{Reads}
 use Rattle.verilog_tree.specs.Rules.{has_port}
 use Rattle.verilog_tree.specs.WellFormed.{IsWellFormed}
-use Rattle.top_ports.specs.Top.{top, IsWanted}
+use Rattle.verilog_reader.specs.Top.{top, IsWanted}
 use Rattle.verilog_reader.specs.Before.{before_name, before_port, before_item, before}
 use Rattle.verilog_rules.specs.Leads.{LeadsTo, IsSyntaxFault}
 use Rattle.net_check.specs.declared.fault.ModulePart.{ModulePart}

@@ -4,3 +4,4 @@
 mod counts;
 mod parts;
 pub mod read;
+pub mod top;

@@ -29,7 +29,7 @@ use Rattle.well_formed_net.proofs.Connected.{is_port_kind, port_of}
 use Rattle.well_formed_net.proofs.Modules.{fits_of_well_formed, modules_are, signals_are, signal_at, input_kind}
 use Rattle.well_formed_net.proofs.Prints.{modules_apart, told_there, name_is}
 use Rattle.well_formed_net.proofs.Texts.{named_module}
-use Rattle.top_ports.specs.Top.{IsWanted, Clock, Done, Enable, Pref, pref}
+use Rattle.verilog_reader.specs.Top.{IsWanted, Clock, Done, Enable, Pref, pref}
 use Rattle.verilog_reader.specs.Faults.{IsRunnable, IsSimulated, IsTopAt}
 use Rattle.well_formed_net.specs.ReadAgain.{IsReadAgain}
 

@@ -1,6 +1,6 @@
 use Rattle.std.proofs.Common.{subst, sym}
 use Rattle.c_program.specs.Plain.{program_of}
-use Rattle.thread_bodies.specs.Plans.{ArePlanned}
+use Rattle.program_bodies.specs.Plans.{ArePlanned}
 use Rattle.hls_compile.specs.Plans.{RunPlanned}
 use Rattle.hls_compile.proofs.Making.{few_threads}
 use Rattle.hls_compile.proofs.compile.Goals as goal

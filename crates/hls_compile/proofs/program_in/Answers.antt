@@ -1,5 +1,5 @@
 use Rattle.c_program.specs.Plain.{program_of}
-use Rattle.resolved_program.proofs.AcceptedLaws.{resolved_law}
+use Rattle.c_resolved_program.proofs.AcceptedLaws.{resolved_law}
 use Rattle.hls_compile.proofs.program_in.Goals as goal
 
 pub returns-in-Ok-clause-resolved : goal.returns-in-Ok-clause-resolved

@@ -2,7 +2,7 @@ use Rattle.std.proofs.Common.{List, ℕ, sym, ◌∙◌, subst}
 use Rattle.std.proofs.lemmas.Result.{IfOk-weaker}
 use Rattle.c_program.specs.Plain.{program_of}
 use Rattle.block_ir.specs.declared.code.ThreadCode.{ThreadCode}
-use Rattle.least_plan.specs.Plans as parallel
+use Rattle.fsm_plan.specs.Plans as parallel
 use Rattle.program_plans.specs.Steps.{AreCodes, AreZipped}
 use Rattle.program_plans.proofs.Following.{codes_count}
 use Rattle.program_plans.proofs.Planning.{plans_count, are_planned}

@@ -1,5 +1,5 @@
 use Rattle.std.proofs.Common.{◌≡◌, fold, take}
-use Rattle.call_graph.specs.Reaching.{leads}
+use Rattle.c_call_graph.specs.Reaching.{leads}
 use Rattle.c_resolution.specs.CallRules.{with_call}
 use Rattle.c_types.proofs.calls.with_calls.Given as goal
 

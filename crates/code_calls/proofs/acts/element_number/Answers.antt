@@ -6,8 +6,8 @@ use Rattle.hls_ints.specs.Types.{long_int}
 use Rattle.block_ir.specs.declared.operand.Source.TheVariants.{Constant as FromConstant}
 use Rattle.c_program.specs.Plain.{expression_of}
 use Rattle.c_program.specs.Weight.{expression_weight}
-use Rattle.straight_code.specs.Needs.{plain}
-use Rattle.straight_code.proofs.Room.{full_more}
+use Rattle.code_blocks.specs.Needs.{plain}
+use Rattle.code_blocks.proofs.Room.{full_more}
 use Rattle.code_calls.proofs.Preparing.{element_evaluates}
 use Rattle.code_calls.proofs.acts.element_number.Goals as goal
 

@@ -3,7 +3,7 @@ use Rattle.std.proofs.lemmas.Result.{err_from_is_err_and}
 use Rattle.c_program.specs.Plain.{expression_of, object_place_of}
 use Rattle.c_program.specs.Tree.{ObjectPlace}
 use Rattle.c_program.specs.Weight.{expression_weight, object_place_weight}
-use Rattle.straight_code.proofs.Room.{full_more}
+use Rattle.code_blocks.proofs.Room.{full_more}
 use Rattle.code_calls.specs.Acts.{number_expression}
 use Rattle.code_calls.proofs.Preparing.{number_none, number_put, puts_word}
 use Rattle.code_calls.proofs.acts.lower_object.Goals as goal

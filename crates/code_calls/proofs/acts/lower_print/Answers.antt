@@ -5,10 +5,10 @@ use Rattle.code_places.specs.declared.lowering.Lowering.{Lowering}
 use Rattle.code_places.proofs.Proceeding.{acts_proceed}
 use Rattle.c_program.specs.Plain.{expression_of, expressions_of, pieces_of}
 use Rattle.c_program.specs.Weight.{expressions_weight}
-use Rattle.straight_code.specs.declared.open_block.OpenBlock.{OpenBlock}
-use Rattle.straight_code.specs.Printing.{word_operands, PutsValues}
-use Rattle.straight_code.specs.Typing.{WorksOnValues}
-use Rattle.straight_code.proofs.Room.{full_more}
+use Rattle.code_blocks.specs.declared.open_block.OpenBlock.{OpenBlock}
+use Rattle.code_blocks.specs.Printing.{word_operands, PutsValues}
+use Rattle.code_blocks.specs.Typing.{WorksOnValues}
+use Rattle.code_blocks.proofs.Room.{full_more}
 use Rattle.code_calls.proofs.Acting.{print_leads}
 use Rattle.code_calls.proofs.acts.lower_print.Goals as goal
 

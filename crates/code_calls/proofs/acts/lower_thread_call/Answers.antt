@@ -2,8 +2,8 @@ use Rattle.std.proofs.Common.{◌+◌, ◌*◌, length, refl, ap, subst, arith}
 use Rattle.std.proofs.lemmas.Result.{err_from_is_err_and}
 use Rattle.c_program.specs.Plain.{thread_call_of}
 use Rattle.c_program.specs.Weight.{thread_call_weight}
-use Rattle.straight_code.proofs.Room.{full_more}
-use Rattle.straight_code.specs.declared.open_block.OpenBlock.{OpenBlock}
+use Rattle.code_blocks.proofs.Room.{full_more}
+use Rattle.code_blocks.specs.declared.open_block.OpenBlock.{OpenBlock}
 use Rattle.code_places.proofs.Proceeding.{acts_proceed}
 use Rattle.code_calls.specs.Acts.{PreparesCall, WorksOnCall}
 use Rattle.code_calls.proofs.Performing.{thread_leads}

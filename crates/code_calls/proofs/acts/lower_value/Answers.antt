@@ -3,7 +3,7 @@ use Rattle.std.proofs.lemmas.List.Sums.{sum_by-cons}
 use Rattle.std.proofs.lemmas.Result.{err_from_is_err_and}
 use Rattle.c_program.specs.Plain.{expression_of, thread_call_of}
 use Rattle.c_program.specs.Weight.{expression_weight, expressions_weight, thread_call_weight}
-use Rattle.straight_code.proofs.Room.{full_more}
+use Rattle.code_blocks.proofs.Room.{full_more}
 use Rattle.code_calls.specs.Acts.{values_of}
 use Rattle.code_calls.proofs.Preparing.{none_put, value_put, puts_word}
 use Rattle.code_calls.proofs.Typed.{weight_is}

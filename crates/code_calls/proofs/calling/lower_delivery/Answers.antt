@@ -4,13 +4,13 @@ use Rattle.std.proofs.lemmas.Result.{on_ok_weaker, IfErr-weaker, err_from_is_err
 use Rattle.hls_ints.specs.Types.{long_int}
 use Rattle.c_program.specs.Plain.{place_of}
 use Rattle.c_program.specs.Weight.{place_weight}
-use Rattle.straight_code.specs.declared.open_block.OpenBlock.{OpenBlock}
-use Rattle.straight_code.specs.Assigning.{Places}
-use Rattle.straight_code.specs.Evaluating.{current_operand}
-use Rattle.straight_code.proofs.Room.{full_more}
-use Rattle.straight_code.proofs.Steps.{located}
-use Rattle.straight_code.proofs.Stores.{store_steps}
-use Rattle.straight_code.proofs.Working.{place_count}
+use Rattle.code_blocks.specs.declared.open_block.OpenBlock.{OpenBlock}
+use Rattle.code_blocks.specs.Assigning.{Places}
+use Rattle.code_blocks.specs.Evaluating.{current_operand}
+use Rattle.code_blocks.proofs.Room.{full_more}
+use Rattle.code_blocks.proofs.Steps.{located}
+use Rattle.code_blocks.proofs.Stores.{store_steps}
+use Rattle.code_blocks.proofs.Working.{place_count}
 use Rattle.code_calls.proofs.calling.lower_delivery.Goals as goal
 
 pub returns : goal.returns

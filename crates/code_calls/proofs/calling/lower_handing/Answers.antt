@@ -2,8 +2,8 @@ use Rattle.std.proofs.Common.{◌+◌, length, inl, inr, ap, ◌∙◌, subst, a
 use Rattle.std.proofs.lemmas.Result.{on_ok_weaker, err_from_is_err_and}
 use Rattle.std.specs.Prelude.{slice_get}
 use Rattle.hls_ints.specs.Types.{long_int}
-use Rattle.straight_code.specs.Evaluating.{current_operand}
-use Rattle.straight_code.proofs.Room.{full_more}
+use Rattle.code_blocks.specs.Evaluating.{current_operand}
+use Rattle.code_blocks.proofs.Room.{full_more}
 use Rattle.code_places.specs.Doing.{IsBackTarget}
 use Rattle.code_calls.proofs.calling.lower_handing.Goals as goal
 

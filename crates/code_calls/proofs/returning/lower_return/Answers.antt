@@ -2,8 +2,8 @@ use Rattle.std.proofs.Common.{◌+◌, ◌*◌, length, refl, ap, subst, arith}
 use Rattle.std.proofs.lemmas.Result.{on_ok_weaker, IfErr-weaker, err_from_is_err_and}
 use Rattle.c_program.specs.Plain.{expression_of}
 use Rattle.c_program.specs.Weight.{expression_weight}
-use Rattle.straight_code.specs.declared.open_block.OpenBlock.{OpenBlock}
-use Rattle.straight_code.proofs.Room.{full_more}
+use Rattle.code_blocks.specs.declared.open_block.OpenBlock.{OpenBlock}
+use Rattle.code_blocks.proofs.Room.{full_more}
 use Rattle.code_places.specs.Doing.{IsBackTarget}
 use Rattle.code_calls.proofs.Backing.{end_return_at, return_at}
 use Rattle.code_places.proofs.Proceeding.{call_proceeds}

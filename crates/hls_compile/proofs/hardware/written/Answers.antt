@@ -3,7 +3,7 @@ use Rattle.std.proofs.lemmas.Result.{IfOk-weaker}
 use Rattle.c_program.specs.Plain.{program_of}
 use Rattle.bank_partition.specs.declared.banks.Spread.{Spread}
 use Rattle.program_cores.specs.Cores.{AreCoresOf}
-use Rattle.table_text.specs.Written.{FitsTable, IsTextOf}
+use Rattle.net_emitter.specs.Written.{FitsTable, IsTextOf}
 use Rattle.hls_compile.proofs.Making.{IsMade, fits, is_good, run_planned}
 use Rattle.hls_compile.proofs.hardware.written.Goals as goal
 

@@ -3,7 +3,7 @@ use Rattle.std.proofs.lemmas.Result.{err_from_is_err_and}
 use Rattle.std.specs.Prelude.{slice_get, string_bytes}
 use Rattle.c_program.specs.Plain.{function_of, program_of}
 use Rattle.code_places.specs.Doing.{IsNew, IsFinished}
-use Rattle.thread_rooms.specs.Values.{all_values}
+use Rattle.code_storage.specs.Values.{all_values}
 use Rattle.ir_lower.proofs.Ample.{body_full, counted_function, function_ample, variables_few, no_function}
 use Rattle.ir_lower.proofs.Proceeding.{taken_body, start_back, ended_fit, ended_first}
 use Rattle.ir_lower.proofs.Untaken.{all_taken}

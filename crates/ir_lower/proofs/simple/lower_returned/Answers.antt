@@ -3,7 +3,7 @@ use Rattle.std.proofs.lemmas.Result.{on_ok_weaker, IfErr-weaker}
 use Rattle.c_program.specs.Plain.{expression_of, returned_of, right_side_of}
 use Rattle.c_program.specs.Tree.{RightSide, Statement}
 use Rattle.c_program.specs.Weight.{expression_weight, returned_weight}
-use Rattle.straight_code.proofs.Room.{full_more}
+use Rattle.code_blocks.proofs.Room.{full_more}
 use Rattle.code_calls.proofs.Backing.{empty_return_at}
 use Rattle.code_calls.proofs.Proceeding.{nothing_proceeds}
 use Rattle.ir_lower.proofs.Stepping.{lowers_is}

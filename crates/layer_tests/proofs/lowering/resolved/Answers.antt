@@ -1,5 +1,5 @@
 use Rattle.c_program.specs.Plain.{program_of}
-use Rattle.resolved_program.proofs.AcceptedLaws.{resolved_law}
+use Rattle.c_resolved_program.proofs.AcceptedLaws.{resolved_law}
 use Rattle.layer_tests.proofs.lowering.resolved.Goals as goal
 
 pub returns : goal.returns

@@ -1,5 +1,5 @@
 use Rattle.c_program.specs.Plain.{program_of}
-use Rattle.resolved_program.proofs.AcceptedLaws.{resolved_law}
+use Rattle.c_resolved_program.proofs.AcceptedLaws.{resolved_law}
 use Rattle.layer_tests.proofs.programs.plans_all.Goals as goal
 
 pub plan_functions-requires-clause-resolved : goal.plan_functions-requires-clause-resolved

@@ -1,8 +1,8 @@
 use Rattle.std.proofs.Common.{◌≡◌, ◌+◌, ◌<◌, ◌≤◌, ◌^◌, ◌∙◌, ap, length, List, arith}
 use Rattle.op_graph.specs.declared.node.Node.{Node}
 use Rattle.op_graph.specs.Graph.{nodes_of}
-use Rattle.least_plan.specs.Planned.{AreLeastStarts}
-use Rattle.least_plan.specs.Steps.{AreSoon}
+use Rattle.fsm_plan.specs.Planned.{AreLeastStarts}
+use Rattle.fsm_plan.specs.Steps.{AreSoon}
 use Rattle.plan_tests.proofs.Sizes.{length_nodes, fits}
 use Rattle.plan_tests.proofs.bindings.is_bound.Goals as goal
 

@@ -2,7 +2,7 @@ use Rattle.std.proofs.Common.{ℕ, ◌*◌, [], get_or, sym, subst}
 use Rattle.std.specs.Prelude.{Contains}
 use Rattle.std.proofs.lemmas.List.Elements.{Contains-get_or}
 use Rattle.c_program.specs.Plain.{program_of}
-use Rattle.block_merge.specs.Maximal.{IsMaximal}
+use Rattle.code_merge.specs.Maximal.{IsMaximal}
 use Rattle.program_plans.specs.Steps.{AreCodes}
 use Rattle.program_plans.proofs.Following.{codes_next, codes_whole}
 use Rattle.program_plans.proofs.codes.codes.Goals as goal

@@ -8,5 +8,6 @@ abbrev pub invariant-loop-place : goal.invariant-loop-place
 invariant-loop-place l = record {
   long : length l.numbers ≡ length l.next;
   same : (y : ℕ) → y < l.place → slice_index l.numbers y ≡ slice_index l.next y;
-  keeping : (modules : List Module) (steps : List Step) → IsKeeping modules steps l.fanout.starts.items l.fanout.steps.items l.initial.numbers l.initial.pending.items → IsKeeping modules steps l.fanout.starts.items l.fanout.steps.items l.numbers l.pending.items;
+  keeping : (modules : List Module) (steps : List Step) → IsKeeping modules steps l.fanout.starts.items l.fanout.steps.items l.initial.numbers
+      l.initial.pending.items → IsKeeping modules steps l.fanout.starts.items l.fanout.steps.items l.numbers l.pending.items;
 }

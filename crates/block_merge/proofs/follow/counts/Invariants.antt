@@ -1,6 +1,0 @@
-use Rattle.std.proofs.Common.{take, length}
-use Rattle.block_merge.proofs.Counted.{Tallied}
-use Rattle.block_merge.proofs.follow.counts.Given as goal
-
-abbrev pub invariant-loop-stage : goal.invariant-loop-stage
-invariant-loop-stage l = Tallied (length l.stages) (take l.stage-index l.stages) l.counts

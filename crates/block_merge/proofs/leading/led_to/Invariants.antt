@@ -1,6 +1,0 @@
-use Rattle.std.proofs.Common.{take, length}
-use Rattle.block_merge.proofs.Marks.{Marked}
-use Rattle.block_merge.proofs.leading.led_to.Given as goal
-
-abbrev pub invariant-loop-stage : goal.invariant-loop-stage
-invariant-loop-stage l = Marked (length l.stages) (take l.stage-index l.stages) l.led

@@ -1,5 +1,0 @@
-use Rattle.block_merge.specs.Dropping as steps
-use Rattle.block_merge.proofs.leading.none.Given as goal
-
-abbrev pub invariant-loop-done : goal.invariant-loop-done
-invariant-loop-done l = steps.AreUnset l.done l.none

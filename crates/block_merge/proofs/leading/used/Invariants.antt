@@ -1,6 +1,0 @@
-use Rattle.std.proofs.Common.{◌≡◌, take}
-use Rattle.block_merge.specs.Used as spec
-use Rattle.block_merge.proofs.leading.used.Given as goal
-
-abbrev pub invariant-loop-at : goal.invariant-loop-at
-invariant-loop-at l = l.used ≡ spec.used_from l.fn.stages 0 (take l.at l.fn.stages)

@@ -1,5 +1,0 @@
-use Rattle.block_merge.specs.Steps.{IsReady, Merges}
-use Rattle.block_merge.proofs.merger.Merger.extend_heads.Given as goal
-
-abbrev pub invariant-loop-first : goal.invariant-loop-first
-invariant-loop-first l = record { merges : Merges l.fn.self l.self; ready : IsReady l.self }

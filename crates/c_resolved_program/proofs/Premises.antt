@@ -1,0 +1,100 @@
+-- The two premises of the law of programs that trees spell, for the tree of a text's tokens.
+use Rattle.std.proofs.Common.{◌≡◌, refl, sym, ap, subst, ◌∙◌, ℕ, suc, ◌+◌, ◌<◌, ◌≤◌, List, [], ◌∷◌, length, Option, Some, None, arith}
+use Rattle.std.specs.Prelude.{◌^◌, fold, slice_get}
+use Rattle.std.specs.List.{AllByRecursion}
+use Rattle.std.proofs.lemmas.List.{length-set}
+use Rattle.c_token.specs.declared.token.Token.{Token}
+use Rattle.grammar.specs.Rules.{Placed}
+use Rattle.grammar.specs.Sentences.{plain, SentenceWithin}
+use Rattle.c_tree.specs.declared.declaration.ExternalDeclaration.{ExternalDeclaration}
+use Rattle.c_tree.specs.declared.declaration.TranslationUnit.{TranslationUnit}
+use Rattle.c_tree.specs.Declarations.{unit}
+use Rattle.c_program.specs.declared.tree.ThreadObject.{ThreadObject}
+use Rattle.c_program.specs.Tree.{Function, Program}
+use Rattle.c_rules.specs.declared.fault.Fault.{Fault}
+use Rattle.c_rules.specs.declared.findings.Creation.{Creation}
+use Rattle.c_rules.specs.Walks.{Outcome}
+use Rattle.c_resolution.specs.Files.{File}
+use Rattle.c_resolution.specs.Texts.{declarations}
+use Rattle.c_resolution.specs.Routines as y
+use Rattle.c_resolution.specs.Resolving.{Spells, before, behind, program_at}
+use Rattle.c_resolved_program.specs.Leaves.{HasValidLeaves}
+use Rattle.c_resolved_program.specs.Laws.{IsNumbered}
+use Rattle.c_resolved_program.proofs.ValidSentences.{AreValid}
+use Rattle.c_resolved_program.proofs.Tokens.{IsValidToken}
+use Rattle.c_resolved_program.proofs.Texts.{AreTokens, AreFew}
+use Rattle.c_resolved_program.proofs.FileCounts.{IsSmall}
+use Rattle.c_resolved_program.proofs.DeclarationLeaves.{IsUnit, unit_gives}
+
+-- ---- the tokens with their nesting
+
+placed_are : (placed : List (Placed Token)) → AreTokens (plain placed) → AreValid IsValidToken placed
+placed_are [] all = tt
+placed_are (x ∷ placed) all = (all.0, placed_are placed all.1)
+
+plain_length : (placed : List (Placed Token)) → length (plain placed) ≡ length placed
+plain_length [] = refl
+plain_length (x ∷ placed) = ap suc (plain_length placed)
+
+-- a tree of so many tokens
+pub record IsFewTokens (tree : TranslationUnit) : Type 0 where
+  pub tokens : ℕ
+  pub few : tokens ≤ 16385
+  pub unit : IsUnit tokens tree
+
+pub of_sentence : (ts : List Token) (tree : TranslationUnit) → AreFew ts → SentenceWithin unit 64 ts tree → IsFewTokens tree
+of_sentence ts tree few h =
+    let placed : List (Placed Token) = h.0 in
+    record {
+      tokens = length placed;
+      few = omega (arith, few.count, ap length h.1, plain_length placed);
+      unit = (unit_gives h.2.0).gives 0 placed tree h.2.1 (placed_are placed (subst AreTokens (sym h.1) few.valid));
+    }
+
+pub valid_leaves : (tree : TranslationUnit) → IsFewTokens tree → HasValidLeaves tree
+valid_leaves tree h = h.unit.0
+
+-- ---- numbers
+
+small_at_start : (list : List ExternalDeclaration) → IsSmall 0 0 (before list)
+small_at_start list = record {
+  tables = record { functions = omega arith; locals = tt; globals = omega arith; threads = omega arith; mutexes = omega arith; barriers = omega arith };
+  locals = omega arith;
+}
+
+small_behind : (tree : TranslationUnit) (h : IsFewTokens tree) → IsSmall (0 + h.tokens) 0 (behind tree.declarations)
+unfolding behind declarations
+small_behind tree h = h.unit.1 0 (Outcome.Gives tt (before tree.declarations)) (small_at_start tree.declarations)
+
+given_to_length : (c : Creation) (object : ThreadObject) (o : Option ℕ) (threads : List ThreadObject) → length (y.given_to c object o threads).0 ≡ length threads
+given_to_length c object None threads = length-set threads c.thread (record { length = object.length; routine = Some c.routine })
+given_to_length c object (Some routine) threads = refl
+
+given_at_length : (c : Creation) (o : Option ThreadObject) (threads : List ThreadObject) → length (y.given_at c o threads).0 ≡ length threads
+given_at_length c None threads = refl
+given_at_length c (Some object) threads = given_to_length c object object.routine threads
+
+all_given_length : (list : List Creation) (threads : List ThreadObject) (fault : Option Fault) → length (fold y.next_given (threads, fault) list).0 ≡ length threads
+all_given_length [] threads fault = refl
+all_given_length (c ∷ list) threads fault =
+    let next : y.Given = y.next_given (threads, fault) c in
+    all_given_length list next.0 next.1 ∙ given_at_length c (slice_get threads c.thread) threads
+
+all_less : (m n : ℕ) → m < n → (list : List Function) → AllByRecursion (λ (f : Function). length f.locals ≤ m) list → AllByRecursion (λ (f : Function). length f.locals < n) list
+all_less m n l [] all = tt
+all_less m n l (f ∷ list) all = (omega (arith, all.0, l), all_less m n l list all.1)
+
+program_numbered : (x : File) (main n : ℕ) → n < 2 ^ 32 → IsSmall n 0 x → IsNumbered (program_at x main)
+program_numbered x main n le h = record {
+  functions = omega (arith, h.tables.functions, le);
+  locals = all_less n (2 ^ 32) le x.tables.functions h.tables.locals;
+  globals = omega (arith, h.tables.globals, le);
+  threads = omega (arith, h.tables.threads, le, all_given_length x.found.creations x.tables.threads None);
+  mutexes = omega (arith, h.tables.mutexes, le);
+  barriers = omega (arith, h.tables.barriers, le);
+}
+
+pub numbered : (tree : TranslationUnit) (P : Program) → IsFewTokens tree → Spells tree P → IsNumbered P
+numbered tree P h spelled =
+    subst IsNumbered (sym spelled.program)
+    (program_numbered (behind tree.declarations) spelled.main (0 + h.tokens) (omega (arith, h.few)) (small_behind tree h))

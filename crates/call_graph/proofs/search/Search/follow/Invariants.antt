@@ -1,6 +1,0 @@
-use Rattle.std.proofs.Common.{◌≡◌, take}
-use Rattle.call_graph.specs.Graphs.{following}
-use Rattle.call_graph.proofs.search.Search.follow.Given as goal
-
-abbrev pub invariant-loop-callee : goal.invariant-loop-callee
-invariant-loop-callee l = l.self ≡ following l.initial.self (take l.callee-index l.callees)

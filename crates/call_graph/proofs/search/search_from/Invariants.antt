@@ -1,6 +1,0 @@
-use Rattle.std.proofs.Common.{◌≡◌}
-use Rattle.call_graph.specs.Graphs.{turns}
-use Rattle.call_graph.proofs.search.search_from.Given as goal
-
-abbrev pub invariant-loop-index : goal.invariant-loop-index
-invariant-loop-index l = l.search ≡ turns l.rows l.root l.index

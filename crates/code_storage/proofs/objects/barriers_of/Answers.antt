@@ -1,0 +1,9 @@
+use Rattle.c_program.specs.declared.tree.BarrierObject.{BarrierObject}
+use Rattle.code_storage.proofs.Counting.{one_counted}
+use Rattle.code_storage.proofs.objects.barriers_of.Goals as goal
+
+pub loop-object-preserved : goal.loop-object-preserved
+loop-object-preserved c =
+    one_counted 0 (λ (a : BarrierObject). a.length) c.args.barriers.now c.loop-object.object-index _ c.loop-object.numbers
+    c.push_object.new.numbers c.loop-object.next _ c.loop-object.invariant c.loop-object-test.true
+    c.in_ok-next.ensures.numbers c.in_ok-next.ensures.sum c.in_ok-next.ensures.few

@@ -1,0 +1,5 @@
+use Rattle.core_places.proofs.Placing as placing
+use Rattle.core_places.proofs.cores_are_placed.Goals as goal
+
+pub returns : goal.returns
+returns c = placing.cores_are_placed

@@ -1,0 +1,6 @@
+-- The law stands in proofs/Finding.
+use Rattle.law_banks.proofs.Finding.{stopped_is_silent}
+use Rattle.law_banks.proofs.stopped_asks_nothing.Goals as goal
+
+pub returns : goal.returns
+returns c = stopped_is_silent

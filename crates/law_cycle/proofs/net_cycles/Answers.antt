@@ -1,0 +1,6 @@
+-- The law stands in proofs/Cycling.
+use Rattle.law_cycle.proofs.Cycling.{net_cycles}
+use Rattle.law_cycle.proofs.net_cycles.Goals as goal
+
+pub returns : goal.returns
+returns c = net_cycles

@@ -1,0 +1,5 @@
+use Rattle.law_cycle.proofs.Asking.{thread_asks}
+use Rattle.law_cycle.proofs.thread_asks.Goals as goal
+
+pub returns : goal.returns
+returns c = record { asks = thread_asks }

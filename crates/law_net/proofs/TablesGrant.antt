@@ -1,0 +1,105 @@
+-- The net of a whole table obeys the laws of grants.
+use Rattle.std.proofs.Common.{◌≡◌, ℕ, ◌+◌, ◌<◌, [], ◌∷◌, length, Some, codes, true, refl, sym, ap, ◌∙◌, subst}
+use Rattle.std.proofs.lemmas.Option.{same_Some}
+use Rattle.netlist.specs.declared.netlist.Instance.{Instance}
+use Rattle.netlist.specs.declared.netlist.Module.{Module}
+use Rattle.netlist.specs.declared.netlist.Netlist.{Netlist}
+use Rattle.verilog_meaning.specs.Names.{numbered, IsInstance}
+use Rattle.verilog_meaning.specs.Cycles.{module_at}
+use Rattle.circuit.specs.Rows.{EachOf}
+use Rattle.circuit.specs.Modules.{FitsAction}
+use Rattle.circuit.specs.Machines.{CoreMachine, ThreadMachine}
+use Rattle.circuit.specs.Wiring.{NetPlaces}
+use Rattle.top_wiring.specs.Parts as top_parts
+use Rattle.top_wiring.specs.Ports.{threads, cores}
+use Rattle.top_wiring.specs.Top.{starts, arbiter_instance}
+use Rattle.top_wiring.specs.Wired.{IsWired}
+use Rattle.top_wiring.proofs.Standing as standing
+use Rattle.leaf_machine.specs.Leaves.{LeafPorts, leaf_thread, leaf_places}
+use Rattle.core_tables.specs.Family.{machine_at}
+use Rattle.core_tables.specs.Tables.{Table, layout_of, modules_of, shapes_of}
+use Rattle.core_tables.specs.Whole.{IsWholeTable, AreThreads, places_of}
+use Rattle.core_tables.specs.Nets.{IsNetOfTable}
+use Rattle.core_tables.proofs.Netting.{tables_are_nets}
+use Rattle.law_net.specs.Steady.{IsSteady}
+use Rattle.law_net.specs.Threaded.{AreSteady}
+use Rattle.law_net.proofs.TablesAreThreaded.{is_steady}
+use Rattle.law_net.specs.Grants.{HasBeat, IsGranting}
+use Rattle.law_cycle.specs.Bodies.{TurnsBeat}
+use Rattle.law_net.specs.Granted.{NetOfTableGrants}
+use Rattle.law_net.proofs.Granting.{has_cores, right_grants}
+use Rattle.law_net.proofs.Apart.{alike}
+use Rattle.law_net.proofs.Beating.{toggled}
+
+module _ (t : Table) (modules : ℕ → Module) (leaves : ℕ → LeafPorts) (beats : ℕ → ℕ) (n : Netlist) (whole : IsWholeTable t) (runs : AreThreads t modules leaves)
+    (steady : AreSteady t modules leaves) (turning : (i : ℕ) → i < length t.threads → TurnsBeat (modules i) (beats i)) (wired : IsWired (modules_of t) (layout_of t) n) where
+  abbrev T : ℕ
+  T = threads (layout_of t)
+
+  abbrev K : ℕ
+  K = cores (layout_of t)
+
+  abbrev machines : ℕ → ThreadMachine
+  machines i = leaf_thread (modules i) (leaves i)
+
+  abbrev core_machines : ℕ → CoreMachine
+  core_machines = machine_at (shapes_of t)
+
+  abbrev places : NetPlaces T K machines core_machines
+  places = places_of t modules leaves
+
+  abbrev top : Module
+  top = wired.top
+
+  is : IsNetOfTable t modules leaves n top
+  is = tables_are_nets t modules leaves n whole runs wired
+
+  whole_net : IsSteady T K machines core_machines places n.modules top
+  whole_net = is_steady t modules leaves n whole runs steady wired
+
+  -- ---- ports and names
+
+  uses : (i k : ℕ) → i < T → k < K → (leaf_places (modules i) (leaves i)).uses k ≡ true
+  uses i k b l = (runs.stands i b).promise.uses k l
+
+  named : (k : ℕ) → k < K → (x : Instance) × IsInstance top (numbered (codes "arbiter") k) (T + K + k) x
+  named k l = (
+    arbiter_instance (starts (modules_of t) (layout_of t)) T K (top_parts.parts (layout_of t)) (layout_of t).arbiter k,
+    record { listed = standing.arbiter_stands (modules_of t) (layout_of t) top wired.is_top k l; named = refl },
+  )
+
+  -- ---- the beat
+
+  there : (i : ℕ) → i < T → module_at n.modules top (i ∷ []) ≡ Some (modules i)
+  there i l = is.runs i l
+
+  own_module : (i : ℕ) (l : i < T) → modules i ≡ (whole_net.net.threads_stand i l).0
+  own_module i l = same_Some (modules i) (whole_net.net.threads_stand i l).0 (sym (there i l) ∙ (whole_net.net.threads_stand i l).1)
+
+  beat : (i : ℕ) → i < T → HasBeat n.modules top T i
+  beat i l =
+      let b = turning i l in
+      record {
+        kind = modules i;
+        stands = ap (module_at n.modules top) (is.slots i l) ∙ there i l;
+        place = beats i;
+        signal = b.signal;
+        is = b.is;
+        register = b.register;
+        one_bit = b.one_bit;
+      }
+
+  granting : IsGranting n.modules top T
+  unfolding beat
+  granting = record {
+    has = has_cores T K machines core_machines places n.modules top whole_net uses named;
+    grants = λ h g c out cycle. right_grants T K machines core_machines places n.modules top whole_net uses named h g c out cycle;
+    apart = λ h g f c d out more i l differ needs a b. alike T K machines core_machines places n.modules top whole_net h g f c d out more i l differ needs a b;
+    beat = beat;
+    beats = λ h g c out i l cycle.
+        toggled T K machines core_machines places n.modules top whole_net i l (beats i) (subst (λ (m : Module). TurnsBeat m (beats i)) (own_module i l) (turning i l))
+        (subst (λ (m : Module). EachOf (FitsAction m) m.actions) (own_module i l) (steady.leaf i l).clockless.signals.acts) h g c out cycle;
+  }
+
+pub net_of_table_grants : NetOfTableGrants
+net_of_table_grants t modules leaves beats n whole runs steady turning wired = granting t modules leaves beats n whole runs steady turning wired

@@ -1,0 +1,20 @@
+use Rattle.law_threads.proofs.Awake.{stands_awake}
+use Rattle.law_threads.proofs.Blocking.{marks_threads, what_blocks}
+use Rattle.law_threads.proofs.Fits.{fits_threads}
+use Rattle.law_threads.proofs.Requests.{all_are_steps}
+use Rattle.law_threads.proofs.planned_threads.Goals as goal
+
+pub returns-clause-requests_are_steps : goal.returns-clause-requests_are_steps
+returns-clause-requests_are_steps c = all_are_steps
+
+pub returns-clause-starts_awake : goal.returns-clause-starts_awake
+returns-clause-starts_awake c = stands_awake
+
+pub returns-clause-threads_fit : goal.returns-clause-threads_fit
+returns-clause-threads_fit c = fits_threads
+
+pub returns-clause-end_is_marked : goal.returns-clause-end_is_marked
+returns-clause-end_is_marked c = marks_threads
+
+pub returns-clause-what_blocks : goal.returns-clause-what_blocks
+returns-clause-what_blocks c = what_blocks

@@ -1,0 +1,11 @@
+pub mod Surroundings
+pub mod Laws
+pub mod Requests
+pub mod ActLaws
+pub use Rattle.block_refine.specs.Acts
+pub use Rattle.block_refine.specs.RoutineActs
+pub use Rattle.block_refine.specs.Routines
+pub use Rattle.block_refine.specs.Threads
+pub mod Cores
+pub mod Stands
+pub mod CoreLaws

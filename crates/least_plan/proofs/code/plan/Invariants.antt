@@ -1,8 +1,0 @@
-use Rattle.std.proofs.Common.{take}
-use Rattle.std.specs.List.{AllByRecursion}
-use Rattle.least_plan.specs.Planned.{IsNumbered}
-use Rattle.least_plan.proofs.StageLists.{SoFar}
-use Rattle.least_plan.proofs.code.plan.Given as goal
-
-abbrev pub invariant-loop-stage : goal.invariant-loop-stage
-invariant-loop-stage l = AllByRecursion IsNumbered l.stage-items → SoFar l.registers (take l.stage-index l.stage-items) l.stages

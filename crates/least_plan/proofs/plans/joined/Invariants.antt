@@ -1,5 +1,0 @@
-use Rattle.least_plan.specs.Shares.{AreJoined}
-use Rattle.least_plan.proofs.plans.joined.Given as goal
-
-abbrev pub invariant-loop-part : goal.invariant-loop-part
-invariant-loop-part l = AreJoined l.yielded l.plans

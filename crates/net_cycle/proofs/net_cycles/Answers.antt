@@ -1,6 +1,0 @@
--- The law stands in proofs/Cycling.
-use Rattle.net_cycle.proofs.Cycling.{net_cycles}
-use Rattle.net_cycle.proofs.net_cycles.Goals as goal
-
-pub returns : goal.returns
-returns c = net_cycles

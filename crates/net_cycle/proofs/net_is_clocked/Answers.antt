@@ -1,6 +1,0 @@
--- The law stands in proofs/Clocking.
-use Rattle.net_cycle.proofs.Clocking.{net_is_clocked}
-use Rattle.net_cycle.proofs.net_is_clocked.Goals as goal
-
-pub returns : goal.returns
-returns c = net_is_clocked

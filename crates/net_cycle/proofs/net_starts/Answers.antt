@@ -1,6 +1,0 @@
--- The law stands in proofs/Starting.
-use Rattle.net_cycle.proofs.Starting.{net_starts}
-use Rattle.net_cycle.proofs.net_starts.Goals as goal
-
-pub returns : goal.returns
-returns c = net_starts

@@ -1,5 +1,0 @@
-use Rattle.net_cycle.proofs.Asking.{thread_asks}
-use Rattle.net_cycle.proofs.thread_asks.Goals as goal
-
-pub returns : goal.returns
-returns c = record { asks = thread_asks }

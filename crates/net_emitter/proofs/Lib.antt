@@ -1,0 +1,2 @@
+pub mod Tables
+pub use Rattle.core_places.proofs.Placing

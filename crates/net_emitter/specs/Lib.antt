@@ -1,0 +1,3 @@
+pub mod Written
+pub use Rattle.core_places.specs.Placing
+pub use Rattle.core_family.specs.declared.cores.Cores

@@ -1,5 +1,0 @@
-pub mod Placing
-pub mod Modules
-pub mod Laying
-pub mod Scenes
-pub use Rattle.net_tables.proofs.Small

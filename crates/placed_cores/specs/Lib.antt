@@ -1,4 +1,0 @@
-pub mod Placing
-pub mod Laying
-pub mod Kinds
-pub use Rattle.net_tables.specs.Tables

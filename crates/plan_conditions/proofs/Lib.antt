@@ -1,0 +1,3 @@
+pub mod Waiting
+pub mod Stages
+pub use Rattle.plan_blocks.proofs.Running

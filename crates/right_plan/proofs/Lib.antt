@@ -1,3 +1,0 @@
-pub mod Waiting
-pub mod Stages
-pub use Rattle.planned_view.proofs.Running

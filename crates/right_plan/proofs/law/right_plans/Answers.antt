@@ -1,9 +1,0 @@
-use Rattle.right_plan.proofs.Stages.{right_plans_are_there}
-use Rattle.right_plan.proofs.Waiting.{works_from_registers}
-use Rattle.right_plan.proofs.law.right_plans.Goals as goal
-
-pub returns-clause-works_from_registers : goal.returns-clause-works_from_registers
-returns-clause-works_from_registers c = works_from_registers
-
-pub returns-clause-right_plans_are_there : goal.returns-clause-right_plans_are_there
-returns-clause-right_plans_are_there c = right_plans_are_there

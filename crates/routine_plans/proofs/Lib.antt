@@ -1,6 +1,0 @@
-pub mod Routines
-mod Scenes
-pub use Rattle.net_cycle.proofs.Cores
-pub mod Types
-pub mod Chains
-pub mod Whole

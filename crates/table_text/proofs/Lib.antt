@@ -1,2 +1,0 @@
-pub mod Tables
-pub use Rattle.placed_cores.proofs.Placing

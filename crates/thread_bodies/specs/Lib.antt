@@ -1,7 +1,0 @@
-pub mod Bodies
-pub mod Modules
-pub use Rattle.net_law.specs.Parts
-pub use Rattle.net_law.specs.Texts
-pub use Rattle.fsm_datapath.specs.Thread
-pub use Rattle.program_plans.specs.Plans
-pub use Rattle.program_plans.specs.declared.PlannedFunction

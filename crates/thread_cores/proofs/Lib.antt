@@ -1,2 +1,0 @@
-pub mod Keeping
-mod Scenes

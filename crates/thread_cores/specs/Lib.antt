@@ -1,3 +1,0 @@
-pub mod Cores
-pub mod Stands
-pub mod Laws

@@ -1,6 +1,0 @@
-use Rattle.std.proofs.Common.{◌≡◌, ◌+◌, drop}
-use Rattle.thread_numbers.specs.Numbers.{place_in}
-use Rattle.thread_numbers.proofs.place.Given as goal
-
-abbrev pub invariant-loop-place : goal.invariant-loop-place
-invariant-loop-place l = place_in l.functions l.function ≡ l.place + place_in (drop l.place l.functions) l.function

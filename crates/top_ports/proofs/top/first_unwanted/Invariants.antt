@@ -1,5 +1,0 @@
-use Rattle.top_ports.specs.Ports.{AllPass}
-use Rattle.top_ports.proofs.top.first_unwanted.Given as goal
-
-abbrev pub invariant-loop-number : goal.invariant-loop-number
-invariant-loop-number l = AllPass l.prefs l.ports l.number

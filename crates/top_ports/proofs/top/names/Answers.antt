@@ -1,6 +1,0 @@
-use Rattle.top_ports.proofs.Names.{port_added}
-use Rattle.top_ports.proofs.top.names.Goals as goal
-
-pub loop-port-preserved : goal.loop-port-preserved
-loop-port-preserved c = port_added c.args.ports.now c.loop-port.port-index c.port-item.result _ _ c.loop-port.invariant c.in_ok-add.ensures.names c.port-item.is
-    c.loop-port-test.true

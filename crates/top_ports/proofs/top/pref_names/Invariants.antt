@@ -1,6 +1,0 @@
-use Rattle.std.proofs.Common.{◌≡◌}
-use Rattle.top_ports.specs.Ports.{prefs_below, AllKnown}
-use Rattle.top_ports.proofs.top.pref_names.Given as goal
-
-abbrev pub invariant-loop-number : goal.invariant-loop-number
-invariant-loop-number l = (l.prefs ≡ prefs_below l.number) × AllKnown l.names l.number

@@ -1,2 +1,0 @@
-pub mod Top
-pub mod Ports
