@@ -1,3 +1,3 @@
-pub mod Granting
-pub mod Standing
+pub mod FirstCandidate
+pub mod ArbiterStands
 pub mod Stateless

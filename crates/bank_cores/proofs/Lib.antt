@@ -1,4 +1,4 @@
 pub mod Effects
-pub mod Banking
-pub mod Naming
-pub mod Standing
+pub mod BankTable
+pub mod MemoryName
+pub mod BankStands

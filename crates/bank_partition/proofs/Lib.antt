@@ -1,3 +1,3 @@
-pub mod Counting
-pub mod Standing
-pub mod Growing
+pub mod BankCount
+pub mod BanksOfSpreads
+pub mod OneBankMore

@@ -1,5 +1,5 @@
 pub mod Effects
-pub mod Waiting
-pub mod Meeting
-pub mod Standing
+pub mod WaitBits
+pub mod BarrierTable
+pub mod BarrierStands
 pub mod Scenes

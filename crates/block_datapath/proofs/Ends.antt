@@ -29,7 +29,7 @@ use Rattle.thread_promise.specs.View.{operand_view, finals_view, next_view, plan
 use Rattle.operator_wires.specs.Modules.{Obeys}
 use Rattle.operator_wires.specs.Gives.{Grows}
 use Rattle.operator_wires.specs.Words.{IsWord}
-use Rattle.operator_wires.proofs.Giving.{grows_then}
+use Rattle.operator_wires.proofs.PutSignals.{grows_then}
 use Rattle.block_datapath.specs.declared.registers.Registers.{Registers}
 use Rattle.block_datapath.specs.declared.operands.Given.{Given}
 use Rattle.block_datapath.specs.declared.states.Moment.{Moment}
@@ -41,7 +41,7 @@ use Rattle.block_datapath.specs.Operations.{seen_value, SeesSlot, IsFed, IsRight
 use Rattle.block_datapath.specs.Chains.{next_number, TellsStage, IsMoment, TellsState}
 use Rattle.block_datapath.specs.Ending.{IsFinal, ShowsFinals, next_stage, SeesTest, ShowsNext, finishes_in, finish_number, SetsFirst}
 use Rattle.block_datapath.specs.Leave.{HasStage, IsInStage, RestsSo, FinishesBlock}
-use Rattle.block_datapath.proofs.Walking.{value_here, uses_source, first_grown, first_from}
+use Rattle.block_datapath.proofs.OperationValues.{value_here, uses_source, first_grown, first_from}
 
 -- ---- lists of finals
 

@@ -26,7 +26,7 @@ use Rattle.thread_promise.specs.View.{planned_view, plan_view}
 use Rattle.operator_wires.specs.Modules.{Obeys}
 use Rattle.operator_wires.specs.Gives.{Grows}
 use Rattle.operator_wires.specs.Words.{resized_word}
-use Rattle.operator_wires.proofs.Giving.{grows_then}
+use Rattle.operator_wires.proofs.PutSignals.{grows_then}
 use Rattle.block_datapath.specs.declared.registers.Held.{Held}
 use Rattle.block_datapath.specs.declared.registers.Registers.{Registers}
 use Rattle.block_datapath.specs.declared.operands.Given.{Given}
@@ -37,7 +37,7 @@ use Rattle.thread_promise.specs.Slots.{IsAlive}
 use Rattle.block_datapath.specs.Operations.{SeesSlot, IsFed, IsRight, IsShown, ShowsFirst}
 use Rattle.block_datapath.specs.Chains.{next_number, IsMoment, held_width, keeps_in, kept_number, CanKeep, KeepsFirst}
 use Rattle.block_datapath.specs.Leave.{HasRoom, KeepsBlock, HasStage, IsInStage, FinishesBlock, LeavesBlock}
-use Rattle.block_datapath.proofs.Walking.{within_view, first_grown}
+use Rattle.block_datapath.proofs.OperationValues.{within_view, first_grown}
 
 -- ---- the last that passes
 

@@ -20,7 +20,7 @@ use Rattle.planned_block.specs.Block.{Block, operand_value, finished, leads_to}
 use Rattle.planned_block.specs.Run.{Running, block_run}
 use Rattle.plan_blocks.specs.View.{planned_view, memory_of as memory_of_cells, accesses_view}
 use Rattle.plan_blocks.specs.Alike.{AreAlike}
-use Rattle.plan_blocks.proofs.Running.{runs_alike}
+use Rattle.plan_blocks.proofs.ViewRuns.{runs_alike}
 use Rattle.planned_block.specs.Following.{AtStage, IsStage, Follows}
 use Rattle.race_model.specs.Source.{Local, running, c_source}
 use Rattle.race_model.proofs.Shape.{HasShape}

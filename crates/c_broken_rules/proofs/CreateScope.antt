@@ -56,7 +56,7 @@ use Rattle.c_broken_rules.proofs.NameScope as n
 use Rattle.c_broken_rules.proofs.NameScope.{IsMeant}
 use Rattle.c_broken_rules.proofs.TwiceScope.{same_none, inner_same}
 use Rattle.c_broken_rules.proofs.Quiets as q
-use Rattle.c_broken_rules.proofs.Numbering.{is_thread_declared, thread_by, threads_of, first_index, threads_both, first_new, new_below}
+use Rattle.c_broken_rules.proofs.ThreadNumbers.{is_thread_declared, thread_by, threads_of, first_index, threads_both, first_new, new_below}
 use Rattle.c_broken_rules.proofs.Creations as c
 use Rattle.c_broken_rules.proofs.Creations.{cap, create_ledger, Stands, Level, Levels, Numbered, Num, num_none, num_or}
 

@@ -43,7 +43,7 @@ use Rattle.c_broken_rules.proofs.Arguments.{address_argument, null_argument, rou
 use Rattle.c_broken_rules.proofs.Walks.{IsParameter, IsUsual, is_thread}
 use Rattle.c_broken_rules.proofs.Sights.{Agrees, Sees, sees, MeansIn, not_library, not_nothing, same_meaning}
 use Rattle.c_broken_rules.proofs.Quiets.{IsQuiet, OthersAreQuiet, CallsAreQuiet}
-use Rattle.c_broken_rules.proofs.Numbering.{first_index}
+use Rattle.c_broken_rules.proofs.ThreadNumbers.{first_index}
 
 -- the number that stands for a misused object
 abbrev pub cap : ℕ

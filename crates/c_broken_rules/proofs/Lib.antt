@@ -22,7 +22,7 @@ pub mod Formats
 pub mod Prints
 pub mod Sights
 pub mod Names
-pub mod Naming
+pub mod UnknownNames
 pub mod NameScope
 pub mod Unknown
 pub mod Twice
@@ -38,7 +38,7 @@ pub mod Uses
 pub mod UseFindings
 pub mod UseScope
 pub mod ThreadUses
-pub mod Numbering
+pub mod ThreadNumbers
 pub mod Creations
 pub mod CreateScope
 pub mod Givings

@@ -48,7 +48,7 @@ use Rattle.c_broken_rules.proofs.Quiets as q
 use Rattle.c_broken_rules.proofs.Quiets.{IsQuiet, Kept}
 use Rattle.c_broken_rules.proofs.Names as u
 use Rattle.c_broken_rules.proofs.Names.{name_ledger}
-use Rattle.c_broken_rules.proofs.Naming as m
+use Rattle.c_broken_rules.proofs.UnknownNames as m
 
 module _ (D : List (List ℕ × ℕ)) where
   abbrev L : Ledger

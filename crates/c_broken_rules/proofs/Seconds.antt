@@ -33,7 +33,7 @@ use Rattle.c_broken_rules.proofs.Ledgers.{Entered}
 use Rattle.c_broken_rules.proofs.Walks.{is_thread, is_thread_base}
 use Rattle.c_broken_rules.proofs.Defined.{noted_defined, defined_noted}
 use Rattle.c_broken_rules.specs.ThreadLaws.{fault_at, fault_of_creates, IsOfFewNames}
-use Rattle.c_broken_rules.proofs.Numbering.{is_thread_declared, thread_by, threads_of, first_index, one_name}
+use Rattle.c_broken_rules.proofs.ThreadNumbers.{is_thread_declared, thread_by, threads_of, first_index, one_name}
 use Rattle.c_broken_rules.proofs.Creations as c
 use Rattle.c_broken_rules.proofs.Creations.{cap, real, Has, of_option, creation, made, create_ledger}
 use Rattle.c_broken_rules.proofs.Creations.{sites, site_of, object_number, thread_number, definition_number, routine_number, IsBounded, index_of}

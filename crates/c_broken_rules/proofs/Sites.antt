@@ -29,7 +29,7 @@ use Rattle.c_broken_rules.specs.Parts.{Part, Parts}
 use Rattle.c_broken_rules.specs.Breaks.{StandsFor, IsIn}
 use Rattle.c_broken_rules.proofs.Ledgers.{Ledger, Entered, Good, good_pure, good_then, good_before, nothing_new, quiet}
 use Rattle.c_broken_rules.proofs.Sights.{Agrees, sees, header_in, same_function, same_meaning, not_library, not_nothing}
-use Rattle.c_broken_rules.proofs.Naming.{IsNoFunction, named_function, no_function_meant, not_function}
+use Rattle.c_broken_rules.proofs.UnknownNames.{IsNoFunction, named_function, no_function_meant, not_function}
 use Rattle.c_broken_rules.proofs.Quiets as q
 use Rattle.c_broken_rules.proofs.Quiets.{IsQuiet, OthersAreQuiet}
 use Rattle.c_broken_rules.proofs.Events.{IsOther}

@@ -38,7 +38,7 @@ use Rattle.c_broken_rules.proofs.Quiets.{IsQuiet}
 use Rattle.c_broken_rules.proofs.Twice as u
 use Rattle.c_broken_rules.proofs.Twice.{IsTwice, twice_ledger}
 use Rattle.c_broken_rules.proofs.NameScope.{IsMeant}
-use Rattle.c_broken_rules.proofs.Naming as m
+use Rattle.c_broken_rules.proofs.UnknownNames as m
 use Rattle.c_program.specs.Tree.{Expression}
 
 abbrev L : Ledger

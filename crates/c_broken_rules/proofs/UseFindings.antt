@@ -29,7 +29,7 @@ use Rattle.c_broken_rules.specs.Breaks.{StandsFor, IsElsewhere, IsMain, IsStartR
 use Rattle.c_broken_rules.proofs.Ledgers.{Ledger, Good, good_pure, good_before, quiet}
 use Rattle.c_broken_rules.proofs.Walks.{IsParameter}
 use Rattle.c_broken_rules.proofs.Sights.{Agrees, Sees, sees, MeansIn, header_in, same_function, same_meaning, not_library, not_nothing, unknown_library}
-use Rattle.c_broken_rules.proofs.Naming.{named_function, no_function_meant, not_function}
+use Rattle.c_broken_rules.proofs.UnknownNames.{named_function, no_function_meant, not_function}
 use Rattle.c_broken_rules.proofs.Headers.{main_is, main_back, routine_is, routine_back, pointer_is, pointer_back}
 use Rattle.c_broken_rules.proofs.Uses as q
 use Rattle.c_broken_rules.proofs.Uses.{IsRun, IsExit, IsPointer, BreaksAt, use_ledger}

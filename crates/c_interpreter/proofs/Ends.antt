@@ -13,7 +13,7 @@ use Rattle.thread_semantics.specs.Step.{Stepped, Steps, Blocks, Undefines, step,
 use Rattle.c_interpreter.specs.declared.walk.WalkEnd.{WalkEnd}
 use Rattle.c_interpreter.specs.declared.walk.WalkEnd.TheVariants as ends
 use Rattle.c_interpreter.specs.Walk.{Takes, IsAt, Comes, IsWalk}
-use Rattle.c_interpreter.proofs.Walking.{and_steps-append, takes_more, start_at}
+use Rattle.c_interpreter.proofs.LongerWalks.{and_steps-append, takes_more, start_at}
 
 -- what is blocked or undefined leads on to no state
 and_steps-prefix : (P : Program) (xs : List ℕ) (a : Stepped) (ys : List ℕ) (s : State) → and_steps P a (xs ++ ys) ≡ Steps s →

@@ -1,3 +1,3 @@
 pub mod Steps
-pub mod Walking
+pub mod LongerWalks
 pub mod Ends

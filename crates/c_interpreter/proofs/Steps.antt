@@ -9,7 +9,7 @@ use Rattle.c_interpreter.specs.declared.step.Rest.{Rest}
 use Rattle.c_step_parts.specs.declared.plan.Plan.{Plan}
 use Rattle.c_step_parts.specs.Plan.{erased, plan_of}
 use Rattle.c_step_parts.specs.Planned.{IsPlan}
-use Rattle.c_step_parts.proofs.Running.{step_runs}
+use Rattle.c_step_parts.proofs.RunningStep.{step_runs}
 use Rattle.c_interpreter.specs.Stepping.{rest_frame, Resumes}
 
 pub moved-erased : (P : Program) (s : State) (i : ℕ) (m : Move) → moved P s i (erased m) ≡ moved P s i m

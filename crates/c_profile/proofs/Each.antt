@@ -12,7 +12,7 @@ use Rattle.c_lexer.specs.Stepping.{Steps, next_piece}
 use Rattle.c_lexer.proofs.Whole.{Done, none_done, one_done, moves, step_failed, unfinished, finished}
 use Rattle.c_call_graph.specs.Graphs.{all_marks, table}
 use Rattle.c_call_graph.specs.Reaching.{leads}
-use Rattle.c_call_graph.proofs.Searching.{is_reach}
+use Rattle.c_call_graph.proofs.SearchResult.{is_reach}
 use Rattle.grammar.specs.Readers.{Reading, Syntax, Deep}
 use Rattle.c_tree.specs.declared.declaration.TranslationUnit.{TranslationUnit}
 use Rattle.c_parser.specs.Parsed.{offset_at}

@@ -1,5 +1,5 @@
-pub mod Accepting
-pub mod Refusing
+pub mod WithinLimits
+pub mod AboveLimits
 pub mod Stages
 pub mod Each
 pub mod Only

@@ -22,7 +22,7 @@ use Rattle.c_resolved_program.proofs.Definitions.{IsDefined}
 use Rattle.c_resolved_program.proofs.Filed.{headed, function_defined}
 use Rattle.c_resolved_program.proofs.Ready.{IsFileScope, behind_name}
 use Rattle.c_resolved_program.proofs.FileHolds.{whole_word}
-use Rattle.c_resolved_program.proofs.Leaving.{IsFunctionLeft, IsTabled, defined_left}
+use Rattle.c_resolved_program.proofs.FunctionLeft.{IsFunctionLeft, IsTabled, defined_left}
 
 -- the definition of each function so far is in order
 abbrev pub BodiesHold : Findings → Program → List Function → Type 0

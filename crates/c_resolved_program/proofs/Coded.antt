@@ -12,7 +12,7 @@ use Rattle.c_rules.specs.declared.names.Scope.{Scope}
 use Rattle.c_rules.specs.Levels.{named_in}
 use Rattle.c_rules.specs.Walks.{place_in_tree}
 use Rattle.c_resolution.specs.Functions as y
-use Rattle.c_resolved_program.proofs.Growing.{front_at, Grows}
+use Rattle.c_resolved_program.proofs.GrownScope.{front_at, Grows}
 
 -- the function of that number, where these functions are defined, and these names are those of the bodies so far
 pub record IsCode (D : List (List ℕ × ℕ)) (names : List (List ℕ)) (s : Scope) (number : ℕ) (code : Function) : Type 0 where

@@ -15,12 +15,12 @@ use Rattle.c_resolution.specs.Files.{File}
 use Rattle.c_resolution.specs.Functions as y
 use Rattle.c_resolution.specs.Globals as g
 use Rattle.c_resolved_program.specs.Orders.{left}
-use Rattle.c_resolved_program.proofs.Making.{IsOf}
+use Rattle.c_resolved_program.proofs.CreatesOfParts.{IsOf}
 use Rattle.c_resolved_program.proofs.Makings.{body_makes}
 use Rattle.c_resolved_program.proofs.Functions.{before_body, defined_at}
 use Rattle.c_resolved_program.proofs.Filed.{headed}
-use Rattle.c_resolved_program.proofs.Leaving.{prototype_left, defined_left, body_at}
-use Rattle.c_resolved_program.proofs.Creating.{head_makes}
+use Rattle.c_resolved_program.proofs.FunctionLeft.{prototype_left, defined_left, body_at}
+use Rattle.c_resolved_program.proofs.HeadsWithoutCreates.{head_makes}
 use Rattle.c_resolved_program.proofs.Silent.{global_silent}
 
 -- a create of one of these functions

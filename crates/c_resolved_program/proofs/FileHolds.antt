@@ -27,13 +27,13 @@ use Rattle.c_resolved_program.proofs.Functions.{defined_at}
 use Rattle.c_resolved_program.proofs.Filed.{headed}
 use Rattle.c_resolved_program.proofs.Numbers.{names_of, names_in, body_names, definition_number}
 use Rattle.c_resolved_program.proofs.Firsts.{body_names_more, first_number}
-use Rattle.c_resolved_program.proofs.Growing.{inserted_there}
-use Rattle.c_resolved_program.proofs.Spelling.{text_is}
+use Rattle.c_resolved_program.proofs.GrownScope.{inserted_there}
+use Rattle.c_resolved_program.proofs.NameBytes.{text_is}
 use Rattle.c_resolved_program.proofs.Headed.{IsHeaderOf, AreHeaders, header_is}
 use Rattle.c_resolved_program.proofs.Headers.{function_same, return_same}
 use Rattle.c_resolved_program.proofs.Coded.{IsCode, AreCodes, codes_on, not_second}
-use Rattle.c_resolved_program.proofs.Leaving.{IsFunctionLeft, IsTabled}
-use Rattle.c_resolved_program.proofs.Placing.{IsNew, IsKnown, IsPlaced, placed, placed_grows, placed_scope, placed_headers}
+use Rattle.c_resolved_program.proofs.FunctionLeft.{IsFunctionLeft, IsTabled}
+use Rattle.c_resolved_program.proofs.FunctionPlaced.{IsNew, IsKnown, IsPlaced, placed, placed_grows, placed_scope, placed_headers}
 
 -- behind these declarations of a text that defines these functions
 pub record FileHolds (P : Program) (D : List (List ℕ × ℕ)) (done : List ExternalDeclaration) (x : File) : Type 0 where

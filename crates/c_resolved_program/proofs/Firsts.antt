@@ -9,7 +9,7 @@ use Rattle.c_tree.specs.declared.declaration.ExternalDeclaration.TheVariants as 
 use Rattle.c_rules.specs.Levels.{named_in, inserted}
 use Rattle.c_resolution.specs.Texts as y
 use Rattle.c_resolved_program.proofs.Numbers.{names_in, body_names, all_noted, least_is}
-use Rattle.c_resolved_program.proofs.Growing.{inserted_there, inserted_keeps}
+use Rattle.c_resolved_program.proofs.GrownScope.{inserted_there, inserted_keeps}
 
 pub body_names_on : (xs ys : List ExternalDeclaration) → body_names (xs ++ ys) ≡ body_names xs ++ body_names ys
 body_names_on [] ys = refl

@@ -1,7 +1,7 @@
 -- What is known at some place of a text is a part of what is known behind it.
 use Rattle.c_resolution.specs.Files.{Tables, File}
 use Rattle.c_resolved_program.specs.Orders.{IsFront, IsPartOf}
-use Rattle.c_resolved_program.proofs.Growing.{front_same, front_on}
+use Rattle.c_resolved_program.proofs.GrownScope.{front_same, front_on}
 
 -- the program so far is a front of the program
 pub record AreFronts (t u : Tables) : Type 0 where

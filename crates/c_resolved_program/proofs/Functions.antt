@@ -28,7 +28,7 @@ use Rattle.c_resolution.specs.Files.{File, Tables, Declares, file, going, in_fil
 use Rattle.c_resolution.specs.Functions as y
 use Rattle.c_resolved_program.specs.Orders.{left, given, IsGiven}
 use Rattle.c_resolved_program.proofs.Walks.{turn}
-use Rattle.c_resolved_program.proofs.Moving as m
+use Rattle.c_resolved_program.proofs.BodyScope as m
 
 -- ---- parameters leave the scopes round theirs
 

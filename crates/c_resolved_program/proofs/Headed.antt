@@ -13,7 +13,7 @@ use Rattle.c_rules.specs.Levels.{named_in, inserted}
 use Rattle.c_rules.specs.Names.{is_int}
 use Rattle.c_resolution.specs.Functions as y
 use Rattle.c_resolved_program.specs.Orders.{IsFront}
-use Rattle.c_resolved_program.proofs.Growing.{inserted_there, inserted_keeps, inserted_back, front_same, Grows}
+use Rattle.c_resolved_program.proofs.GrownScope.{inserted_there, inserted_keeps, inserted_back, front_same, Grows}
 
 -- what the header of a function of that name says, where the text defines these functions
 pub record IsHeaderOf (D : List (List ℕ × ℕ)) (name : List ℕ) (h : Header) : Type 0 where

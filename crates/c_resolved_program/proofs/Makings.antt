@@ -59,7 +59,7 @@ use Rattle.c_resolved_program.proofs.Walks.{turn}
 use Rattle.c_resolved_program.proofs.Steps as s
 use Rattle.c_resolved_program.proofs.Quiet as q
 use Rattle.c_resolved_program.proofs.Quiet.{IsQuiet, quiet_then, quiet_pure, quiet_finds, quiet_if}
-use Rattle.c_resolved_program.proofs.Making.{IsOf, MakesIt, makes_quiet, makes_pure, quiet_value, quiet_pointer_value, quiet_target, quiet_right, call_makes}
+use Rattle.c_resolved_program.proofs.CreatesOfParts.{IsOf, MakesIt, makes_quiet, makes_pure, quiet_value, quiet_pointer_value, quiet_target, quiet_right, call_makes}
 
 -- ---- simple statements
 

@@ -26,12 +26,12 @@ use Rattle.c_resolved_program.specs.Orders.{IsFront, IsMeant, AreMeant, object_l
 use Rattle.c_resolved_program.proofs.Steps.{inserted_is, next_in, front_length}
 use Rattle.c_resolved_program.proofs.Locals.{number_is}
 use Rattle.c_resolved_program.proofs.Numbers.{body_names}
-use Rattle.c_resolved_program.proofs.Growing.{inserted_there, Grows}
+use Rattle.c_resolved_program.proofs.GrownScope.{inserted_there, Grows}
 use Rattle.c_resolved_program.proofs.Fronts.{AreFronts}
 use Rattle.c_resolved_program.proofs.Headed.{headers_beside, grows_beside}
 use Rattle.c_resolved_program.proofs.Coded.{AreCodes, codes_on}
 use Rattle.c_resolved_program.proofs.Lengths.{given_lengths, given_count}
-use Rattle.c_resolved_program.proofs.Declaring.{count_of, IsVariableLeft, IsObjectLeft, IsGlobalLeft}
+use Rattle.c_resolved_program.proofs.ObjectLeft.{count_of, IsVariableLeft, IsObjectLeft, IsGlobalLeft}
 use Rattle.c_resolved_program.proofs.FileHolds.{FileHolds}
 use Rattle.c_resolved_program.proofs.LocalCounts.{declared_locals}
 

@@ -25,11 +25,11 @@ use Rattle.c_resolution.specs.Resolving.{program_at}
 use Rattle.c_resolved_program.specs.Laws.{IsNumbered}
 use Rattle.c_resolved_program.specs.Gathered.{IsDeclaredThread}
 use Rattle.c_resolved_program.proofs.Walks.{all_more}
-use Rattle.c_resolved_program.proofs.Growing.{Grows}
+use Rattle.c_resolved_program.proofs.GrownScope.{Grows}
 use Rattle.c_resolved_program.proofs.Fronts.{AreFronts}
-use Rattle.c_resolved_program.proofs.Spelling.{text_is}
-use Rattle.c_resolved_program.proofs.Declaring.{IsVariableLeft, IsObjectLeft, IsGlobalLeft}
-use Rattle.c_resolved_program.proofs.Leaving.{IsTabled, nobody}
+use Rattle.c_resolved_program.proofs.NameBytes.{text_is}
+use Rattle.c_resolved_program.proofs.ObjectLeft.{IsVariableLeft, IsObjectLeft, IsGlobalLeft}
+use Rattle.c_resolved_program.proofs.FunctionLeft.{IsTabled, nobody}
 use Rattle.c_resolved_program.proofs.ObjectKeeps.{beside_named, object_grows, variable_meant, variable_no}
 
 -- the objects of POSIX threads

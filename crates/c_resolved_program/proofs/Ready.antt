@@ -17,7 +17,7 @@ use Rattle.c_resolved_program.proofs.Walks.{shows_if}
 use Rattle.c_resolved_program.proofs.Steps.{inserted_is}
 use Rattle.c_resolved_program.proofs.Functions.{named}
 use Rattle.c_resolved_program.proofs.Definitions.{IsReady}
-use Rattle.c_resolved_program.proofs.Naming.{declare_function_is}
+use Rattle.c_resolved_program.proofs.FunctionName.{declare_function_is}
 
 -- what is known between two declarations at file scope: no block is open, and each name is meant in any function
 pub record IsFileScope (P : Program) (s : Scope) : Type 0 where

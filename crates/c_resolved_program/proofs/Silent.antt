@@ -29,9 +29,9 @@ use Rattle.c_resolved_program.specs.Orders.{left, given}
 use Rattle.c_resolved_program.proofs.Walks.{turn}
 use Rattle.c_resolved_program.proofs.Functions.{in_file_is}
 use Rattle.c_resolved_program.proofs.Quiet.{IsQuiet, quiet_then, quiet_pure, quiet_finds, quiet_if, quiet_either, quiet_through, quiet_visited}
-use Rattle.c_resolved_program.proofs.Making.{quiet_value}
+use Rattle.c_resolved_program.proofs.CreatesOfParts.{quiet_value}
 use Rattle.c_resolved_program.proofs.Makings as k
-use Rattle.c_resolved_program.proofs.Creating.{MakesNone, all_of_each}
+use Rattle.c_resolved_program.proofs.HeadsWithoutCreates.{MakesNone, all_of_each}
 
 -- ---- initial values
 

@@ -3,7 +3,7 @@ use Rattle.std.proofs.Common.{sym, subst}
 use Rattle.c_program.specs.Resolved.{IsResolved}
 use Rattle.c_resolved_program.specs.Laws.{IsNumbered, SpelledIsResolved}
 use Rattle.c_resolved_program.proofs.Assembly.{no_fault, gives_routines, assembled}
-use Rattle.c_resolved_program.proofs.Gathering.{gathered}
+use Rattle.c_resolved_program.proofs.HeadersInOrder.{gathered}
 
 pub spelled_law : SpelledIsResolved
 spelled_law tree P valid spells numbered =

@@ -37,7 +37,7 @@ use Rattle.c_resolved_program.proofs.Trees.{condition_shows, all_left}
 use Rattle.c_resolved_program.proofs.Simple.{simple_shows, returned_shows}
 use Rattle.c_resolved_program.proofs.Steps.{Does, does_pure, does_then, does_as, does_finding, does_finding_in, does_opened, does_closed, does_through}
 use Rattle.c_resolved_program.proofs.Locals.{declaration_does}
-use Rattle.c_resolved_program.proofs.Moving as m
+use Rattle.c_resolved_program.proofs.BodyScope as m
 use Rattle.c_resolved_program.proofs.Sequences as q
 
 -- leaves by their layers

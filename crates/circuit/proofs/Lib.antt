@@ -4,9 +4,9 @@ pub mod TableRows
 pub mod TableElements
 pub mod TableSound
 pub mod Filters
-pub mod Forming
+pub mod LeafForm
 pub mod Places
-pub mod Fitting
+pub mod LeafWidths
 pub mod TableModules
 pub mod RowModules
 pub mod TableModule
@@ -17,8 +17,8 @@ pub mod Spreads
 pub mod Arbitration
 pub mod Widths
 pub mod Within
-pub mod Stepping
+pub mod NetStep
 pub mod Staged
-pub mod Running
+pub mod NetRuns
 pub mod States
 pub use Rattle.verilog_meaning.proofs.Operands

@@ -20,7 +20,7 @@ use Rattle.circuit.specs.Rows.{EachOf}
 use Rattle.circuit.specs.Modules.{Has, FitsValue, FitsArgument, FitsEffect, FitsAction}
 use Rattle.circuit.proofs.Tables.{operand_of}
 use Rattle.circuit.proofs.Filters.{each_there}
-use Rattle.circuit.proofs.Forming.{same_operands}
+use Rattle.circuit.proofs.LeafForm.{same_operands}
 
 module _ (m : Module) where
   has_inside : (x w : ℕ) → Has m x w → x < length m.signals

@@ -24,7 +24,7 @@ use Rattle.circuit.specs.Rows.{is_clock, name_of, source_at, is_output, signal_a
 use Rattle.circuit.specs.Modules.{Has}
 use Rattle.circuit.specs.Interfaces.{HasPorts}
 use Rattle.circuit.proofs.Tables.{EachRow, by_signals}
-use Rattle.circuit.proofs.Forming.{ReadsData, IsFormed}
+use Rattle.circuit.proofs.LeafForm.{ReadsData, IsFormed}
 
 -- ---- names
 

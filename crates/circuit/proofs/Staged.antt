@@ -10,7 +10,7 @@ use Rattle.netlist.specs.declared.netlist.Instance.{Instance}
 use Rattle.netlist.specs.declared.netlist.Module.{Module}
 use Rattle.verilog_meaning.specs.Cycles.{choice_number, Path, Valuation, Choice, module_at, instance_at, connected, IsAt, IsSettled, IsState}
 use Rattle.verilog_meaning.specs.Threads.{Place, Names}
-use Rattle.verilog_meaning.proofs.Settling.{IsDeclared, IsLevelled, settled-same}
+use Rattle.verilog_meaning.proofs.OneSettled.{IsDeclared, IsLevelled, settled-same}
 use Rattle.circuit.specs.Rows.{EachOf}
 use Rattle.circuit.specs.Modules.{FitsAction, FitsMemory, Has, Reads, IsSoundSource}
 use Rattle.circuit.specs.Nets.{FitsSource, FitsNet, FitsChoice, FitsStatements}

@@ -17,7 +17,7 @@ use Rattle.circuit.specs.Modules.{Has, IsLeaf, FitsAction, FitsMemory}
 use Rattle.circuit.specs.Interfaces.{IsTableModule}
 use Rattle.circuit.specs.Table.{rows_end, place, laid, widths}
 use Rattle.circuit.specs.Fits.{inputs, registers, outputs, input_widths, output_widths, only_width, Words}
-use Rattle.circuit.proofs.Forming.{ActsOnData, IsFormedMemory}
+use Rattle.circuit.proofs.LeafForm.{ActsOnData, IsFormedMemory}
 use Rattle.circuit.proofs.RowModules.{HasRole, roles_apart, signals_apart, not_zero, behind_dash, HasFrom, no_more, one_more, many_more, all_alike, has_ports}
 use Rattle.circuit.proofs.TableModules.{table_module}
 use Rattle.circuit.proofs.TableRows.{row_size, place_up, rows_end-append, by_signals, length-laid}

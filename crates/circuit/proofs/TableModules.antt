@@ -21,9 +21,9 @@ use Rattle.circuit.specs.Interfaces.{HasInterface, IsTableModule}
 use Rattle.circuit.proofs.Filters.{front_kept, back_kept, middle_kept, split_three, length_back}
 use Rattle.circuit.proofs.Tables.{fits_among}
 use Rattle.circuit.proofs.Filters.{each_there, all_of}
-use Rattle.circuit.proofs.Forming.{IsAssigned, IsFormedMemory, ActsOnData, IsReady}
+use Rattle.circuit.proofs.LeafForm.{IsAssigned, IsFormedMemory, ActsOnData, IsReady}
 use Rattle.circuit.proofs.Places.{value_places, action_laid}
-use Rattle.circuit.proofs.Fitting.{source_right, action_right}
+use Rattle.circuit.proofs.LeafWidths.{source_right, action_right}
 
 -- ---- kinds
 

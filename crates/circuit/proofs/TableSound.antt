@@ -31,7 +31,7 @@ use Rattle.circuit.specs.Table.{is_output, place, operand_at, source_at, signal_
 use Rattle.circuit.specs.Fits.{form_is, is_input, is_register, inputs, registers, outputs, grants, chains, is_late, is_late_row, Words, Reader, each_width, only_width, chain_width}
 use Rattle.circuit.specs.Fits.{may_read, width_of, binary_fits, memory_fits, form_fits, fits}
 use Rattle.circuit.proofs.Tables.{Told, fits_among, operand_of, all_told_at}
-use Rattle.circuit.proofs.Forming.{AreData, ReadsData, IsAssigned, IsFormed}
+use Rattle.circuit.proofs.LeafForm.{AreData, ReadsData, IsAssigned, IsFormed}
 use Rattle.circuit.proofs.RowModules.{clock_name}
 use Rattle.circuit.proofs.TableRows.{row_size, place_next, place_up, OfRow, OfSome, ByRow, listed, by_rows, by_signals, IsListed}
 use Rattle.circuit.proofs.TableElements.{two, three, before_first, elements, IsAt, IsElement, place_some}

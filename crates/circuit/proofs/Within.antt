@@ -7,7 +7,7 @@ use Rattle.netlist.specs.declared.netlist.Memory.{Memory}
 use Rattle.netlist.specs.declared.netlist.Module.{Module}
 use Rattle.verilog_meaning.specs.Cycles.{Path, Valuation, Given, choice_number, module_at, instance_at, connected, number_given, IsAt, IsSettledGiven, IsState, IsRegister}
 use Rattle.verilog_meaning.specs.Threads.{Place, Names}
-use Rattle.verilog_meaning.proofs.Settling.{IsDeclared, IsLevelled, seen, solved, solved-signals}
+use Rattle.verilog_meaning.proofs.OneSettled.{IsDeclared, IsLevelled, seen, solved, solved-signals}
 use Rattle.circuit.specs.Modules.{Has}
 use Rattle.circuit.specs.Nets.{FitsSource, FitsNet, FitsGiven, HasSettledGiven, HasSettled}
 use Rattle.circuit.proofs.Tables.{fits_among}

@@ -5,7 +5,7 @@ use Rattle.netlist.specs.declared.netlist.Source.TheVariants.{Input, Register, A
 use Rattle.netlist.specs.declared.netlist.Signal.{Signal}
 use Rattle.netlist.specs.declared.netlist.Module.{Module}
 use Rattle.verilog_meaning.specs.Cycles.{Path, Valuation, Choice, Given, module_at, instance_at, connected, choice_number, IsAt, IsSettled, IsSettledGiven, IsState, Cycle, initial_state}
-use Rattle.verilog_meaning.proofs.Settling.{IsLevelled}
+use Rattle.verilog_meaning.proofs.OneSettled.{IsLevelled}
 use Rattle.circuit.specs.Rows.{EachOf}
 use Rattle.circuit.specs.Modules.{Has, FitsValue, FitsAction, FitsMemory}
 

@@ -26,12 +26,12 @@ use Rattle.code_blocks.specs.Typing.{Typing, IsTypedHome, IsTypedOpen}
 use Rattle.code_following.specs.Typed.{IsTypedOperand}
 use Rattle.code_blocks.specs.Passing.{PutsThere, IsPassed, ArePassed, IsReady, Passed, Passes, WorksOnArguments}
 use Rattle.code_blocks.proofs.Cells.{row_of}
-use Rattle.code_blocks.proofs.Running.{parts, run_append, reads_none, reads_both}
+use Rattle.code_blocks.proofs.OperationRuns.{parts, run_append, reads_none, reads_both}
 use Rattle.code_blocks.proofs.Stores.{conversion_right}
 use Rattle.code_blocks.proofs.Steps.{gives_is, fits_on, hold_on, read_held, length_on}
 use Rattle.code_blocks.proofs.Puts.{same_source, rest_is}
-use Rattle.code_blocks.proofs.Typing.{operand_converted}
-use Rattle.code_blocks.proofs.Working.{variable_stored}
+use Rattle.code_blocks.proofs.TypedExpressions.{operand_converted}
+use Rattle.code_blocks.proofs.TypedAssignments.{variable_stored}
 
 -- what the block has once a value is put
 pub record IsPut (h : Home) (ty : IntegerType) (a : Operand) (old new : OpenBlock) : Type 0 where

@@ -5,10 +5,10 @@ pub mod Finals
 pub mod Operators
 pub mod Puts
 pub mod Room
-pub mod Running
+pub mod OperationRuns
 pub mod Steps
 pub mod Stores
-pub mod Typing
+pub mod TypedExpressions
 pub mod Values
 pub mod Words
-pub mod Working
+pub mod TypedAssignments

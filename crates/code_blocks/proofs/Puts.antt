@@ -23,7 +23,7 @@ use Rattle.code_blocks.specs.Assigning.{IsHomed, HaveHomes}
 use Rattle.code_blocks.specs.Closing.{HasNoted}
 use Rattle.code_blocks.specs.Printing.{HoldWords, converted_argument, converted_arguments, Held, Puts, PutsValue, PutsValues}
 use Rattle.code_blocks.proofs.Conversions.{wrapped_by_bits}
-use Rattle.code_blocks.proofs.Running.{parts, current_kept, run_append, run_length, reads_none, reads_both}
+use Rattle.code_blocks.proofs.OperationRuns.{parts, current_kept, run_append, run_length, reads_none, reads_both}
 use Rattle.code_blocks.proofs.Cells.{row_of}
 use Rattle.code_blocks.proofs.Stores.{conversion_right}
 use Rattle.code_blocks.proofs.Steps.{gives_is, fits_on, hold_on, read_held}

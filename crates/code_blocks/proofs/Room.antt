@@ -13,8 +13,8 @@ use Rattle.code_blocks.specs.declared.open_block.OpenBlock.{OpenBlock}
 use Rattle.code_blocks.specs.Evaluating.{load_block, with_more, Evaluates}
 use Rattle.code_blocks.specs.Assigning.{Places}
 use Rattle.code_blocks.specs.Room.{IsFull}
-use Rattle.code_blocks.proofs.Typing.{load_count}
-use Rattle.code_blocks.proofs.Working.{place_count}
+use Rattle.code_blocks.proofs.TypedExpressions.{load_count}
+use Rattle.code_blocks.proofs.TypedAssignments.{place_count}
 
 pub full_more : (fault : LoweringFault) (n m : ℕ) → n ≤ m → IsFull n fault → IsFull m fault
 full_more fault n m le full is = let h = full is in omega (arith, h)

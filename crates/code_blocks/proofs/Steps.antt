@@ -24,7 +24,7 @@ use Rattle.code_blocks.specs.Evaluating.{current_value, target_at, load_block, l
 use Rattle.code_blocks.specs.Closing.{HasNoted}
 use Rattle.code_blocks.specs.Assigning.{Stores, Places, HaveHomes, IsThere, writes_of, Assigned, Assigns}
 use Rattle.code_blocks.proofs.Operators.{binary_right}
-use Rattle.code_blocks.proofs.Running.{parts, last_value, run_append, run_length, operand_kept, current_kept, holds_on, below_more, are_below_more, reads_none, reads_both}
+use Rattle.code_blocks.proofs.OperationRuns.{parts, last_value, run_append, run_length, operand_kept, current_kept, holds_on, below_more, are_below_more, reads_none, reads_both}
 use Rattle.code_blocks.proofs.Values.{Comes, nothing_added, pure_reads, last_below, load_operations, load_added, load_comes, index_right, IsInside, inside_right}
 use Rattle.code_blocks.proofs.Stores.{store_operations, store_added, store_size, store_steps, store_noted, store_below, store_done}
 

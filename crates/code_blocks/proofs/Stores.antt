@@ -22,7 +22,7 @@ use Rattle.code_blocks.specs.Needs.{IsConverted, IsBelow, AreBelow}
 use Rattle.code_blocks.specs.Evaluating.{current_value, with_more, local_target, target_at, local_value, Holds}
 use Rattle.code_blocks.specs.Closing.{HasNoted}
 use Rattle.code_blocks.specs.Assigning.{Stores, IsHomed, HaveHomes, HasElement, IsThere, memory_after, Assigned}
-use Rattle.code_blocks.proofs.Running.{operand_stays}
+use Rattle.code_blocks.proofs.OperationRuns.{operand_stays}
 use Rattle.code_blocks.proofs.Cells.{element_with, row_of, cell_same, cell_other}
 
 pub conversion_right : (variables : ℕ → ℤ) (values : List ℤ) (ty : IntegerType) (a b : Operand) (v : ℤ) → IsConverted ty a b → operand_value variables values a ≡ v →

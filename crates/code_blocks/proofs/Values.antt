@@ -30,9 +30,9 @@ use Rattle.code_blocks.specs.declared.open_block.OpenBlock.{OpenBlock}
 use Rattle.code_blocks.specs.Needs.{plain, IsConverted, IsBelow, AreBelow}
 use Rattle.code_blocks.specs.Typing.{Computes}
 use Rattle.code_blocks.specs.Evaluating.{current_operand, current_value, local_target, target_at, load_block, loaded, with_more, local_value, Holds, Reads, Evaluates}
-use Rattle.code_blocks.proofs.Typing.{constant_computes, variable_computes, element_computes, unary_computes, converted_computes, binary_computes}
+use Rattle.code_blocks.proofs.TypedExpressions.{constant_computes, variable_computes, element_computes, unary_computes, converted_computes, binary_computes}
 use Rattle.code_blocks.proofs.Operators.{gives_same, unary_right, binary_right}
-use Rattle.code_blocks.proofs.Running.{parts, last_value, run_append, run_length, operand_kept, holds_on, are_below_more, reads_none, reads_both}
+use Rattle.code_blocks.proofs.OperationRuns.{parts, last_value, run_append, run_length, operand_kept, holds_on, are_below_more, reads_none, reads_both}
 
 -- what a part of the work on an expression comes to, in a run that goes on from r: reads, and the value of the operand
 pub record Comes (variables : ℕ → ℤ) (r s : Running) (a : Operand) (v : ℤ) (ls : List Location) : Type 0 where

@@ -41,7 +41,7 @@ pub fn conversions_of(alloc: Global, format: &[Piece]) -> Result<Items<CType>, A
 }
 
 /// The value of an argument, converted to its conversion's type, is put into a variable of 64 bits.
-#[tactic(auto, using(crate::proofs::Puts::puts_value, crate::proofs::Working::value_works))]
+#[tactic(auto, using(crate::proofs::Puts::puts_value, crate::proofs::TypedAssignments::value_works))]
 fn lower_value(
     alloc: Global,
     homes: &[Home],
@@ -62,7 +62,7 @@ fn lower_value(
 }
 
 /// The values of a printf are put into the variables from that number on, each converted to its conversion's type.
-#[tactic(auto, using(crate::proofs::Working::values_done))]
+#[tactic(auto, using(crate::proofs::TypedAssignments::values_done))]
 pub fn lower_values(
     alloc: Global,
     homes: &[Home],

@@ -36,23 +36,23 @@ use Rattle.code_places.specs.Control.{with_label, Whole, IsIn, GoesOn}
 use Rattle.code_places.specs.Seats.{IsWaiting, LeadsBack, IsSeated, HasWord, IsSeatedTyping}
 use Rattle.code_places.specs.Doing.{Grows, Shifts, OnwardUpTo, Suits, SuitsTyping, Leads}
 use Rattle.code_calls.specs.Calling.{OpensCall, Calls}
-use Rattle.code_blocks.proofs.Running.{run_length}
+use Rattle.code_blocks.proofs.OperationRuns.{run_length}
 use Rattle.code_blocks.proofs.Puts.{homes_more}
 use Rattle.code_blocks.proofs.Arguments.{passed_none}
 use Rattle.code_blocks.specs.Evaluating.{held_by}
 use Rattle.code_places.proofs.Shapes.{have_homes, length_blank, blank_none}
 use Rattle.code_storage.proofs.Housed.{local_there}
-use Rattle.code_places.proofs.Weighing.{body_weighs}
+use Rattle.code_places.proofs.InlinedWeight.{body_weighs}
 use Rattle.code_storage.proofs.Reached.{runs_callee, is_function}
-use Rattle.code_places.proofs.Staying.{anywhere_more, now_more}
-use Rattle.code_places.proofs.Resuming.{Goes, resume_less}
-use Rattle.code_places.proofs.Seating.{callers_kept, seat_on}
-use Rattle.code_places.proofs.Controlling.{begin_at, begun_idle}
+use Rattle.code_places.proofs.TypedGrowth.{anywhere_more, now_more}
+use Rattle.code_places.proofs.ResumedPlaces.{Goes, resume_less}
+use Rattle.code_places.proofs.KeptLocals.{callers_kept, seat_on}
+use Rattle.code_places.proofs.LabelTargets.{begin_at, begun_idle}
 use Rattle.code_places.proofs.NewLabel.{goes_before_label}
-use Rattle.code_places.proofs.Growing.{label_relabels, begins_shifts, begun_reached}
-use Rattle.code_calls.proofs.Answering.{home_local}
-use Rattle.code_calls.proofs.Backing.{closes_shifts, closes_goes}
-use Rattle.code_places.proofs.Stepping.{block_grows, values_length, call_step_goes}
+use Rattle.code_places.proofs.CodeGrowth.{label_relabels, begins_shifts, begun_reached}
+use Rattle.code_calls.proofs.ReturnTargets.{home_local}
+use Rattle.code_calls.proofs.ReturnCode.{closes_shifts, closes_goes}
+use Rattle.code_places.proofs.BlockSteps.{block_grows, values_length, call_step_goes}
 
 -- ---- the locals of a call that begins
 

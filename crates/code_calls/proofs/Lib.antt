@@ -1,12 +1,12 @@
-mod Acting
-pub mod Answering
-pub mod Backing
+mod PrintCode
+pub mod ReturnTargets
+pub mod ReturnCode
 pub mod Callees
-pub mod Continuing
-mod Numbering
+pub mod BehindCall
+mod OperandNumbers
 pub mod Overfull
-mod Performing
-mod Placing
-mod Preparing
-pub mod Proceeding
+mod PthreadCode
+mod ObjectNumbers
+mod ReadyOperands
+pub mod OpenCalls
 mod Typed

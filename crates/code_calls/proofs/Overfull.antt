@@ -13,9 +13,9 @@ use Rattle.code_calls.specs.Calling.{OpensCall, Calls}
 use Rattle.code_blocks.specs.Room.{IsFull}
 use Rattle.code_places.specs.Needing.{needed, IsFullFor, IsFullCall}
 use Rattle.code_blocks.proofs.Room.{full_more}
-use Rattle.code_places.proofs.Weighing.{body_weighs}
+use Rattle.code_places.proofs.InlinedWeight.{body_weighs}
 use Rattle.code_calls.proofs.Callees.{at_function, typed_begun, suits_there, calls_grows, calls_typed}
-use Rattle.code_calls.proofs.Continuing.{right_call}
+use Rattle.code_calls.proofs.BehindCall.{right_call}
 
 module _ (P : Program) (depth g : ℕ) (es : List Expression) (c : Lowering) (fault : LoweringFault) where
   -- calls are not so deep

@@ -20,13 +20,13 @@ use Rattle.code_places.specs.declared.lowering.Lowering.{Lowering}
 use Rattle.code_places.specs.Apart.{IsTypedNow}
 use Rattle.code_places.specs.Control.{ActsAt}
 use Rattle.code_places.specs.Doing.{Grows, SuitsTyping}
-use Rattle.code_places.proofs.Staying.{anywhere_more, act_stage}
-use Rattle.code_places.proofs.Growing.{acts_typed}
+use Rattle.code_places.proofs.TypedGrowth.{anywhere_more, act_stage}
+use Rattle.code_places.proofs.CodeGrowth.{acts_typed}
 use Rattle.code_storage.specs.Objects.{AreObjects, first_in}
 use Rattle.code_storage.specs.Values.{operand_count}
 use Rattle.code_calls.specs.Acts.{place_of, values_of, first_of_call, number_operand, act_at, PutsWord, PutsNumber, PreparesCall, WorksOnCall}
-use Rattle.code_calls.proofs.Numbering.{small_typed}
-use Rattle.code_calls.proofs.Placing.{IsPlaced, thread_placed, mutex_placed, barrier_placed}
+use Rattle.code_calls.proofs.OperandNumbers.{small_typed}
+use Rattle.code_calls.proofs.ObjectNumbers.{IsPlaced, thread_placed, mutex_placed, barrier_placed}
 
 -- the number of an object is less than their count
 number_typed : (T : Types) (n count : ℕ) (first : ℕ → ℕ) (numbers : List ℕ) (place : ObjectPlace) → IsPlaced count first numbers place → count < 2 ^ 32 →

@@ -1,6 +1,6 @@
-pub mod Binding
-pub mod Deciding
-pub mod Filling
-pub mod Growing
-pub mod Nesting
-pub mod Proceeding
+pub mod BoundLabels
+pub mod Decisions
+pub mod ControlSize
+pub mod ControlGrowth
+pub mod NestedStatements
+pub mod OpenControl

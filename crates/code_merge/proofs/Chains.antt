@@ -18,8 +18,8 @@ use Rattle.code_merge.specs.Maximal.{IsMaximalAt, AreCounted, Follows}
 use Rattle.code_merge.specs.Kept.{Keeps}
 use Rattle.code_merge.specs.Used.{empty}
 use Rattle.code_merge.specs.Steps.{block_in, IsLast, HoldsAt, IsReady, IsBlock, Begins, Joins, Merges, Grows, Tidies, Extends}
-use Rattle.code_merge.proofs.Merging.{tidy, keeps_same, keeps_both, both, both_counted, both_maximal}
-use Rattle.code_merge.proofs.Merging.{both_keep, tidied, tidied_counted, tidied_maximal, tidied_keep, last_maximal}
+use Rattle.code_merge.proofs.MergedCode.{tidy, keeps_same, keeps_both, both, both_counted, both_maximal}
+use Rattle.code_merge.proofs.MergedCode.{both_keep, tidied, tidied_counted, tidied_maximal, tidied_keep, last_maximal}
 
 same_run : (x y : Block) → Some (Run x) ≡ Some (Run y) → x ≡ y
 same_run x y e = cc

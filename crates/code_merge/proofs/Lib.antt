@@ -2,9 +2,9 @@ mod Lists
 mod Ways
 mod Values
 mod Moves
-mod Stepping
-mod Typing
-mod Merging
+mod MergedSteps
+mod MergedTypes
+mod MergedCode
 mod Counted
 mod Chains
 mod KeptItems

@@ -22,7 +22,7 @@ use Rattle.block_ir.specs.Run.{source_value, operand_value, with_value, with_cel
 use Rattle.block_ir.specs.Run.{operation_run, operations_run, finished, leads_to, started, block_run, variables_after, stage_after}
 use Rattle.code_blocks.specs.Needs.{IsBelow}
 use Rattle.code_blocks.specs.Evaluating.{current_operand}
-use Rattle.code_blocks.proofs.Running.{run_append, run_length, operand_stays, same_function}
+use Rattle.code_blocks.proofs.OperationRuns.{run_append, run_length, operand_stays, same_function}
 use Rattle.code_merge.specs.Joined.{later, moved_source, moved, moved_operation, moved_final, moved_next, joined, left_in, there, AreLeft}
 
 pub converted_both : (cs ds : List IntegerType) (v : ℤ) → converted (cs ++ ds) v ≡ converted ds (converted cs v)

@@ -13,7 +13,7 @@ use sqlite_items::Items;
 use std::alloc::{AllocError, Global};
 
 /// Variables hold what these finals give them, from now on.
-#[tactic(auto, using(crate::proofs::Merging::left_more))]
+#[tactic(auto, using(crate::proofs::MergedCode::left_more))]
 pub fn hold(alloc: Global, held: &mut OpenBlock, finals: &[Final]) -> Result<(), AllocError>
     ensures left { OnOk result ((fs : List GhostFinal) → spec.HasLeft held.old.current fs → spec.HasLeft held.new.current (fs ++ finals.now)) }
     ensures noted { OnOk result (HasNoted held.old → HasNoted held.new) }

@@ -23,7 +23,7 @@ use Rattle.code_storage.proofs.LocalArrays.{array_local}
 use Rattle.code_storage.proofs.LocalHomes.{IsDeclaredHome}
 use Rattle.code_storage.proofs.Names.{names_count, names_are, named_in_rooms}
 use Rattle.code_storage.proofs.Reached.{runs_marked, locals_few}
-use Rattle.code_storage.proofs.Rooming.{kept_at, variables_of_rooms, arrays_of_rooms, room_homes, room_count, room_declared, room_sites}
+use Rattle.code_storage.proofs.FunctionRooms.{kept_at, variables_of_rooms, arrays_of_rooms, room_homes, room_count, room_declared, room_sites}
 use Rattle.code_storage.proofs.RoomsFull.{homed_length}
 
 module _ (P : Program) (root : ℕ) (resolved : IsResolved P) (H : Rooms) (placed : ArePlaced (reached_functions P root) H) where

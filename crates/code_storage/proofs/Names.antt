@@ -19,7 +19,7 @@ use Rattle.code_blocks.specs.declared.homes.Home.TheVariants.{Variable}
 use Rattle.code_storage.specs.Locals.{is_scalar, home_in, homes_after, variable_of, variables_of, all_locals, rooms_after}
 use Rattle.code_storage.specs.Housing.{homes_there}
 use Rattle.code_storage.proofs.LocalHomes.{count_last, variable_least, variables_count}
-use Rattle.code_storage.proofs.Rooming.{variable_room}
+use Rattle.code_storage.proofs.FunctionRooms.{variable_room}
 use Rattle.code_storage.specs.Reaching.{kept}
 use Rattle.code_storage.specs.Names.{is_name, name_given, other_names, scalar_names, variable_names}
 

@@ -72,7 +72,7 @@ fn barriers_of(alloc: Global, barriers: &[BarrierObject]) -> Result<Items<u32>, 
 }
 
 /// The numbers of a program's objects.
-#[tactic(auto, using(crate::proofs::Counting::are_objects))]
+#[tactic(auto, using(crate::proofs::ObjectCount::are_objects))]
 pub fn objects_of(alloc: Global, program: &Program) -> Result<Objects, LoweringFault>
     ensures objects { IfOk result (objects.AreObjects (program_of program.now)) }
     ensures full { IfErr result (IsFull

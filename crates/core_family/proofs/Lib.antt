@@ -1,3 +1,3 @@
-pub mod Waiting
-pub mod Printing
-pub mod Telling
+pub mod OffersToAskers
+pub mod OnePrinter
+pub mod ToldFits

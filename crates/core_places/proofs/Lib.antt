@@ -1,5 +1,5 @@
-pub mod Placing
+pub mod CoresPlaced
 pub mod Modules
-pub mod Laying
+pub mod CoresLaid
 pub mod Scenes
 pub use Rattle.core_tables.proofs.Small

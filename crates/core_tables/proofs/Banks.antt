@@ -12,7 +12,7 @@ use Rattle.bank_cores.specs.Bank.{grants, kept, address_chain, offers, tells, ro
 use Rattle.bank_cores.specs.Machine.{bank_machine, bank_places, part_place, input_widths, output_widths, is_late}
 use Rattle.core_family.specs.Family.{Bank, port_of, IsCoreModule}
 use Rattle.core_tables.proofs.Ports.{inputs, outputs, length-ports}
-use Rattle.core_tables.proofs.Standing.{StandsFor}
+use Rattle.core_tables.proofs.CoreStands.{StandsFor}
 
 module _ (s : Shape) (m : Module) (is : IsCoreModule s.threads (Bank s) m) where
   abbrev n : ℕ

@@ -12,7 +12,7 @@ use Rattle.barrier_cores.specs.Barrier.{grants, waiting, operation_chain, offers
 use Rattle.barrier_cores.specs.Machine.{barrier_machine, barrier_places, part_place, is_late}
 use Rattle.core_family.specs.Family.{Barrier, port_of, IsCoreModule}
 use Rattle.core_tables.proofs.Ports.{inputs, outputs, length-ports}
-use Rattle.core_tables.proofs.Standing.{StandsFor}
+use Rattle.core_tables.proofs.CoreStands.{StandsFor}
 
 module _ (s : Shape) (m : Module) (is : IsCoreModule s.threads (Barrier s) m) where
   abbrev n : ℕ

@@ -4,7 +4,7 @@ use Rattle.netlist.specs.declared.netlist.Module.{Module}
 use Rattle.top_wiring.specs.Ports.{threads}
 use Rattle.core_family.specs.Family.{CoreShape, Bank, Mutex, Barrier, Forks, Prints, machine_of, places_of, threads_of, port_of, is_late, IsCoreModule}
 use Rattle.core_tables.specs.Fits.{CoresFit}
-use Rattle.core_tables.proofs.Standing.{StandsFor, at, interface, leaf}
+use Rattle.core_tables.proofs.CoreStands.{StandsFor, at, interface, leaf}
 use Rattle.core_tables.proofs.Banks.{bank_stands_for}
 use Rattle.core_tables.proofs.Mutexes.{mutex_stands_for}
 use Rattle.core_tables.proofs.Barriers.{barrier_stands_for}

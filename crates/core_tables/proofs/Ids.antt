@@ -12,7 +12,7 @@ use Rattle.core_family.specs.Forks.{grants, zero_code, going_chain, offers, rows
 use Rattle.core_family.specs.Machine.{forks_machine, forks_places, part_place, told_place, output_widths, is_late}
 use Rattle.core_family.specs.Family.{Forks, port_of, IsCoreModule}
 use Rattle.core_tables.proofs.Ports.{inputs, outputs, length-ports}
-use Rattle.core_tables.proofs.Standing.{StandsFor}
+use Rattle.core_tables.proofs.CoreStands.{StandsFor}
 
 module _ (s : Shape) (m : Module) (is : IsCoreModule s.threads (Forks s) m) where
   abbrev n : ℕ

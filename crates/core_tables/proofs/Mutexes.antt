@@ -12,7 +12,7 @@ use Rattle.mutex_cores.specs.Mutex.{grants, owner, chain, offers, rows}
 use Rattle.mutex_cores.specs.Machine.{mutex_machine, mutex_places, part_place, is_late}
 use Rattle.core_family.specs.Family.{Mutex, port_of, IsCoreModule}
 use Rattle.core_tables.proofs.Ports.{inputs, outputs, length-ports}
-use Rattle.core_tables.proofs.Standing.{StandsFor}
+use Rattle.core_tables.proofs.CoreStands.{StandsFor}
 
 module _ (s : Shape) (m : Module) (is : IsCoreModule s.threads (Mutex s) m) where
   abbrev n : ℕ

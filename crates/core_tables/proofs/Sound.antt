@@ -19,11 +19,11 @@ use Rattle.core_tables.specs.Laws.{IsLow}
 use Rattle.core_tables.specs.Whole.{IsThreadName, OfFunction, OfIdle, SameModule, IsWholeTable, TablesAreSound}
 use Rattle.core_tables.proofs.Lists.{map_back, InMiddle, InFront, TheOne, Behind, in_middle}
 use Rattle.core_tables.proofs.Decimals.{numbered_tells}
-use Rattle.core_tables.proofs.Naming.{cores_are_named}
+use Rattle.core_tables.proofs.CoreNames.{cores_are_named}
 use Rattle.core_tables.proofs.Widths.{thread_ports}
-use Rattle.core_tables.proofs.Writing.{printers_write}
+use Rattle.core_tables.proofs.OneWriter.{printers_write}
 use Rattle.core_tables.proofs.Small.{is_small}
-use Rattle.core_tables.proofs.Fitting.{each_module}
+use Rattle.core_tables.proofs.TablesFit.{each_module}
 
 -- ---- names
 

@@ -21,7 +21,7 @@ use Rattle.lists.proofs.Places.{get_there}
 use Rattle.top_wiring.proofs.Lists.{flat_map_back}
 use Rattle.leaf_machine.specs.Ports as port
 use Rattle.core_family.specs.Family.{CoreShape, machine_of, machine_at, port_of}
-use Rattle.core_family.proofs.Printing.{each_fits}
+use Rattle.core_family.proofs.OnePrinter.{each_fits}
 use Rattle.core_tables.specs.Tables.{PlacedCore, Table, kinds_at, laid_core, layout_of, shapes_of, ports_of}
 use Rattle.core_tables.specs.Laws.{parts, told, ThreadStands, ThreadsFit}
 use Rattle.core_tables.proofs.Late.{both_late, joint_leaf}

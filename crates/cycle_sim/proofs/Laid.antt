@@ -23,7 +23,7 @@ use Rattle.sim_layout.specs.Wires.{signals_of, own_feed, own_steps, join_feed, j
 use Rattle.sim_layout.specs.Given.{IsRoot}
 use Rattle.sim_layout.specs.Running.{IsPart}
 use Rattle.sim_values.proofs.Trees.{opened, tree_stands, instance_of, one_path as one_path_of}
-use Rattle.cycle_sim.proofs.Wiring.{takes_left, takes_right, takes_split, own_has, own_back, join_has, join_back, instances_have, instances_back, parts_have, parts_back}
+use Rattle.cycle_sim.proofs.WireSteps.{takes_left, takes_right, takes_split, own_has, own_back, join_has, join_back, instances_have, instances_back, parts_have, parts_back}
 use Rattle.cycle_sim.specs.LaidOut.{IsLaidOut, GivesBy}
 
 none_past : {X : Type 0} (xs : List X) (ns : List ℕ) (q : ℕ) → slice_get xs q ≡ None → length ns ≡ length xs → slice_index ns q ≡ 0

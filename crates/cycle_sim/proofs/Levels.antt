@@ -8,7 +8,7 @@ use Rattle.netlist.specs.declared.netlist.Value.{Value}
 use Rattle.netlist.specs.declared.netlist.Module.{Module}
 use Rattle.verilog_meaning.specs.Cycles.{Path, module_at, instance_at, connected, IsAt}
 use Rattle.verilog_meaning.specs.Threads.{Place, Names, operands}
-use Rattle.verilog_meaning.proofs.Settling.{IsDeclared, IsLevelled}
+use Rattle.verilog_meaning.proofs.OneSettled.{IsDeclared, IsLevelled}
 use Rattle.circuit.specs.Modules.{Has as HasWidth}
 use Rattle.circuit.specs.Nets.{FitsSource, FitsNet}
 use Rattle.circuit.proofs.Tables.{operand_of}

@@ -6,11 +6,11 @@ use Rattle.netlist.specs.declared.netlist.Memory.{Memory}
 use Rattle.netlist.specs.declared.netlist.Module.{Module}
 use Rattle.verilog_meaning.specs.Readings.{register_after, word_after}
 use Rattle.verilog_meaning.specs.Cycles.{Path, Valuation, Choice, choice_number, module_at, IsAt, HasMemory, IsSettled, IsSameIn, Cycle, Runs, IsWritten, next_at, next_state, written_at}
-use Rattle.verilog_meaning.proofs.Settling.{IsLevelled, settled-same}
+use Rattle.verilog_meaning.proofs.OneSettled.{IsLevelled, settled-same}
 use Rattle.circuit.specs.Modules.{Has}
 use Rattle.circuit.specs.Nets.{FitsStatements}
 use Rattle.cycle_sim.proofs.Same.{same_sym, same_trans, cycle_moved}
-use Rattle.cycle_sim.proofs.Reading.{register_same, word_same, bytes_same}
+use Rattle.cycle_sim.proofs.EdgeReads.{register_same, word_same, bytes_same}
 
 -- a state and a choice have at most one settled valuation
 abbrev pub SettlesInOneWay : List Module → Module → Type 0

@@ -28,7 +28,7 @@ use Rattle.cycle_sim.specs.LaidOut.{IsLaidOut}
 use Rattle.sim_layout.specs.Leads.{Leads, AreInRoom, AreWithin, AreLoopless, IsFirstFound}
 use Rattle.sim_layout.specs.Leads.Leads.{Directly, Through}
 use Rattle.sim_values.specs.Loops.{IsFirstLoop}
-use Rattle.sim_layout.proofs.Leading.{one_clear, each_among}
+use Rattle.sim_layout.proofs.LeadSearch.{one_clear, each_among}
 use Rattle.cycle_sim.proofs.Pigeons.{twice}
 use Rattle.sim_values.proofs.Settles.{each_from}
 use Rattle.sim_values.proofs.Trees.{rising, instance_of, front_or_back}

@@ -1,7 +1,7 @@
 pub mod Effects
-pub mod Forking
-pub mod Holding
-pub mod Keeping
-pub mod Naming
-pub mod Standing
+pub mod ThreadIdTable
+pub mod ShownTable
+pub mod RunnersKept
+pub mod MemoryNames
+pub mod ThreadIdsStand
 pub mod Scenes

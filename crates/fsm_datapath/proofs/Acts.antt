@@ -25,18 +25,18 @@ use Rattle.thread_slots.specs.declared.shape.Shape.{Shape}
 use Rattle.thread_slots.specs.Services.{number_width, value_count}
 use Rattle.thread_layout.specs.Asking.{call_of, values_of}
 use Rattle.thread_layout.specs.Acts.{LeavesFor}
-use Rattle.thread_layout.proofs.Acting.{leaves_later}
+use Rattle.thread_layout.proofs.ActLinks.{leaves_later}
 use Rattle.thread_layout.specs.Leaf.{served_ports}
 use Rattle.thread_layout.specs.Modules.{IsModule}
 use Rattle.thread_layout.specs.Thread.{numbers_of, cores_of, is_core, IsServed}
 use Rattle.thread_layout.proofs.Cores.{HasKind, kind_there}
-use Rattle.thread_layout.proofs.Losing.{found_not_lost, lost_there}
+use Rattle.thread_layout.proofs.LostRequests.{found_not_lost, lost_there}
 use Rattle.thread_layout.proofs.Placed.{from_rest}
 use Rattle.thread_layout.proofs.Quiet.{target, service_kept}
 use Rattle.thread_layout.proofs.Shown.{Shows}
 use Rattle.thread_layout.proofs.Sight.{shown_last, waits_last, does, still, knows, stage_shown, enabled}
-use Rattle.fsm_datapath.proofs.Leaving.{IsTarget, act_leave, act_moved}
-use Rattle.fsm_datapath.proofs.Printing.{act_left, act_off, number_is, value_is, stays_off, off_without_grant, off_moved, off_waiting, still_waiting}
+use Rattle.fsm_datapath.proofs.LeftStates.{IsTarget, act_leave, act_moved}
+use Rattle.fsm_datapath.proofs.ActStates.{act_left, act_off, number_is, value_is, stays_off, off_without_grant, off_moved, off_waiting, still_waiting}
 use Rattle.fsm_datapath.proofs.Targets.{target_within}
 use Rattle.fsm_datapath.proofs.Unasked.{asked_as}
 

@@ -13,16 +13,16 @@ use Rattle.circuit.specs.Rows.{EachOf}
 use Rattle.circuit.specs.Modules.{Obeys, Agree}
 use Rattle.circuit.proofs.Tables.{operand_of}
 use Rattle.leaf_machine.specs.Settled.{effect_operands}
-use Rattle.leaf_machine.proofs.Settling.{value_same}
+use Rattle.leaf_machine.proofs.SettledLeaf.{value_same}
 use Rattle.operator_wires.specs.Gives.{Grows}
 use Rattle.operator_wires.specs.Built.{Base, IsEarlier, IsRead, AreWires}
-use Rattle.operator_wires.proofs.Giving.{listed}
-use Rattle.operator_wires.proofs.Building.{within}
+use Rattle.operator_wires.proofs.PutSignals.{listed}
+use Rattle.operator_wires.proofs.BuiltWires.{within}
 use Rattle.block_datapath.specs.declared.registers.Held.{Held}
 use Rattle.thread_slots.specs.declared.stores.Store.{Store as Put}
 use Rattle.thread_layout.specs.Actions.{set_action, sets_of, sets_from}
 use Rattle.thread_slots.specs.Cells.{store_action}
-use Rattle.thread_layout.proofs.Remembering.{each_append}
+use Rattle.thread_layout.proofs.ModuleMemories.{each_append}
 
 -- ---- wires
 

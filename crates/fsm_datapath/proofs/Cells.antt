@@ -15,9 +15,9 @@ use Rattle.planned_block.specs.Block.{Operation as PlannedOperation}
 use Rattle.planned_block.specs.Run.{array_access}
 use Rattle.planned_block.specs.Slot.{Slot, value_now, operand_now, starts_now, array_access_now, accesses_where, arrays_next}
 use Rattle.plan_blocks.specs.View.{operation_view, planned_view, plan_view, binary_kind}
-use Rattle.plan_blocks.proofs.Running.{size-view}
+use Rattle.plan_blocks.proofs.ViewRuns.{size-view}
 use Rattle.thread_promise.specs.Slots.{element_at}
-use Rattle.block_datapath.proofs.Walking.{listed_view}
+use Rattle.block_datapath.proofs.OperationValues.{listed_view}
 use Rattle.thread_slots.specs.Cells.{cell_after, cell_at, cells_first}
 
 -- ---- what a slot's arrays become

@@ -1,20 +1,20 @@
 mod Acts
 mod Cells
-mod Leaving
-mod Printing
-pub mod Promising
+mod LeftStates
+mod ActStates
+pub mod BlockStates
 mod Unasked
 mod Targets
-pub mod Serving
-mod Waiting
-pub mod Forming
-mod Grading
-pub mod Leafing
-pub mod Naming
-mod Remembering
-mod Setting
-pub mod Standing
-mod Telling
+pub mod ServedCode
+mod WaitStates
+pub mod ModuleForm
+mod SignalGrades
+pub mod CheckedLeaf
+pub mod VariableNames
+mod ArrayMemories
+mod RegisterStatements
+pub mod ModuleStands
+mod ToldByCores
 mod Alike
-pub mod Steadying
-pub use Rattle.thread_layout.proofs.Spreading
+pub mod SteadyModule
+pub use Rattle.thread_layout.proofs.SpreadBanks

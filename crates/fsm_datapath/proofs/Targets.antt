@@ -21,7 +21,7 @@ use Rattle.thread_slots.specs.Services.{numbers_with, core_count}
 use Rattle.thread_layout.specs.Modules.{IsModule}
 use Rattle.thread_layout.specs.Thread.{cores_of, IsServed}
 use Rattle.thread_slots.specs.Requests.{group}
-use Rattle.thread_layout.proofs.Opening.{joined_back}
+use Rattle.thread_layout.proofs.OpenCores.{joined_back}
 use Rattle.thread_layout.proofs.Cores.{none_open, core_within}
 use Rattle.thread_layout.proofs.Opened.{raised_by, acts_by, no_service, all_count, marked_now, mark_bit, open_bits, want_wide, bit_told}
 use Rattle.thread_layout.proofs.Placed.{wide_bit, from_control, opens_count}

@@ -14,7 +14,7 @@ use Rattle.thread_promise.specs.Promise.{is_run}
 use Rattle.thread_slots.specs.declared.shape.Shape.{Shape}
 use Rattle.thread_layout.specs.Modules.{IsModule}
 use Rattle.thread_layout.specs.Thread.{numbers_of, cores_of, is_core, port_at, IsServed}
-use Rattle.fsm_datapath.proofs.Leaving.{IsTarget, core_asks}
+use Rattle.fsm_datapath.proofs.LeftStates.{IsTarget, core_asks}
 use Rattle.fsm_datapath.proofs.Targets.{target_within}
 use Rattle.thread_layout.proofs.Placed.{ask_copied}
 use Rattle.fsm_datapath.proofs.Targets.{block_quiet}

@@ -18,7 +18,7 @@ use Rattle.planned_block.specs.Plan.{is_simple as seen_simple, target_of, NoTarg
 use Rattle.planned_block.specs.Table.{latency, uses_in, any_final as any_final_view, next_uses as next_uses_view}
 use Rattle.plan_blocks.specs.View.{source_view, converted_to, operand_view, binary_kind, operation_view, operations_view, finals_view, next_view}
 use Rattle.plan_blocks.specs.Alike.{SourceNeedsBelow, OperationNeedsBelow, EachNeedsEarlier}
-use Rattle.plan_blocks.proofs.Ordering.{needs_converted}
+use Rattle.plan_blocks.proofs.OrderedView.{needs_converted}
 use Rattle.op_graph.specs.declared.node.Kind.TheVariants.{Global, Array}
 use Rattle.op_graph.specs.Graph.{operator_kind, value_below, node_of, nodes_from, nodes_of, no_node, is_simple, latency_of, UsesValue, UseEarlier}
 use Rattle.op_graph.proofs.NodeList.{uses_below}

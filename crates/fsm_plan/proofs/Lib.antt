@@ -2,7 +2,7 @@ mod Bridge
 mod Orders
 mod Agree
 mod CodeAgree
-mod Starting
+mod LeastStarts
 mod Small
 mod Whole
 mod StageLists

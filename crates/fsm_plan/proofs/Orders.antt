@@ -7,7 +7,7 @@ use Rattle.std.proofs.lemmas.Int.{ints}
 use Rattle.std.proofs.lemmas.List.{get_or-take}
 use Rattle.std.proofs.Math.Logic.{⊎_swap}
 use Rattle.lists.proofs.Places.{get_there}
-use Rattle.plan_blocks.proofs.Running.{size-view}
+use Rattle.plan_blocks.proofs.ViewRuns.{size-view}
 use Rattle.schedule_sdc.specs.Solution.{Meets}
 use Rattle.block_ir.specs.declared.block.Block.{Block as CodeBlock}
 use Rattle.block_ir.specs.declared.block.Operation.{Operation as CodeOperation}
@@ -20,7 +20,7 @@ use Rattle.planned_block.specs.Table.{next_uses as next_uses_view}
 use Rattle.planned_block.proofs.Tables.{keeps_orders}
 use Rattle.plan_blocks.specs.View.{planned_view, plan_view, starts_view, register_at as view_register}
 use Rattle.plan_blocks.specs.Alike.{IsInOrder}
-use Rattle.plan_blocks.proofs.Ordering.{view_ordered}
+use Rattle.plan_blocks.proofs.OrderedView.{view_ordered}
 use Rattle.op_graph.specs.declared.node.Kind.TheVariants.{Global, Array}
 use Rattle.op_graph.specs.declared.node.Node.{Node}
 use Rattle.op_graph.specs.Graph.{node, nodes_of, kind_at, is_simple, latency_of, latency_at, Uses as UsesNode, UsesValue, done, same_kind}

@@ -8,7 +8,7 @@ use Rattle.block_ir.specs.declared.plan.StagePlan.{StagePlan}
 use Rattle.block_ir.specs.declared.plan.StagePlan.TheVariants as planned
 use Rattle.plan_blocks.specs.View.{planned_view, plan_view, register_at}
 use Rattle.plan_conditions.specs.Right.{IsRight, EachRight}
-use Rattle.plan_conditions.proofs.Waiting.{works_from_registers}
+use Rattle.plan_conditions.proofs.RegisterOperands.{works_from_registers}
 use Rattle.fsm_plan.specs.Planned.{IsPlannedRun, EachPlanned, PlannedIsRight}
 use Rattle.fsm_plan.proofs.Bridge.{length-nodes}
 use Rattle.fsm_plan.proofs.Orders.{view_register_is, meets, units_apart, plan_keeps_orders}

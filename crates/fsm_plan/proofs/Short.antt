@@ -2,7 +2,7 @@
 use Rattle.std.proofs.Common.{◌≡◌, ℕ, zero, suc, ◌+◌, ◌<◌, ◌≤◌, length, refl, ap, sym, ◌∙◌, arith}
 use Rattle.std.specs.Prelude.{slice_index, max}
 use Rattle.lists.proofs.Places.{get_there}
-use Rattle.plan_blocks.proofs.Running.{size-view}
+use Rattle.plan_blocks.proofs.ViewRuns.{size-view}
 use Rattle.block_ir.specs.declared.block.Block.{Block}
 use Rattle.planned_block.specs.Block.{Operation, operation_at, size}
 use Rattle.planned_block.specs.Table.{latency, greater, latencies_before, sequential}

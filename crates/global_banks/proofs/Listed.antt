@@ -10,7 +10,7 @@ use Rattle.netlist.specs.declared.netlist.Module.{Module}
 use Rattle.netlist.specs.Laid.{AreApart, instance_names}
 use Rattle.verilog_meaning.specs.Names.{IsMinimal, IsMemory}
 use Rattle.verilog_meaning.specs.Follows.{BankOf, HasBanks}
-use Rattle.verilog_meaning.proofs.Listing.{AreOnce, IsIn, same_length}
+use Rattle.verilog_meaning.proofs.DistinctLists.{AreOnce, IsIn, same_length}
 use Rattle.global_banks.specs.Banks.{rest_of, is_rest, is_decimal, memory_place, memories_of, is_bank_by, is_bank, bank_count}
 use Rattle.global_banks.proofs.Named.{bank_name, found_at, within, rest_named, named_rest, rest_only, rest_all}
 use Rattle.global_banks.proofs.Digits.{minimal_passes, passed_minimal}

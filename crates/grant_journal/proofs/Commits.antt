@@ -17,10 +17,10 @@ use Rattle.journal_laws.specs.declared.verdict.Next.TheVariants as nexts
 use Rattle.journal_laws.specs.Journal.{GoesOn, Judged}
 use Rattle.journal_laws.specs.Steps.{InTop, OfTop, OpensTo, IsCopyRun, Enters, IsEntered, IsWaiting}
 use Rattle.journal_laws.proofs.Alike.{of_top, goes_from}
-use Rattle.journal_laws.proofs.Entering.{same_top}
+use Rattle.journal_laws.proofs.EntrySlots.{same_top}
 use Rattle.grant_journal.specs.Boards.{Frame, Keeps, Held, HasSlot, StandsAt, IsSlotOf, IsGiven, IsPrinting}
 use Rattle.grant_journal.proofs.Framed.{told, tells, at_frame, top_is, slot_told, slot_tells, unframed}
-use Rattle.grant_journal.proofs.Keeping.{keeps_on, led_more, keeps_more}
+use Rattle.grant_journal.proofs.BoardKept.{keeps_on, led_more, keeps_more}
 
 pub verdict : (modules : List Module) (count most : ℕ) (layout old : Running) (journal : List Entry) (room : ℕ) (output : List ℕ)
     (k : Keeps modules count most layout old journal room output)

@@ -7,7 +7,7 @@ use Rattle.verilog_meaning.specs.Names.{top_of}
 use Rattle.verilog_meaning.specs.Threads.{IsSameSlot, IsThreaded}
 use Rattle.sim_layout.specs.Rounds.{threads_of}
 use Rattle.sim_layout.specs.Running.{Running, state_of, IsSameNet}
-use Rattle.cycle_sim.proofs.Turning.{net_trans}
+use Rattle.cycle_sim.proofs.LockstepTurns.{net_trans}
 use Rattle.slot_sim.specs.Slots.{IsThreadedIn, IsSameSlotOf}
 use Rattle.journal_laws.specs.Steps.{InTop, OfTop}
 use Rattle.journal_laws.proofs.Alike.{net_sym, of_top}

@@ -1,5 +1,5 @@
 pub mod Framed
-pub mod Keeping
+pub mod BoardKept
 pub mod Commits
-pub mod Offering
-pub mod Turning
+pub mod Offers
+pub mod LoneTurns

@@ -1,2 +1,2 @@
-pub mod Ending
-pub mod Starting
+pub mod RunEnd
+pub mod RunStart

@@ -2,4 +2,4 @@ pub mod RefusalLemmas
 pub mod RunLemmas
 pub mod SimLemmas
 pub mod CheckLemmas
-pub mod Owing
+pub mod OwedAnswers

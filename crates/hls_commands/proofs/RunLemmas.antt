@@ -13,9 +13,9 @@ use Rattle.cycle_sim.specs.declared.sim.OpenError.TheVariants as errors
 use Rattle.cycle_sim.specs.Opened.{IsOpenable, IsCause}
 use Rattle.sim_layout.specs.Rounds.{threads_of}
 use Rattle.cycle_sim.proofs.Enables.{threads_of_sound}
-use Rattle.cycle_sim.proofs.Printing.{one_printer}
+use Rattle.cycle_sim.proofs.PrinterInstance.{one_printer}
 use Rattle.cycle_sim.proofs.Right.{right_of_sound}
-use Rattle.cycle_sim.proofs.Taking.{turns_taken}
+use Rattle.cycle_sim.proofs.TakenChoices.{turns_taken}
 use Rattle.journal_text.specs.declared.entry.Entry.{Entry}
 use Rattle.run_command.specs.Lines.{summary}
 use Rattle.run_command.specs.declared.replay.ReplayAnswer.{ReplayAnswer}

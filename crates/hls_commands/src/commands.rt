@@ -290,7 +290,7 @@ fn stopped(alloc: Global, stop: Stop) -> Answer
 }
 
 /// All that is owed for a task, before a byte is written.
-#[tactic(auto, using(crate::proofs::Owing::owed_steps))]
+#[tactic(auto, using(crate::proofs::OwedAnswers::owed_steps))]
 pub fn run_task<R: Threads + Wait + Sync, S: Source, G: Gate + Sync>(
     rt: &R,
     alloc: Global,

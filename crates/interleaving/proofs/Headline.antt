@@ -11,8 +11,8 @@ use Rattle.interleaving.specs.Hardware.{World, Hardware, IsPlanned, Lag}
 use Rattle.interleaving.specs.Progress.{IsStuck, Moment}
 use Rattle.interleaving.specs.Headline.{Shows, MarksEnd, DoneWhereEnded, Refinement, is_still, RunsAsOne}
 use Rattle.interleaving.proofs.Accesses.{memory_after-unwritten}
-use Rattle.interleaving.proofs.Following.{follows_weaker}
-use Rattle.interleaving.proofs.Paying.{all_moments}
+use Rattle.interleaving.proofs.FollowedRuns.{follows_weaker}
+use Rattle.interleaving.proofs.PaidMoves.{all_moments}
 use Rattle.interleaving.proofs.Update.{same_or_not}
 
 module _ {Value Local State Slot Cores : Type 0} (P : Source Value Local State) (H : Hardware Value Local State Slot Cores) (law : IsThreaded P) where

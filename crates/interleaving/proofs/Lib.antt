@@ -4,10 +4,10 @@ pub mod Accesses
 pub mod Apart
 pub mod Alone
 pub mod Races
-pub mod Commuting
-pub mod Lagging
+pub mod Commutation
+pub mod KeptLag
 pub mod Order
-pub mod Following
-pub mod Paying
+pub mod FollowedRuns
+pub mod PaidMoves
 pub mod Headline
 pub mod AnyOrder

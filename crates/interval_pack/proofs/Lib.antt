@@ -4,6 +4,6 @@ pub mod Packed
 pub mod Unique
 pub mod KeySets
 pub mod Vacated
-pub mod Placing
-pub mod Choosing
+pub mod PlacedIntervals
+pub mod ChosenIntervals
 pub mod SparsePacked

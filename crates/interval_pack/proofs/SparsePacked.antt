@@ -9,7 +9,7 @@ use Rattle.interval_pack.specs.Packing.{at, nowhere, start_of, Meet, crowd_at, I
 use Rattle.interval_pack.proofs.Counts.{holds, start_held, end_held, at_most_rows, counted}
 use Rattle.interval_pack.specs.Sparse.{HasPlace, Share, IsSparsePacking}
 use Rattle.interval_pack.specs.Chosen.{IsRisingBelow, IsSpread}
-use Rattle.interval_pack.proofs.Choosing.{AreChosen}
+use Rattle.interval_pack.proofs.ChosenIntervals.{AreChosen}
 
 -- of two things one is taken before the other
 either_before : (start : ℕ → ℕ) (i j : ℕ) → (i ≡ j → ⊥) → IsBefore start i j ⊎ IsBefore start j i

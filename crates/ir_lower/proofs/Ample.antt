@@ -33,10 +33,10 @@ use Rattle.code_blocks.specs.Room.{IsFull}
 use Rattle.code_places.specs.Needing.{needed, IsFullFor}
 use Rattle.ir_lower.specs.Codes.{function_needs}
 use Rattle.code_blocks.proofs.Room.{full_more}
-use Rattle.code_places.proofs.Staying.{fresh_typed, words_less}
-use Rattle.code_places.proofs.Resuming.{fresh_sound}
-use Rattle.code_places.proofs.Growing.{shifts_both, begins_shifts}
-use Rattle.code_places.proofs.Weighing.{body_weighs}
+use Rattle.code_places.proofs.TypedGrowth.{fresh_typed, words_less}
+use Rattle.code_places.proofs.ResumedPlaces.{fresh_sound}
+use Rattle.code_places.proofs.CodeGrowth.{shifts_both, begins_shifts}
+use Rattle.code_places.proofs.InlinedWeight.{body_weighs}
 use Rattle.ir_lower.proofs.Whole.{get_none, values_among, word_at}
 use Rattle.ir_lower.proofs.Roots.{thread_function, holds_of}
 use Rattle.code_storage.proofs.Sites.{formats_count}

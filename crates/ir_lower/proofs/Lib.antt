@@ -1,8 +1,8 @@
 pub mod Ample
-mod Filling
-pub mod Proceeding
+mod StatementSize
+pub mod OpenProgram
 pub mod Roots
 pub mod Sizes
-pub mod Stepping
+pub mod StatementSteps
 pub mod Untaken
 pub mod Whole

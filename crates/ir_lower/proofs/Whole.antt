@@ -40,14 +40,14 @@ use Rattle.code_places.specs.Weighing.{inlined_weight}
 use Rattle.code_following.specs.Typed.{types_of, IsTypedStage, BeginsWith, IsNameIfAny, IsTypedCode, IsThreadCode}
 use Rattle.code_following.proofs.Arguments.{none_given, none_named}
 use Rattle.code_blocks.specs.Typing.{Typing, IsTypedHome, Fits, HasWords}
-use Rattle.code_places.proofs.Staying.{stage_more, fresh_typed, words_less}
-use Rattle.code_places.proofs.Resuming.{fresh_sound}
-use Rattle.code_places.proofs.Controlling.{led_length, begin_at, begun_idle}
-use Rattle.code_places.proofs.Growing.{grows_both, shifts_both, begins_shifts, begun_reached}
-use Rattle.code_places.proofs.Seating.{seat_on}
-use Rattle.code_calls.proofs.Backing.{closes_shifts, closes_goes}
+use Rattle.code_places.proofs.TypedGrowth.{stage_more, fresh_typed, words_less}
+use Rattle.code_places.proofs.ResumedPlaces.{fresh_sound}
+use Rattle.code_places.proofs.LabelTargets.{led_length, begin_at, begun_idle}
+use Rattle.code_places.proofs.CodeGrowth.{grows_both, shifts_both, begins_shifts, begun_reached}
+use Rattle.code_places.proofs.KeptLocals.{seat_on}
+use Rattle.code_calls.proofs.ReturnCode.{closes_shifts, closes_goes}
 use Rattle.code_calls.proofs.Callees.{AreScalars, shape_passed, locals_passed}
-use Rattle.code_places.proofs.Weighing.{body_weighs}
+use Rattle.code_places.proofs.InlinedWeight.{body_weighs}
 use Rattle.code_places.proofs.Shapes.{shape_fresh, nothing_written}
 use Rattle.code_blocks.proofs.Arguments.{passed_none}
 use Rattle.ir_lower.proofs.Roots.{thread_function, function_weighs}

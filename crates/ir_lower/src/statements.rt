@@ -24,7 +24,7 @@ use std::alloc::Global;
 
 /// The code of a statement, in which calls are less than so deep. What the program never comes to has none.
 #[cycle(statements)]
-#[tactic(auto, using(code_control::proofs::Nesting::via_all, code_control::proofs::Filling::behind_none))]
+#[tactic(auto, using(code_control::proofs::NestedStatements::via_all, code_control::proofs::ControlSize::behind_none))]
 pub fn lower_statement(
     alloc: Global,
     program: &Program,

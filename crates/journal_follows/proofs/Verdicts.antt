@@ -19,7 +19,7 @@ use Rattle.journal_laws.specs.declared.verdict.Verdict.TheVariants as verdict
 use Rattle.journal_laws.specs.Journal.{Ends, all_entries}
 use Rattle.good_verilog.specs.GoodVerilog.{IsGoodVerilog}
 use Rattle.journal_follows.specs.Follows.{ShowsInterleaving, HasInterleaving, JournalsFollow, RunsFollow, ReplaysFollow}
-use Rattle.journal_follows.proofs.Following.{shows_interleaving}
+use Rattle.journal_follows.proofs.JournalFollowed.{shows_interleaving}
 
 -- ---- the net that the text reads as
 

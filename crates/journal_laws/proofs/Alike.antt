@@ -11,14 +11,14 @@ use Rattle.sim_layout.specs.Rounds.{threads_of}
 use Rattle.sim_layout.specs.Running.{Running, Stands, state_of, IsSameNet, IsSameState, TellsDone}
 use Rattle.slot_sim.proofs.Same.{same_sym, same_trans, cycle_moved, shows_moved}
 use Rattle.slot_sim.specs.Slots.{IsThreadedIn, Moving}
-use Rattle.slot_sim.proofs.Going.{is_state}
-use Rattle.slot_sim.proofs.Moving.{state_in}
+use Rattle.slot_sim.proofs.ClosedRuns.{is_state}
+use Rattle.slot_sim.proofs.WhoMoves.{state_in}
 use Rattle.journal_laws.specs.declared.verdict.Verdict.{Verdict}
 use Rattle.journal_laws.specs.declared.verdict.Verdict.TheVariants as verdicts
 use Rattle.journal_laws.specs.Journal.{CanMove, GoesOn, Ends, Judged}
 use Rattle.journal_laws.specs.Steps.{OfTop, IsFirstFound, IsMover, IsPreferred}
-use Rattle.journal_laws.proofs.Moving.{changes_from}
-use Rattle.journal_laws.proofs.Judging.{can_move, moving, not_shown, is_shown, stuck_none, cannot_stuck}
+use Rattle.journal_laws.proofs.LoneCycles.{changes_from}
+use Rattle.journal_laws.proofs.Judgements.{can_move, moving, not_shown, is_shown, stuck_none, cannot_stuck}
 
 pub net_sym : (a b : Running) → IsSameNet a b → IsSameNet b a
 net_sym a b n = record { modules = sym n.modules; parts = sym n.parts; steps = sym n.steps; starts = sym n.starts; prefs = sym n.prefs; done = sym n.done }

@@ -1,8 +1,8 @@
-pub mod Moving
-pub mod Growing
-pub mod Judging
+pub mod LoneCycles
+pub mod JournalGrowth
+pub mod Judgements
 pub mod Alike
-pub mod Committing
-pub mod Entering
+pub mod MadeEntries
+pub mod EntrySlots
 pub mod Once
-pub mod Passing
+pub mod ClosedCycles

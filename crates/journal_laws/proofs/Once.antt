@@ -7,7 +7,7 @@ use Rattle.verilog_meaning.specs.Cycles.{Valuation}
 use Rattle.verilog_meaning.specs.Threads as threads
 use Rattle.verilog_meaning.specs.Threads.{alone, IsSame, Moves, IsLegalEntry, IsJournal, open_cycles}
 use Rattle.sim_layout.specs.Running.{Running, Stands}
-use Rattle.slot_sim.proofs.Standing.{cycle_alike}
+use Rattle.slot_sim.proofs.FlatLaws.{cycle_alike}
 use Rattle.slot_sim.proofs.Same.{same_refl, same_sym, same_trans}
 use Rattle.journal_text.specs.declared.entry.Entry.{Entry}
 use Rattle.journal_laws.specs.Journal.{all_entries}

@@ -12,11 +12,11 @@ use Rattle.cycle_sim.proofs.Same.{same_refl}
 use Rattle.journal_text.specs.declared.entry.Entry.{Entry}
 use Rattle.journal_laws.specs.Journal.{entry}
 use Rattle.journal_laws.specs.Steps.{OfTop}
-use Rattle.journal_laws.proofs.Moving.{runs_append, times_more, moves_from}
+use Rattle.journal_laws.proofs.LoneCycles.{runs_append, times_more, moves_from}
 use Rattle.journal_laws.proofs.Alike.{of_top, of_net}
 use Rattle.journal_laws.proofs.Once.{moves_once}
 use Rattle.journal_replay.specs.Replays.{needed, AreRedone, CannotRedo, IsEntryRedone, IsNoEntry}
-use Rattle.journal_replay.proofs.Redoing.{AreDone}
+use Rattle.journal_replay.proofs.RedoneEntries.{AreDone}
 
 -- what a yes says, and what a no
 pub said : (b : Bool) (A B : Type 0) → b ≡ true → MatchBool b A B → A

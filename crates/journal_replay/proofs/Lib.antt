@@ -1,3 +1,3 @@
 pub mod Entries
-pub mod Redoing
-pub mod Replaying
+pub mod RedoneEntries
+pub mod Replayed

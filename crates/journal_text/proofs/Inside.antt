@@ -5,7 +5,7 @@ use Rattle.std.proofs.lemmas.Option.{same_Some}
 use Rattle.std.proofs.lemmas.Bool.{eqb-false}
 use Rattle.journal_text.specs.declared.entry.Entry.{Entry}
 use Rattle.journal_text.specs.Lines.{mark, fields, upto, past, IsFree, IsInside, IsShort, Spells, AreFields}
-use Rattle.journal_text.proofs.Cutting.{free_append, decimal_free, upto_first, past_first, cut}
+use Rattle.journal_text.proofs.FieldCuts.{free_append, decimal_free, upto_first, past_first, cut}
 
 upto_free : (b : ℕ) (text : List ℕ) → IsFree b (upto b text)
 upto_free b [] = tt

@@ -1,4 +1,4 @@
-pub mod Reading
-pub mod Cutting
+pub mod ReadNumbers
+pub mod FieldCuts
 pub mod Inside
-pub mod Parting
+pub mod JournalLines

@@ -37,7 +37,7 @@ fn is_number(text: &[u8], number: u64) -> bool
 }
 
 /// The number that a text is, in decimal without leading zeros and of 1 to 10 digits.
-#[tactic(auto, using(crate::proofs::Reading::number_read))]
+#[tactic(auto, using(crate::proofs::ReadNumbers::number_read))]
 pub fn number_of(text: &[u8]) -> Option<u64>
     ensures { MatchOption result ((n : ℕ) → IsNumber text.now n → ⊥) (IsNumber text.now) }
 {

@@ -68,7 +68,7 @@ fn entry_of_pieces(thread: &[u8], closed: &[u8], last: &[u8]) -> Option<Entry>
 }
 
 /// The entry whose fields a text is.
-#[tactic(auto, using(crate::proofs::Cutting::no_behind, crate::proofs::Cutting::no_last, crate::proofs::Cutting::from_pieces, crate::proofs::Cutting::to_pieces))]
+#[tactic(auto, using(crate::proofs::FieldCuts::no_behind, crate::proofs::FieldCuts::no_last, crate::proofs::FieldCuts::from_pieces, crate::proofs::FieldCuts::to_pieces))]
 fn entry_in(text: &[u8]) -> Option<Entry>
     ensures { MatchOption result ((e : Line) → AreFields text.now e → ⊥) (AreFields text.now) }
 {

@@ -82,7 +82,7 @@ impl Reading {
     }
 
     /// One line more.
-    #[tactic(auto, using(crate::proofs::Parting::spelled_more, crate::proofs::Parting::misspelt_here, crate::proofs::Parting::misspelt_more))]
+    #[tactic(auto, using(crate::proofs::JournalLines::spelled_more, crate::proofs::JournalLines::misspelt_here, crate::proofs::JournalLines::misspelt_more))]
     fn add(&mut self, line: &[u8]) -> Result<(), AllocError>
         ensures { OnOk result (ReadsOn self.old line.now self.new) }
     {

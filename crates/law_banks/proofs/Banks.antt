@@ -16,7 +16,7 @@ use Rattle.bank_partition.specs.declared.banks.Spread.{Spread}
 use Rattle.bank_partition.specs.Counts.{words_of}
 use Rattle.bank_partition.specs.Shapes.{BankShape, spread, first_value, count_of, bank_of as bank_shape, banks_from, spreads_from}
 use Rattle.bank_partition.specs.Partition.{AreBanks}
-use Rattle.bank_partition.proofs.Standing.{spread_front, spread_behind, length-spread}
+use Rattle.bank_partition.proofs.BanksOfSpreads.{spread_front, spread_behind, length-spread}
 use Rattle.thread_promise.specs.Globals.{bank_total, bank_at, bank_of}
 use Rattle.law_banks.proofs.Typed.{zero_typed}
 

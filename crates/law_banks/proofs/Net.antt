@@ -21,7 +21,7 @@ use Rattle.law_banks.specs.Memory.{Holds}
 use Rattle.law_banks.specs.Cycle.{AreBanked, Does, CyclesBanks, memory_next}
 use Rattle.law_banks.specs.Partition.{globals_of, ArePartitioned}
 use Rattle.law_banks.specs.Net.{HasBanks}
-use Rattle.law_banks.proofs.Changing.{bank_changes}
+use Rattle.law_banks.proofs.BankChanges.{bank_changes}
 use Rattle.law_banks.proofs.Partitioned.{there, start_holds}
 
 -- ---- a step of the net

@@ -21,7 +21,7 @@ use Rattle.bank_partition.specs.declared.banks.Spread.{Spread}
 use Rattle.bank_partition.specs.Counts.{power_from, power_within, words_of}
 use Rattle.bank_partition.specs.Shapes.{BankShape, number_at, first_value, count_of, spreads_from}
 use Rattle.bank_partition.specs.Partition.{shapes}
-use Rattle.bank_partition.proofs.Counting.{has_word}
+use Rattle.bank_partition.proofs.BankCount.{has_word}
 use Rattle.bank_cores.specs.declared.bank.Shape.{Shape as Bank}
 use Rattle.bank_cores.specs.Machine.{Words}
 use Rattle.thread_promise.specs.Globals.{bank_total, bank_of}

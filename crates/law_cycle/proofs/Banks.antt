@@ -19,13 +19,13 @@ use Rattle.thread_promise.specs.Slots.{ShowsInBlock}
 use Rattle.thread_promise.specs.Globals.{bank_total, bank_of, place_now, bank_now, written_now, IsOpen}
 use Rattle.thread_promise.specs.Promise.{is_run}
 use Rattle.law_banks.specs.Cycle.{IsAskFor, AreBanked, Works, Does, Elsewhere}
-use Rattle.law_banks.proofs.Accessing.{request_is, request_now, spread_of}
-use Rattle.law_banks.proofs.Finding.{IsFound, find, stopped_is_silent}
+use Rattle.law_banks.proofs.StateAccesses.{request_is, request_now, spread_of}
+use Rattle.law_banks.proofs.AskingOperation.{IsFound, find, stopped_is_silent}
 use Rattle.law_cycle.specs.Thread as thread
 use Rattle.law_cycle.specs.Thread.{Thread, Runs, IsThread, Where, AtAct, AtRest, AtMeeting}
 use Rattle.law_cycle.specs.Asks.{AsksFor, IsWanted, Asks}
-use Rattle.law_cycle.proofs.Moving.{bank_below}
-use Rattle.law_cycle.proofs.Standing.{same_block}
+use Rattle.law_cycle.proofs.ThreadMoves.{bank_below}
+use Rattle.law_cycle.proofs.SlotStands.{same_block}
 
 bit_asks : (c : Bool) → nat_lt 0 (bit_of c) ≡ c
 bit_asks true = refl

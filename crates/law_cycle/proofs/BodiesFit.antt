@@ -13,7 +13,7 @@ use Rattle.leaf_machine.specs.Ports.{CorePort, asks_of, told_of, ask_place, told
 use Rattle.core_family.specs.declared.cores.Cores.{Cores}
 use Rattle.core_family.specs.Family.{CoreShape, machine_of, port_of, ask_width, told_width}
 use Rattle.core_family.specs.Kinds.{cores_of, ports_of}
-use Rattle.core_family.proofs.Printing.{each_fits}
+use Rattle.core_family.proofs.OnePrinter.{each_fits}
 use Rattle.c_program.specs.Tree.{Program}
 use Rattle.law_cycle.specs.Bodies.{FitsCores, BodiesFit, core_at, core_count, core_machine}
 use Rattle.law_cycle.specs.Built.{Parts, IsBuilt, thread_at}

@@ -23,7 +23,7 @@ use Rattle.law_cycle.specs.Going.{Goes}
 use Rattle.law_cycle.specs.Laws.{Next, NetGoes}
 use Rattle.law_cycle.proofs.Cores.{has_banks}
 use Rattle.law_cycle.proofs.Steps.{banked, total_is, each_steps}
-use Rattle.law_cycle.proofs.Going.{step_goes}
+use Rattle.law_cycle.proofs.PlannedStep.{step_goes}
 
 -- by number a value of each thread, and another one beyond
 abbrev pick : {A : Type 0} (T i : ℕ) (c : Bool) → nat_lt i T ≡ c → (i < T → A) → A → A

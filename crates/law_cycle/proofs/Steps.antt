@@ -12,13 +12,13 @@ use Rattle.block_ir.specs.Asked.{barrier_core, ids_core}
 use Rattle.block_refine.specs.Routines.{rest_of}
 use Rattle.law_threads.specs.Surroundings.{routine_of}
 use Rattle.core_family.specs.Family.{CoreShape, Barrier, Forks, machine_of, ask_width, told_width}
-use Rattle.core_family.proofs.Telling.{each_keeps_fitting}
+use Rattle.core_family.proofs.ToldFits.{each_keeps_fitting}
 use Rattle.law_banks.specs.Cycle.{AreBanked}
 use Rattle.law_banks.specs.Partition.{globals_of}
 use Rattle.law_banks.proofs.Partitioned.{there, total, some_banks, bank_below, partition_is_banked, words_fit}
 use Rattle.law_cycle.specs.Thread.{Thread, IsThread, AreWide, IsNews}
 use Rattle.law_cycle.specs.Steps.{Fits}
-use Rattle.law_cycle.proofs.Stepping.{thread_steps, thread_is_done}
+use Rattle.law_cycle.proofs.ThreadSteps.{thread_steps, thread_is_done}
 use Rattle.law_cycle.specs.Built.{Parts, IsBuilt, thread_at}
 use Rattle.law_cycle.specs.Bodies.{numbers_of, core_at, core_machine, core_count}
 use Rattle.law_cycle.specs.Stage.{Stage, held, news, asks_of, granted_to}

@@ -11,8 +11,8 @@ use Rattle.cycle_sim.proofs.Same.{shows_moved}
 use Rattle.top_wiring.specs.Leaves.{SettlesOnce}
 use Rattle.law_net.specs.Alike.{held, Writes, Ends, AreRunsOf, AreWritesOf, RunsAsTop, WritesAsTop, EndsAsTop}
 use Rattle.law_net.proofs.Insides.{register_at, word_at}
-use Rattle.law_net.proofs.Turning.{shows_in, counts_after, reaches_in}
-use Rattle.law_net.proofs.Wrapping.{around, reaches_out, held_around, shows_around}
+use Rattle.law_net.proofs.RoundTurns.{shows_in, counts_after, reaches_in}
+use Rattle.law_net.proofs.WrappedRuns.{around, reaches_out, held_around, shows_around}
 
 pub runs_as_top : RunsAsTop
 runs_as_top layout modules n w prefs enough = record {

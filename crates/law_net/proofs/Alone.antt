@@ -11,8 +11,8 @@ use Rattle.circuit.specs.Machines.{CoreMachine, ThreadMachine}
 use Rattle.circuit.specs.Wiring.{NetPlaces}
 use Rattle.law_net.specs.Steady.{IsSteady}
 use Rattle.law_net.proofs.Same.{same_at}
-use Rattle.law_net.proofs.Winning.{Rests, granted, who_wins, Wins}
-use Rattle.law_net.proofs.Resting.{one_module, off_rests, stays_by, instance_rests, all_stays, all_silent}
+use Rattle.law_net.proofs.GrantedThread.{Rests, granted, who_wins, Wins}
+use Rattle.law_net.proofs.RestingCycle.{one_module, off_rests, stays_by, instance_rests, all_stays, all_silent}
 use Rattle.law_net.proofs.Bits.{not_set, none_set}
 use Rattle.law_net.proofs.Fields.{own_obeys, own_holds, need_low, slot_rests, slot_of, slot_agrees}
 

@@ -16,18 +16,18 @@ use Rattle.circuit.specs.Machines.{CoreMachine, Grants, after_grant, printed, Th
 use Rattle.circuit.specs.Machines as machines
 use Rattle.circuit.specs.Wiring.{NetPlaces, IsInstanceOf}
 use Rattle.circuit.proofs.Arbitration.{granted_same}
-use Rattle.circuit.proofs.Stepping.{obeys}
+use Rattle.circuit.proofs.NetStep.{obeys}
 use Rattle.leaf_machine.specs.Steady.{Asks}
 use Rattle.law_net.specs.Steady.{HoldsNothing, IsSteady}
-use Rattle.law_net.proofs.Agreeing.{agree_back, agree_on}
-use Rattle.law_net.proofs.Feeding.{core_grants, thread_granted, thread_told}
+use Rattle.law_net.proofs.AgreedReadings.{agree_back, agree_on}
+use Rattle.law_net.proofs.FedModules.{core_grants, thread_granted, thread_told}
 use Rattle.law_net.proofs.Same.{nothing_agrees, same_at}
-use Rattle.law_net.proofs.Winning.{core_state, core_shows, may, granted, wins, asks_if, enabled_if, bit_below, low_bit}
-use Rattle.law_net.proofs.Resting.{instance_is, one_module, off_rests, edge_is, stays_by}
+use Rattle.law_net.proofs.GrantedThread.{core_state, core_shows, may, granted, wins, asks_if, enabled_if, bit_below, low_bit}
+use Rattle.law_net.proofs.RestingCycle.{instance_is, one_module, off_rests, edge_is, stays_by}
 use Rattle.law_net.proofs.Fields.{own_obeys, own_holds, own_enable, need_low}
 use Rattle.law_net.proofs.Stuck.{part_alike, may_alike}
 use Rattle.law_net.specs.Grants.{DifferIn, thread_at, IsOutside}
-use Rattle.law_net.proofs.Granting.{thread_place}
+use Rattle.law_net.proofs.CycleGrants.{thread_place}
 
 zero_not_one : (b : ℕ) → b ≡ 0 → b ≡ 1 → ⊥
 zero_not_one b e f = absurd (omega arith)

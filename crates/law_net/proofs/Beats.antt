@@ -11,13 +11,13 @@ use Rattle.circuit.specs.Modules.{Agree}
 use Rattle.circuit.specs.Wiring.{is_enabled}
 use Rattle.leaf_machine.proofs.Leaves.{leaf_keeps_slots}
 use Rattle.law_cycle.specs.Thread.{Thread, IsThread, Shows}
-use Rattle.law_cycle.proofs.Standing.{shows_of, where_on}
+use Rattle.law_cycle.proofs.SlotStands.{shows_of, where_on}
 use Rattle.law_cycle.specs.Built.{Parts, Machine, IsBuilt, thread_at}
 use Rattle.law_cycle.specs.Bodies.{core_machine, core_count}
 use Rattle.law_cycle.specs.Stage.{Stage, news, granted_to}
 use Rattle.law_cycle.proofs.Steps.{is_thread, fits}
 use Rattle.law_net.specs.Follows.{next_machine}
-use Rattle.law_net.proofs.Agreeing.{agree_on}
+use Rattle.law_net.proofs.AgreedReadings.{agree_on}
 use Rattle.law_net.proofs.Clock.{cycled, next, moves}
 
 same_bit : (a b : Bool) → bit_of a ≡ bit_of b → a ≡ b

@@ -13,9 +13,9 @@ use Rattle.law_cycle.specs.Stage.{Stage, look}
 use Rattle.law_cycle.specs.Cycle.{FitsTheory, threads_of, Cycled}
 use Rattle.law_cycle.specs.Clock as net
 use Rattle.law_cycle.specs.Clock.{Cycles, EnablesAll}
-use Rattle.law_cycle.proofs.Fitting.{built_fits}
-use Rattle.law_cycle.proofs.Cycling.{net_cycles}
-use Rattle.law_cycle.proofs.Clocking.{net_is_clocked}
+use Rattle.law_cycle.proofs.BuiltCode.{built_fits}
+use Rattle.law_cycle.proofs.MachineCycle.{net_cycles}
+use Rattle.law_cycle.proofs.Clocked.{net_is_clocked}
 use Rattle.law_net.proofs.Masks.{full_enables}
 
 module _ (P : Program) (K : Parts) (built : IsBuilt P K) where

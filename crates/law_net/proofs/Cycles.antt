@@ -7,7 +7,7 @@ use Rattle.verilog_meaning.specs.Cycles.{Path, Valuation, Choice, IsAt, HasMemor
 use Rattle.circuit.specs.Wiring.{stepped, run, outputs, start, PrintsAlone, ShowsAll}
 use Rattle.circuit.proofs.Staged.{net_fits, net_statements, no_deeper}
 use Rattle.circuit.proofs.States.{keeps_states}
-use Rattle.circuit.proofs.Running.{starts, cycle_steps, runs_steps}
+use Rattle.circuit.proofs.NetRuns.{starts, cycle_steps, runs_steps}
 use Rattle.block_ir.specs.Asked.{printer_core}
 use Rattle.law_cycle.specs.Family.{CoreShape, Bank, Mutex, Barrier, Forks, Prints, machine_of}
 use Rattle.print_core.specs.declared.printer.Shape.{Shape as PrinterShape}

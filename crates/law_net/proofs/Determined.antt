@@ -10,10 +10,10 @@ use Rattle.verilog_meaning.specs.Cycles.{Valuation, Choice, number, IsSettled, S
 use Rattle.verilog_meaning.specs.Follows.{IsDetermined}
 use Rattle.circuit.specs.Modules.{Agree}
 use Rattle.circuit.proofs.Staged.{staged_settles, staged_same}
-use Rattle.circuit.proofs.Stepping.{obeys, holds}
+use Rattle.circuit.proofs.NetStep.{obeys, holds}
 use Rattle.leaf_machine.specs.Leaves.{leaf_thread}
 use Rattle.leaf_machine.proofs.Leaves.{slot_bit_is}
-use Rattle.law_net.proofs.Agreeing.{agree_on, agree_here}
+use Rattle.law_net.proofs.AgreedReadings.{agree_on, agree_here}
 use Rattle.law_cycle.specs.Built.{Parts}
 use Rattle.law_cycle.specs.Bodies.{core_machine, core_count}
 use Rattle.law_net.specs.Whole.{Carries, IsWhole}

@@ -1,6 +1,6 @@
 -- What each cycle of a net of threads that keep to themselves does.
 use Rattle.std.proofs.Common.{◌≡◌, ℕ, ◌<◌, List, [], ◌∷◌, Some, slice_get, refl, sym, ap, ◌∙◌, subst}
-use Rattle.law_net.proofs.Agreeing.{agree_on, agree_back}
+use Rattle.law_net.proofs.AgreedReadings.{agree_on, agree_back}
 use Rattle.hls_ints.specs.Residues as bits
 use Rattle.netlist.specs.declared.netlist.Module.{Module}
 use Rattle.verilog_meaning.specs.Readings.{next_reading}
@@ -9,12 +9,12 @@ use Rattle.verilog_meaning.specs.Threads.{bit_of, IsSameSlot, Needs}
 use Rattle.circuit.specs.Modules.{Obeys, Agree}
 use Rattle.circuit.specs.Machines.{CoreMachine, ThreadMachine}
 use Rattle.circuit.specs.Wiring.{NetPlaces}
-use Rattle.circuit.proofs.Stepping.{obeys, holds}
+use Rattle.circuit.proofs.NetStep.{obeys, holds}
 use Rattle.law_net.specs.Steady.{IsSteady}
-use Rattle.law_net.proofs.Feeding.{enable_is}
+use Rattle.law_net.proofs.FedModules.{enable_is}
 use Rattle.law_net.proofs.Same.{same_in, agrees_in}
-use Rattle.law_net.proofs.Winning.{Rests}
-use Rattle.law_net.proofs.Resting.{one_module, off_rests, edge_is, stays_by, rests_by}
+use Rattle.law_net.proofs.GrantedThread.{Rests}
+use Rattle.law_net.proofs.RestingCycle.{one_module, off_rests, edge_is, stays_by, rests_by}
 
 module _ (threads cores : ℕ) (T : ℕ → ThreadMachine) (C : ℕ → CoreMachine) (p : NetPlaces threads cores T C) (modules : List Module) (top : Module)
     (steady : IsSteady threads cores T C p modules top) where

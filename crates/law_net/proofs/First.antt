@@ -18,7 +18,7 @@ use Rattle.law_cycle.specs.Built.{Parts, IsBuilt, Machine}
 use Rattle.law_cycle.specs.Bodies.{numbers_of}
 use Rattle.law_cycle.specs.Stage.{cores_shown}
 use Rattle.law_cycle.specs.Cycle.{First}
-use Rattle.law_cycle.proofs.Starting.{net_starts}
+use Rattle.law_cycle.proofs.Start.{net_starts}
 use Rattle.law_net.specs.Start.{CountElements, AreFirst}
 use Rattle.law_net.specs.Follows.{IsFirst}
 use Rattle.planned_block.specs.Slot.{Slot}

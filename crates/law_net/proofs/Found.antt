@@ -8,7 +8,7 @@ use Rattle.netlist.specs.declared.netlist.Module.{Module}
 use Rattle.verilog_meaning.specs.Names.{module_named}
 use Rattle.top_wiring.proofs.Lists.{get_either}
 use Rattle.law_net.specs.Found.{HasNo, RoundIsFound}
-use Rattle.law_net.proofs.Naming.{other_name}
+use Rattle.law_net.proofs.SameNames.{other_name}
 
 pub named_behind : (xs : List Module) (name : List ℕ) (y : Module) (ys : List Module) → HasNo name xs → y.name ≡ name → module_named (xs ++ y ∷ ys) name ≡ Some y
 named_behind [] name y ys h e = ap (λ b. if b then Some y else module_named ys name) ((bytes_eq-Decides name y.name).1 (sym e))

@@ -7,7 +7,7 @@ use Rattle.netlist.specs.declared.netlist.Netlist.{Netlist}
 use Rattle.core_tables.specs.Tables.{Table, layout_of, modules_of}
 use Rattle.core_tables.specs.Whole.{AreThreads}
 use Rattle.net_emitter.specs.Placing as placing
-use Rattle.net_emitter.proofs.Placing.{cores_are_placed}
+use Rattle.net_emitter.proofs.CoresPlaced.{cores_are_placed}
 use Rattle.law_cycle.specs.Built.{Parts, thread_modules, thread_leaves, IsBuilt}
 use Rattle.law_net.specs.Wired.{IsWholeTableOf}
 use Rattle.law_net.proofs.ThreadsStand.{threads_stand}

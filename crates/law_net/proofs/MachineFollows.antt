@@ -18,9 +18,9 @@ use Rattle.race_model.proofs.Orderly.{orderly}
 use Rattle.interleaving.specs.Run.{machine_after as run_after, counted_choices, FollowsOne}
 use Rattle.interleaving.specs.Headline.{Shows}
 use Rattle.planned_block.specs.Headline.{is_still}
-use Rattle.planned_block.proofs.Chaining.{planned_runs}
+use Rattle.planned_block.proofs.CycleChain.{planned_runs}
 use Rattle.planned_block.specs.Advance.{any_below}
-use Rattle.planned_block.proofs.Advancing.{any_tells, some_tells}
+use Rattle.planned_block.proofs.Advances.{any_tells, some_tells}
 use Rattle.planned_block.proofs.Bits.{same_is, other_is}
 use Rattle.verilog_meaning.specs.Cycles.{Choice}
 use Rattle.circuit.specs.Wiring.{run, outputs}

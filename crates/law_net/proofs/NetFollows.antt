@@ -16,7 +16,7 @@ use Rattle.thread_semantics.specs.State.{State}
 use Rattle.thread_semantics.specs.Step.{Steps, after}
 use Rattle.race_model.proofs.Agreement.{same_meaning}
 use Rattle.race_model.proofs.Orderly.{orderly}
-use Rattle.bank_partition.proofs.Counting as counting
+use Rattle.bank_partition.proofs.BankCount as counting
 use Rattle.netlist.specs.declared.netlist.Memory.{Memory}
 use Rattle.netlist.specs.declared.netlist.Module.{Module}
 use Rattle.verilog_meaning.specs.Readings.{Reading}
@@ -42,7 +42,7 @@ use Rattle.law_net.proofs.Determined.{some_thread, done_is, shown_is, determined
 use Rattle.law_net.proofs.Cycles.{Shows, initial_shows, run_shows, initial_is_state, run_state}
 use Rattle.law_net.proofs.Slots.{changes}
 use Rattle.law_net.proofs.Counted.{counted}
-use Rattle.law_net.proofs.Existing.{runs_exist}
+use Rattle.law_net.proofs.RunsExist.{runs_exist}
 
 bit_set : (b : Bool) → 1 ≡ bit_of b → b ≡ true
 bit_set true e = refl

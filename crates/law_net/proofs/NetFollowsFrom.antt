@@ -15,7 +15,7 @@ use Rattle.thread_semantics.specs.State.{State}
 use Rattle.thread_semantics.specs.Step.{Steps, after}
 use Rattle.race_model.proofs.Agreement.{same_meaning}
 use Rattle.race_model.proofs.Orderly.{orderly}
-use Rattle.bank_partition.proofs.Counting as counting
+use Rattle.bank_partition.proofs.BankCount as counting
 use Rattle.netlist.specs.declared.netlist.Memory.{Memory}
 use Rattle.netlist.specs.declared.netlist.Module.{Module}
 use Rattle.verilog_meaning.specs.Readings.{Reading}

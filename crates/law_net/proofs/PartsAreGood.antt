@@ -22,7 +22,7 @@ use Rattle.core_tables.specs.Tables.{PlacedCore, Table, shapes_of}
 use Rattle.core_tables.specs.Tables as table
 use Rattle.core_tables.specs.Whole.{IsThreadName, IsWholeTable, AreThreads}
 use Rattle.core_tables.specs.Nets.{IsNetOfTable}
-use Rattle.core_tables.proofs.Netting.{tables_are_nets}
+use Rattle.core_tables.proofs.TableNets.{tables_are_nets}
 use Rattle.law_net.specs.Threaded.{AreSteady}
 use Rattle.law_net.proofs.TablesAreThreaded.{net_of_table_is_threaded}
 use Rattle.law_net.specs.Grants.{IsGranting}
@@ -30,7 +30,7 @@ use Rattle.law_net.proofs.TablesGrant.{net_of_table_grants}
 use Rattle.law_cycle.specs.Cores.{Cores}
 use Rattle.program_cores.specs.Placing.{placed}
 use Rattle.law_cycle.specs.Kinds.{cores_of}
-use Rattle.program_cores.proofs.Placing.{cores_are_placed}
+use Rattle.program_cores.proofs.CoresPlaced.{cores_are_placed}
 use Rattle.law_routines.specs.Surroundings.{routine_in, routine_of}
 use Rattle.law_routines.specs.Built.{Parts, thread_modules, thread_leaves, IsBuilt, IsCode}
 use Rattle.law_routines.proofs.Cores.{count_is}

@@ -10,12 +10,12 @@ use Rattle.netlist.specs.declared.netlist.Module.{Module}
 use Rattle.netlist.specs.Laid.{AreApart, signal_names}
 use Rattle.verilog_meaning.specs.Names.{numbered}
 use Rattle.verilog_meaning.specs.Ports.{HasPorts}
-use Rattle.verilog_meaning.proofs.Listing.{AreOnce, IsIn, same_length}
+use Rattle.verilog_meaning.proofs.DistinctLists.{AreOnce, IsIn, same_length}
 use Rattle.sim_layout.specs.Rounds.{is_input, is_pref, pref_count, prefs_in}
 use Rattle.circuit.specs.Rows.{spread}
 use Rattle.circuit.proofs.Growth.{length-spread}
 use Rattle.top_wiring.proofs.Lists.{get_spread, spread_back}
-use Rattle.top_wiring.proofs.Naming.{numbers_same}
+use Rattle.top_wiring.proofs.ApartNames.{numbers_same}
 use Rattle.law_net.specs.Prefs.{PrefsAreCounted}
 use Rattle.law_net.proofs.CountedPrefs.{pref_is}
 

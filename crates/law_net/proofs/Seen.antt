@@ -29,12 +29,12 @@ use Rattle.law_threads.specs.Stands.{StandsFor}
 use Rattle.law_threads.specs.Surroundings.{hardware_code}
 use Rattle.law_threads.specs.Laws.{marks}
 use Rattle.law_threads.proofs.Counts.{fresh_below}
-use Rattle.law_threads.proofs.Blocking.{marks_threads}
+use Rattle.law_threads.proofs.WhoBlocks.{marks_threads}
 use Rattle.law_cycle.specs.Built.{Parts, IsBuilt}
 use Rattle.law_cycle.specs.Bodies.{numbers_of, core_at}
 use Rattle.law_cycle.specs.Stage.{Stage, shown_as, cores_shown, look}
 use Rattle.law_cycle.proofs.Cores.{printer_at}
-use Rattle.law_cycle.proofs.Fitting.{numbers}
+use Rattle.law_cycle.proofs.BuiltCode.{numbers}
 use Rattle.law_cycle.proofs.Steps.{threads_are_done}
 use Rattle.law_net.specs.Start.{StartsThere}
 use Rattle.law_net.specs.Follows.{machine_of_thread, IsFirst}

@@ -1,6 +1,6 @@
 -- The slot of a thread is what its instance holds: a cycle leaves it exactly where the machine's step does.
 use Rattle.std.proofs.Common.{◌≡◌, ℕ, ◌<◌, List, [], ◌∷◌, ◌++◌, length, Some, slice_get, sym, ap, ◌∙◌, subst}
-use Rattle.law_net.proofs.Agreeing.{agree_on, agree_back}
+use Rattle.law_net.proofs.AgreedReadings.{agree_on, agree_back}
 use Rattle.c_program.specs.Tree.{Program}
 use Rattle.netlist.specs.declared.netlist.Signal.{Signal}
 use Rattle.netlist.specs.declared.netlist.Memory.{Memory}

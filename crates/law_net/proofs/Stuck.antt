@@ -2,7 +2,7 @@
 use Rattle.std.proofs.Common.{◌≡◌, ℕ, ◌<◌, true, false}
 use Rattle.std.proofs.Common.{List, [], ◌∷◌, None, refl, sym, ap, ◌∙◌, inl, inr, ⊎_elim}
 use Rattle.std.proofs.lemmas.Bool.{both_ways}
-use Rattle.law_net.proofs.Agreeing.{agree_on, agree_back}
+use Rattle.law_net.proofs.AgreedReadings.{agree_on, agree_back}
 use Rattle.hls_ints.specs.Residues as bits
 use Rattle.netlist.specs.declared.netlist.Source.TheVariants.{Assigned, Port}
 use Rattle.netlist.specs.declared.netlist.Value.TheVariants.{Constant}
@@ -16,10 +16,10 @@ use Rattle.circuit.specs.Machines.{CoreMachine, ThreadMachine, Hears}
 use Rattle.circuit.specs.Wiring.{NetPlaces, IsAskedBy}
 use Rattle.circuit.proofs.Arbitration.{none_may}
 use Rattle.law_net.specs.Steady.{IsSteady}
-use Rattle.law_net.proofs.Feeding.{fed, thread_granted, thread_told}
+use Rattle.law_net.proofs.FedModules.{fed, thread_granted, thread_told}
 use Rattle.law_net.proofs.Same.{agrees_all}
-use Rattle.law_net.proofs.Winning.{Rests, Wins, core_state, core_shows, granted, may, bit_below, low_bit}
-use Rattle.law_net.proofs.Resting.{off_rests, all_stays, all_silent}
+use Rattle.law_net.proofs.GrantedThread.{Rests, Wins, core_state, core_shows, granted, may, bit_below, low_bit}
+use Rattle.law_net.proofs.RestingCycle.{off_rests, all_stays, all_silent}
 use Rattle.law_net.proofs.Bits.{set_here, alone_is_choice}
 use Rattle.law_net.proofs.Fields.{own_obeys, own_holds, own_enable, slot_of, slot_rests}
 use Rattle.law_net.proofs.Alone.{none_by, none_if_rests}

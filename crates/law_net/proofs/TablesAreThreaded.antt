@@ -15,29 +15,29 @@ use Rattle.verilog_meaning.specs.Threads.{HasThread}
 use Rattle.circuit.specs.Modules.{Agree}
 use Rattle.circuit.specs.Machines.{CoreMachine, ThreadMachine}
 use Rattle.circuit.proofs.Staged.{no_deeper, staged_settles}
-use Rattle.circuit.proofs.Stepping.{obeys, holds}
+use Rattle.circuit.proofs.NetStep.{obeys, holds}
 use Rattle.top_parts.specs.declared.layout.Layout.{Layout}
 use Rattle.top_wiring.specs.Parts as top_parts
 use Rattle.top_wiring.specs.Ports.{threads, cores}
 use Rattle.top_wiring.specs.Top.{starts, thread_instance, arbiter_instance}
 use Rattle.top_wiring.specs.Wired.{IsWired}
-use Rattle.top_wiring.proofs.Netting as netting
-use Rattle.top_wiring.proofs.Standing as standing
+use Rattle.top_wiring.proofs.WiredNet as netting
+use Rattle.top_wiring.proofs.TopPlaces as standing
 use Rattle.lists.proofs.Places.{get_there, get_front}
 use Rattle.leaf_machine.specs.Leaves.{LeafPorts, leaf_thread, leaf_places}
 use Rattle.leaf_machine.specs.Steady.{KeepsToItself}
 use Rattle.leaf_machine.proofs.Leaves.{slot_bit_is}
-use Rattle.law_net.proofs.Agreeing.{agree_on}
+use Rattle.law_net.proofs.AgreedReadings.{agree_on}
 use Rattle.print_core.specs.declared.printer.Shape.{Shape as PrinterShape}
 use Rattle.core_tables.specs.Family.{CoreShape, Bank, Mutex, Barrier, Forks, Prints, machine_of, machine_at}
-use Rattle.core_tables.proofs.Waiting.{each_waits}
+use Rattle.core_tables.proofs.OffersToAskers.{each_waits}
 use Rattle.core_tables.specs.Tables.{PlacedCore, Table, laid_core, kinds_at, layout_of, modules_of, shapes_of}
 use Rattle.core_tables.specs.Laws.{SameCore, SameOf, parts, told}
 use Rattle.core_tables.specs.Whole.{IsWholeTable, AreThreads, places_of}
 use Rattle.core_tables.specs.Nets.{IsNetOfTable}
 use Rattle.core_tables.proofs.Lists.{map_back}
-use Rattle.core_tables.proofs.Fitting.{tables_fit}
-use Rattle.core_tables.proofs.Netting.{tables_are_nets}
+use Rattle.core_tables.proofs.TablesFit.{tables_fit}
+use Rattle.core_tables.proofs.TableNets.{tables_are_nets}
 use Rattle.law_net.specs.Steady.{HoldsNothing, ShowsEnd, IsSteady}
 use Rattle.law_net.proofs.Stateless.{arbiter_holds, top_holds}
 use Rattle.law_net.proofs.SteadyIsThreaded.{steady_is_threaded}

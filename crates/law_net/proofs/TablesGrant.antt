@@ -14,22 +14,22 @@ use Rattle.top_wiring.specs.Parts as top_parts
 use Rattle.top_wiring.specs.Ports.{threads, cores}
 use Rattle.top_wiring.specs.Top.{starts, arbiter_instance}
 use Rattle.top_wiring.specs.Wired.{IsWired}
-use Rattle.top_wiring.proofs.Standing as standing
+use Rattle.top_wiring.proofs.TopPlaces as standing
 use Rattle.leaf_machine.specs.Leaves.{LeafPorts, leaf_thread, leaf_places}
 use Rattle.core_tables.specs.Family.{machine_at}
 use Rattle.core_tables.specs.Tables.{Table, layout_of, modules_of, shapes_of}
 use Rattle.core_tables.specs.Whole.{IsWholeTable, AreThreads, places_of}
 use Rattle.core_tables.specs.Nets.{IsNetOfTable}
-use Rattle.core_tables.proofs.Netting.{tables_are_nets}
+use Rattle.core_tables.proofs.TableNets.{tables_are_nets}
 use Rattle.law_net.specs.Steady.{IsSteady}
 use Rattle.law_net.specs.Threaded.{AreSteady}
 use Rattle.law_net.proofs.TablesAreThreaded.{is_steady}
 use Rattle.law_net.specs.Grants.{HasBeat, IsGranting}
 use Rattle.law_cycle.specs.Bodies.{TurnsBeat}
 use Rattle.law_net.specs.Granted.{NetOfTableGrants}
-use Rattle.law_net.proofs.Granting.{has_cores, right_grants}
+use Rattle.law_net.proofs.CycleGrants.{has_cores, right_grants}
 use Rattle.law_net.proofs.Apart.{alike}
-use Rattle.law_net.proofs.Beating.{toggled}
+use Rattle.law_net.proofs.BeatToggles.{toggled}
 
 module _ (t : Table) (modules : ℕ → Module) (leaves : ℕ → LeafPorts) (beats : ℕ → ℕ) (n : Netlist) (whole : IsWholeTable t) (runs : AreThreads t modules leaves)
     (steady : AreSteady t modules leaves) (turning : (i : ℕ) → i < length t.threads → TurnsBeat (modules i) (beats i)) (wired : IsWired (modules_of t) (layout_of t) n) where

@@ -19,7 +19,7 @@ use Rattle.core_tables.specs.Tables.{Table, layout_of, modules_of}
 use Rattle.core_tables.specs.Whole.{IsWholeTable, AreThreads}
 use Rattle.core_tables.specs.Nets.{IsNetOfTable}
 use Rattle.core_tables.proofs.Sound.{tables_are_sound}
-use Rattle.core_tables.proofs.Netting.{tables_are_nets}
+use Rattle.core_tables.proofs.TableNets.{tables_are_nets}
 use Rattle.law_net.proofs.Rounded.{rounds_stand}
 use Rattle.net_emitter.specs.Written.{IsWritten}
 use Rattle.law_net.specs.Texts.{IsNetOf, FollowsProgram, TextsAreNets, TextsAreGood}

@@ -9,7 +9,7 @@ use Rattle.planned_block.specs.Block.{IsOrdered}
 use Rattle.planned_block.specs.Plan.{KeepsOrders}
 use Rattle.planned_block.specs.Slot.{AreBanks}
 use Rattle.planned_block.specs.Hardware.{PlannedThreads}
-use Rattle.planned_block.proofs.Chaining.{are_planned}
+use Rattle.planned_block.proofs.CycleChain.{are_planned}
 use Rattle.race_model.specs.Source.{Local, c_source}
 use Rattle.thread_promise.specs.Globals.{bank_of}
 use Rattle.law_threads.specs.Cores.{Core}

@@ -21,7 +21,7 @@ use Rattle.core_tables.specs.Family.{CoreShape, Bank, Mutex, Barrier, Forks, Pri
 use Rattle.core_tables.specs.Tables.{Table, kinds_at, laid_core, layout_of, modules_of, shapes_of}
 use Rattle.core_tables.specs.Tables as table
 use Rattle.core_tables.specs.Nets.{IsNetOfTable}
-use Rattle.core_tables.proofs.Netting.{tables_are_nets}
+use Rattle.core_tables.proofs.TableNets.{tables_are_nets}
 use Rattle.law_banks.proofs.Partitioned.{core_of, bank_is}
 use Rattle.law_cycle.specs.Built.{Parts, thread_modules, thread_leaves}
 use Rattle.law_cycle.specs.Bodies.{core_at, core_count}

@@ -26,7 +26,7 @@ use Rattle.top_wiring.specs.Top.{input, preference, output, all_wires, done_plac
 use Rattle.top_wiring.specs.Round.{inner, round_signals, top_instance}
 use Rattle.top_wiring.specs.Wired.{IsWired}
 use Rattle.top_wiring.proofs.Lists.{get_behind}
-use Rattle.top_wiring.proofs.Standing as standing
+use Rattle.top_wiring.proofs.TopPlaces as standing
 use Rattle.top_wiring.proofs.SignalKinds as signals
 use Rattle.top_wiring.proofs.SignalKinds.SignalKind.{clock, mask, chosen, wire, done}
 use Rattle.law_net.proofs.Paths.{IsWrapper}

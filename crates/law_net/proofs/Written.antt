@@ -7,11 +7,11 @@ use Rattle.verilog_meaning.specs.Cycles.{Path, Valuation, Choice, module_at, IsS
 use Rattle.circuit.specs.Machines.{CoreMachine, printed, ThreadMachine}
 use Rattle.circuit.specs.Machines as machines
 use Rattle.circuit.specs.Wiring.{NetPlaces, IsInstanceOf}
-use Rattle.circuit.proofs.Stepping.{obeys}
+use Rattle.circuit.proofs.NetStep.{obeys}
 use Rattle.law_net.specs.Steady.{IsSteady}
-use Rattle.law_net.proofs.Feeding.{core_grants}
-use Rattle.law_net.proofs.Winning.{core_state, core_shows, granted}
-use Rattle.law_net.proofs.Resting.{instance_is, one_module}
+use Rattle.law_net.proofs.FedModules.{core_grants}
+use Rattle.law_net.proofs.GrantedThread.{core_state, core_shows, granted}
+use Rattle.law_net.proofs.RestingCycle.{instance_is, one_module}
 
 nothing_printed : (c : CoreMachine) (s : c.State) (asks : ℕ → c.Ask) (o : Option ℕ) → ((t : c.State) (i : ℕ) (a : c.Ask) → c.prints t i a ≡ []) → printed c s asks o ≡ []
 nothing_printed c s asks None h = refl

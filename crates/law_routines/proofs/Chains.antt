@@ -1,7 +1,7 @@
 -- The plans of typed code are short.
 use Rattle.std.proofs.Common.{◌≡◌, ℕ, zero, suc, ◌+◌, ◌*◌, ◌<◌, ◌≤◌, length, Option, Some, None, sym, ap, ◌∙◌, subst, arith}
 use Rattle.std.specs.Prelude.{slice_get}
-use Rattle.plan_blocks.proofs.Running.{size-view}
+use Rattle.plan_blocks.proofs.ViewRuns.{size-view}
 use Rattle.c_program.specs.Tree.{Program}
 use Rattle.c_program.specs.Weight.{weight}
 use Rattle.block_ir.specs.declared.block.Block.{Block as CodeBlock}

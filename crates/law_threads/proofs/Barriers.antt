@@ -30,8 +30,8 @@ use Rattle.law_threads.specs.Requests.{AreNumbers, StandsAtAct, Serves, OwnAfter
 use Rattle.law_threads.proofs.ActByAct.{RequestIsStep}
 use Rattle.law_threads.proofs.Common.{names, never, small_word}
 use Rattle.law_threads.proofs.Anywhere.{any_set_same}
-use Rattle.law_threads.proofs.Creating.{second_word}
-use Rattle.law_threads.proofs.Barring.{asks_barrier, barrier_stands, own_slot, same_other, no_bit}
+use Rattle.law_threads.proofs.Creates.{second_word}
+use Rattle.law_threads.proofs.BarrierActs.{asks_barrier, barrier_stands, own_slot, same_other, no_bit}
 
 -- a count is the number of its word
 count_word : (v : ℤ) → is_count v ≡ true → pos (residue_of 64 v) ≡ v

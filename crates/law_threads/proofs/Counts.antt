@@ -11,7 +11,7 @@ use Rattle.planned_block.proofs.Bits.{both_true}
 use Rattle.planned_block.specs.Hardware.{Code, block_of, plan_of, is_open, changes_left, changes_of}
 use Rattle.planned_block.specs.Following.{own_latencies, no_spare}
 use Rattle.planned_block.proofs.Budget.{within_chain}
-use Rattle.planned_block.proofs.Counting.{count_le}
+use Rattle.planned_block.proofs.RequestCount.{count_le}
 use Rattle.law_threads.specs.Routines.{Codes, stage_at, rest_of, blocks_of, plans_of}
 use Rattle.law_threads.specs.Threads.{block_at, plan_at}
 use Rattle.law_threads.specs.Surroundings.{hardware_code}

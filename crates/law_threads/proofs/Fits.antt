@@ -45,8 +45,8 @@ use Rattle.law_threads.specs.Laws.{AreCoded, FitsThreads}
 use Rattle.law_threads.proofs.Runners.{runner_found}
 use Rattle.law_threads.proofs.Counts.{never_past, no_states, past_states, fresh_below, stage_below, rest_above}
 use Rattle.law_threads.proofs.Awake.{starts_below, flies_awake}
-use Rattle.law_threads.proofs.Standing.{stands_moved, stands_ended}
-use Rattle.law_threads.proofs.Staying.{awake_same, rests_stay}
+use Rattle.law_threads.proofs.CoresStand.{stands_moved, stands_ended}
+use Rattle.law_threads.proofs.OthersRest.{awake_same, rests_stay}
 
 -- the number that a word of 64 bits spells is that of the argument
 word_argument : (v : ℤ) → signed_word 64 (residue_of 64 v) ≡ wrapped long_int v

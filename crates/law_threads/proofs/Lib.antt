@@ -1,25 +1,25 @@
 pub mod Runners
 pub mod Counts
 pub mod Awake
-pub mod Standing
-pub mod Staying
+pub mod CoresStand
+pub mod OthersRest
 pub mod Fits
-pub mod Blocking
+pub mod WhoBlocks
 mod Scenes
 pub mod ActByAct
 pub mod Common
-pub mod Locking
-pub mod Creating
+pub mod LockSteps
+pub mod Creates
 pub mod Anywhere
-pub mod Barring
-pub mod Meeting
+pub mod BarrierActs
+pub mod BarrierWaits
 pub mod Mutexes
 pub mod Barriers
-pub mod Joining
-pub mod Finishing
-pub mod Printing
+pub mod Joins
+pub mod Finishes
+pub mod Prints
 pub mod Requests
 pub use Rattle.block_refine.proofs.RoutineActs
 pub use Rattle.block_refine.proofs.RoutineLaws
-pub mod Keeping
+pub mod KeptTold
 mod CoreScenes

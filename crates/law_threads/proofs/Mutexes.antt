@@ -28,7 +28,7 @@ use Rattle.block_refine.specs.RoutineActs.{IsStepOf}
 use Rattle.law_threads.specs.Requests.{AreNumbers, StandsAtAct, Serves, OwnAfter}
 use Rattle.law_threads.proofs.ActByAct.{RequestIsStep}
 use Rattle.law_threads.proofs.Common.{names, never}
-use Rattle.law_threads.proofs.Locking.{asks_mutex, mutex_stands, mutex_own, mutex_others}
+use Rattle.law_threads.proofs.LockSteps.{asks_mutex, mutex_stands, mutex_own, mutex_others}
 
 module _ (a : CodeAct) (m : ActOperand) (operation : ℕ) (P : Program) (codes : Codes) (N : Numbers) (T : ℕ) (R : IsResolved P) (numbers : AreNumbers P N T) (s : State)
     (i f l next : ℕ)

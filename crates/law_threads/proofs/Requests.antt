@@ -13,14 +13,14 @@ use Rattle.block_refine.specs.Routines.{Codes}
 use Rattle.law_threads.specs.Requests.{AreNumbers, StandsAtAct, Serves}
 use Rattle.block_refine.proofs.RoutineActs.{acts_are_steps}
 use Rattle.law_threads.specs.ActLaws.{AllRequestsAreSteps}
-use Rattle.law_threads.proofs.Locking.{locks_are_steps}
-use Rattle.law_threads.proofs.Creating.{creates_are_steps}
-use Rattle.law_threads.proofs.Meeting.{waits_are_steps}
+use Rattle.law_threads.proofs.LockSteps.{locks_are_steps}
+use Rattle.law_threads.proofs.Creates.{creates_are_steps}
+use Rattle.law_threads.proofs.BarrierWaits.{waits_are_steps}
 use Rattle.law_threads.proofs.Mutexes.{inits_are_steps, destroys_are_steps, unlocks_are_steps}
 use Rattle.law_threads.proofs.Barriers.{barrier_inits_are_steps, barrier_destroys_are_steps}
-use Rattle.law_threads.proofs.Joining.{joins_are_steps}
-use Rattle.law_threads.proofs.Finishing.{finishes_are_steps}
-use Rattle.law_threads.proofs.Printing.{prints_are_steps}
+use Rattle.law_threads.proofs.Joins.{joins_are_steps}
+use Rattle.law_threads.proofs.Finishes.{finishes_are_steps}
+use Rattle.law_threads.proofs.Prints.{prints_are_steps}
 
 module _ (P : Program) (codes : Codes) (N : Numbers) (T : ℕ) (R : IsResolved P) (numbers : AreNumbers P N T) where
   each : (a : CodeAct) (s : State) (i f l next : ℕ) (variables : ℕ → ℤ) (arrays : Memory ℤ) (ask : Asked) (c : ℕ → Core) →

@@ -17,7 +17,7 @@ use Rattle.circuit.proofs.States.{register_fits, word_fits}
 use Rattle.leaf_machine.specs.Settled.{settled_reading, IsSlot}
 use Rattle.leaf_machine.specs.Leaves.{Heard, Clock, Enable, Grant, Told, LeafPorts, heard_number, reading_under, unanswered, shows_bit, leaf_thread, leaf_places, IsHeard, HasHeard}
 use Rattle.leaf_machine.specs.Leaves.{AnswersAreLate, IsEarly, IsSlotBit, IsThreadLeaf, GoesThrough, FitsPorts, KeepsSlots}
-use Rattle.leaf_machine.proofs.Settling.{IsClosed, same_signal, leaf_portless, leaf_reads, leaf_input, leaf_closed, settled-input, settled_agrees, settled_meets, settled_words, settled_obeys}
+use Rattle.leaf_machine.proofs.SettledLeaf.{IsClosed, same_signal, leaf_portless, leaf_reads, leaf_input, leaf_closed, settled-input, settled_agrees, settled_meets, settled_words, settled_obeys}
 use Rattle.leaf_machine.proofs.Edges.{next_agrees}
 
 agree_here : (m : Module) (h : Reading) → Agree m h h

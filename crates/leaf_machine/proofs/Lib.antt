@@ -1,4 +1,4 @@
-pub mod Settling
+pub mod SettledLeaf
 pub mod Edges
 pub mod Leaves
 pub mod Example

@@ -3,7 +3,7 @@ pub mod Keeps
 pub mod Good
 pub mod Loops
 pub mod Opens
-pub mod Reading
+pub mod ReadGlobals
 pub mod Moves
 pub mod Numbers
 pub mod Operands
@@ -14,8 +14,8 @@ pub mod Holds
 pub mod Founded
 pub mod Race
 pub mod Constants
-pub mod Joining
+pub mod JoinLoops
 pub mod Steps
-pub mod Starting
+pub mod Starts
 pub mod Calm
 pub mod Depth

@@ -24,7 +24,7 @@ use Rattle.lock_discipline.proofs.Order.{IsBelow, below_refl, below_trans, meet_
 use Rattle.lock_discipline.proofs.Keeps.{IsBelowIfAny, keeps, keeps_within}
 use Rattle.lock_discipline.proofs.Good.{Weak, weak, weaker, weak_map, WeakIfAny, MayMake, Good, Ready}
 use Rattle.lock_discipline.proofs.Opens.{settled_ready, decided_ready, waiting_good}
-use Rattle.lock_discipline.proofs.Reading.{Among, AreAmong, Gets, Any, value_gets, values_gets, IsFor, assignment_gets, delivery_gets, update_gets, operands_get}
+use Rattle.lock_discipline.proofs.ReadGlobals.{Among, AreAmong, Gets, Any, value_gets, values_gets, IsFor, assignment_gets, delivery_gets, update_gets, operands_get}
 
 module _ (P : Program) (IsMet : Seen → Type 0) (w : Walker) where
   abbrev pub inside : ℕ → ℕ → List ThreadCall

@@ -1,3 +1,3 @@
-pub mod Ordering
-pub mod Fitting
-pub mod Sounding
+pub mod SignalOrder
+pub mod FittingSources
+pub mod SoundModule

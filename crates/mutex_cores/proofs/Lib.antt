@@ -1,3 +1,3 @@
 pub mod Locks
-pub mod Locking
-pub mod Standing
+pub mod MutexTable
+pub mod MutexStands

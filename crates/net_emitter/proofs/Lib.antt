@@ -1,2 +1,2 @@
 pub mod Tables
-pub use Rattle.core_places.proofs.Placing
+pub use Rattle.core_places.proofs.CoresPlaced

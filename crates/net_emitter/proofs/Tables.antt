@@ -17,7 +17,7 @@ use Rattle.core_places.proofs.Small.{is_small}
 use Rattle.core_family.specs.declared.cores.Cores.{Cores}
 use Rattle.core_places.specs.Placing.{AreKinds, placed}
 use Rattle.core_places.specs.Kinds.{HaveModules}
-use Rattle.core_places.proofs.Placing.{placed_count, placed_narrow, cores_are_placed}
+use Rattle.core_places.proofs.CoresPlaced.{placed_count, placed_narrow, cores_are_placed}
 use Rattle.net_emitter.specs.Written.{IsWritten, table_of, FitsTable}
 
 module _ (threads : List ℕ) (routines : List Module) (w : Cores) (right : HaveModules w) (fits : FitsTable threads routines w) (arbiter : Module) (kinds : List Module)

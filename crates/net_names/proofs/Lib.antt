@@ -1,3 +1,3 @@
-pub mod Finding
+pub mod FoundParts
 pub mod Modules
-pub mod Numbering
+pub mod NumberTables

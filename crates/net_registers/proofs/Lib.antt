@@ -1,4 +1,4 @@
-pub mod Growing
-pub mod Heading
+pub mod RegisterGrowth
+pub mod HeadLines
 pub mod Listed
-pub mod Walking
+pub mod InstanceWalk

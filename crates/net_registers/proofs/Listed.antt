@@ -14,9 +14,9 @@ use Rattle.net_registers.specs.declared.listing.Listing.{Listing}
 use Rattle.net_registers.specs.Marks.{Register, registers_of}
 use Rattle.net_registers.specs.Heads.{place_of, width_of, number_in, lines_from, head_lines, HasLine, IsListing, IsOfNet}
 use Rattle.net_registers.specs.Walks.{IsWalk}
-use Rattle.net_registers.proofs.Growing.{unlines_append, all_append}
-use Rattle.net_registers.proofs.Heading.{timescale_is, definitions_is}
-use Rattle.net_registers.proofs.Walking.{walked}
+use Rattle.net_registers.proofs.RegisterGrowth.{unlines_append, all_append}
+use Rattle.net_registers.proofs.HeadLines.{timescale_is, definitions_is}
+use Rattle.net_registers.proofs.InstanceWalk.{walked}
 
 pub listed : (r : Running) (old new : Listing) → IsWalk r [] old → HasLine old new (codes "$enddefinitions $end") → IsListing r new
 listed r old new w h =

@@ -1,4 +1,4 @@
-mod Appending
+mod AppendedRows
 pub mod NodeList
 mod TableRows
 pub mod OneByOne

@@ -17,7 +17,7 @@ use Rattle.op_graph.specs.Table.{Row, Ends, Chained, ChainedTwice, Kept, Awaited
 use Rattle.op_graph.specs.Listed.{row, rows_below, rows_of_uses, operand_rows, use_rows, far_rows, all_uses, end_row, end_rows}
 use Rattle.op_graph.specs.Reduced.{last_below, first_from, accesses_global, writes_array, writes, global_at, write_at, after_access, global_rows, all_globals}
 use Rattle.op_graph.specs.Reduced.{after_write, array_rows, all_arrays, before_write, read_rows, rows_of_last, all_reads}
-use Rattle.op_graph.proofs.Appending.{is_one, below_has, of_below, length-below}
+use Rattle.op_graph.proofs.AppendedRows.{is_one, below_has, of_below, length-below}
 use Rattle.op_graph.proofs.TableRows.{one_row, uses_sound, ends_sound, chained, chained_twice, kept, awaited, ended}
 
 -- ---- the last below a place, and the first from one on

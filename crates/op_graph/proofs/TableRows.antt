@@ -12,7 +12,7 @@ use Rattle.op_graph.specs.declared.node.Node.{Node}
 use Rattle.op_graph.specs.Graph.{node, kind_at, Uses, is_simple, latency_at}
 use Rattle.op_graph.specs.Table.{IsTable, Row, Ends, Chained, ChainedTwice, Kept, Awaited, OneGlobal, OneArray, gap_after}
 use Rattle.op_graph.specs.Listed.{row, far_rows, use_rows, operand_rows, rows_of_uses, all_uses, order_gap, gap_rows, order_rows, all_orders, end_row, end_rows}
-use Rattle.op_graph.proofs.Appending.{is_one, row_path, below_has, of_below}
+use Rattle.op_graph.proofs.AppendedRows.{is_one, row_path, below_has, of_below}
 
 module _ (nodes : List Node) where
   abbrev IsRow : Constraint → Type 0

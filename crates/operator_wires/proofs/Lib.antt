@@ -1,9 +1,9 @@
-pub mod Giving
+pub mod PutSignals
 pub mod Bits
-pub mod Building
-pub mod Wording
-pub mod Working
-pub mod Resizing
-pub mod Making
+pub mod BuiltWires
+pub mod TypedWords
+pub mod OperatorWords
+pub mod ResizedWords
+pub mod MadeWords
 pub use Rattle.operator_words.proofs.Residues
 pub use Rattle.operator_words.proofs.Typed

@@ -67,7 +67,7 @@ impl Wires {
         self.wire(to, Value::Select { of, high, low: 0 })
     }
 
-    #[tactic(auto, using(crate::proofs::Resizing::sign_gives))]
+    #[tactic(auto, using(crate::proofs::ResizedWords::sign_gives))]
     fn with_sign(&mut self, of: usize, from: u64, to: u64) -> Result<usize, AllocError>
         ensures shows { IfOk result (λ place. Gives self.old.signals self.new.signals place to
             (λ m r. repeated (to - from) 1 ((r.signal of / 2 ^ (from - 1)) % 2 ^ 1) * 2 ^ width m of + r.signal of)) }

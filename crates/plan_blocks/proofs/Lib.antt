@@ -1,3 +1,3 @@
-pub mod Running
-pub mod Ordering
+pub mod ViewRuns
+pub mod OrderedView
 pub use Rattle.planned_block.proofs.Tables

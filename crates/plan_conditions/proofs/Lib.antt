@@ -1,3 +1,3 @@
-pub mod Waiting
+pub mod RegisterOperands
 pub mod Stages
-pub use Rattle.plan_blocks.proofs.Running
+pub use Rattle.plan_blocks.proofs.ViewRuns

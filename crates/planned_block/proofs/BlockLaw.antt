@@ -13,8 +13,8 @@ use Rattle.planned_block.specs.InFlight.{events_but, started_before, InFlight}
 use Rattle.planned_block.specs.Law.{Cycle, made_in, slot_after, run, PassThrough, KeepsToRun, BlockKeepsToRun}
 use Rattle.planned_block.proofs.Bits.{not_less_is}
 use Rattle.planned_block.proofs.Sweep.{events_where, undone_same, events_but-nothing}
-use Rattle.planned_block.proofs.Passing.{stays, goes_on, leaves, accesses_right, accesses_where-events, stored_next}
-use Rattle.planned_block.proofs.Running.{is_run, run_accesses, run_arrays, run_memory}
+use Rattle.planned_block.proofs.BlockCycle.{stays, goes_on, leaves, accesses_right, accesses_where-events, stored_next}
+use Rattle.planned_block.proofs.SequentialRun.{is_run, run_accesses, run_arrays, run_memory}
 
 none_granted : (a s : ℕ) (g : Bool) → s ≡ 0 → g ≡ false → (nat_lt a s || (nat_eq a s && g)) ≡ false
 none_granted a s g z e = ap (λ c. c || (nat_eq a s && g)) (not_less_is a s (omega arith)) ∙ ap (λ h. nat_eq a s && h) e ∙ and-false (nat_eq a s)

@@ -15,10 +15,10 @@ use Rattle.planned_block.specs.Slot.{Slot, is_request, starts_now, was_granted, 
 use Rattle.planned_block.specs.InFlight.{InFlight}
 use Rattle.planned_block.specs.Hardware.{Code, block_of, plan_of, is_open, changes_left, changes_of, Begins, Flies, IsBlockRun, PlannedThreads, hardware_of}
 use Rattle.planned_block.proofs.Bits.{both_true, is_same, not_less_is}
-use Rattle.planned_block.proofs.Counting.{count_le, count_less, open_before, granted_stays, granted_goes}
-use Rattle.planned_block.proofs.Passing.{stays, goes_on, IsDone, leaves, stored_next}
+use Rattle.planned_block.proofs.RequestCount.{count_le, count_less, open_before, granted_stays, granted_goes}
+use Rattle.planned_block.proofs.BlockCycle.{stays, goes_on, IsDone, leaves, stored_next}
 use Rattle.planned_block.proofs.BlockLaw.{at_start}
-use Rattle.planned_block.proofs.Running.{run_arrays}
+use Rattle.planned_block.proofs.SequentialRun.{run_arrays}
 
 module _ (code : Code) (spared : (f l s : ℕ) → 0 < (code.plans f l).states → code.spare f l s ≡ 0) where
   -- a slot at the start of a block has no more left than the block has

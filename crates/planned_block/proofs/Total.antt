@@ -12,9 +12,9 @@ use Rattle.planned_block.specs.Slot.{arrays_next, stayed, gone_on, RegistersAfte
 use Rattle.planned_block.specs.Advance.{requests, answered, is_granted, is_ready, is_answered, Advances, last_of, is_register, reads_bank, word_read}
 use Rattle.planned_block.specs.Advance.{wires_after, wires, words_next, registers_next, left_for_next, state_left, advance}
 use Rattle.planned_block.specs.Closed.{IsClosed, with_words, SameButWords, IsClosedAlone}
-use Rattle.planned_block.proofs.Advancing.{any_tells, all_true}
+use Rattle.planned_block.proofs.Advances.{any_tells, all_true}
 use Rattle.planned_block.proofs.Bits.{both_true, is_same, same_is}
-use Rattle.planned_block.proofs.Passing.{finished_same, leads_same}
+use Rattle.planned_block.proofs.BlockCycle.{finished_same, leads_same}
 
 last_of-hit : {A : Type 0} (f : ℕ → Bool) (value : ℕ → A) (old : A) (n k : ℕ) → k < n → f k ≡ true → ((j : ℕ) → j < n → f j ≡ true → value j ≡ value k) → last_of f value old n ≡ value k
 last_of-hit f value old zero k lt e same = absurd (omega arith)

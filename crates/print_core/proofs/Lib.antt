@@ -1,6 +1,6 @@
-pub mod Spelling
+pub mod SiteStrings
 pub mod Sites
-pub mod Writing
-pub mod Printing
+pub mod WrittenSite
+pub mod PrinterTable
 pub mod Values
-pub mod Standing
+pub mod PrinterStands

@@ -10,7 +10,7 @@ use Rattle.bank_cores.specs.declared.bank.Shape.{Shape as BankShape}
 use Rattle.mutex_cores.specs.declared.mutex.Shape.{Shape as MutexShape}
 use Rattle.leaf_machine.specs.Ports.{CorePort}
 use Rattle.core_family.specs.Family.{CoreShape, Bank, Mutex, Prints, machine_at, port_of}
-use Rattle.core_family.proofs.Printing.{each_fits}
+use Rattle.core_family.proofs.OnePrinter.{each_fits}
 use Rattle.core_family.specs.declared.cores.Cores.{Cores}
 use Rattle.core_family.specs.Kinds.{barrier, forks, ids_shapes, cores_of}
 use Rattle.thread_promise.specs.Globals.{bank_total}
@@ -21,7 +21,7 @@ use Rattle.thread_slots.specs.declared.shape.Service.{Service as Kind}
 use Rattle.thread_slots.specs.declared.shape.Service.TheVariants as kind
 use Rattle.fsm_datapath.specs.SoundLeaf.{parts_of, tells_of}
 use Rattle.fsm_datapath.specs.Thread.{AreRightSpreads, bank_port, act_port, core_ports}
-use Rattle.fsm_datapath.proofs.Spreading.{spread_there, spread_count}
+use Rattle.fsm_datapath.proofs.SpreadBanks.{spread_there, spread_count}
 use Rattle.fsm_datapath.specs.Early.{spread_out}
 use Rattle.program_bodies.specs.Bodies.{served_by, shape_of}
 

@@ -15,7 +15,7 @@ use Rattle.mutex_cores.specs.declared.mutex.Shape.{Shape as MutexShape}
 use Rattle.print_core.specs.declared.printer.Shape.{Shape as PrinterShape}
 use Rattle.core_family.specs.declared.cores.Cores.{Cores}
 use Rattle.core_places.specs.Placing.{placed}
-use Rattle.core_places.proofs.Placing.{placed_count}
+use Rattle.core_places.proofs.CoresPlaced.{placed_count}
 use Rattle.program_cores.specs.Banks.{core_shape, core_shapes, IsPartedProgram}
 use Rattle.program_cores.specs.Cores.{mutex_shapes, AreCoresOf}
 use Rattle.program_cores.specs.Sites.{printer_shape, sites_of}

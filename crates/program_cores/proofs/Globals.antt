@@ -19,7 +19,7 @@ use Rattle.bank_partition.specs.declared.banks.Banks.{Banks}
 use Rattle.bank_partition.specs.Counts.{one_if, words_of, power_from, power_within}
 use Rattle.bank_partition.specs.Shapes.{BankShape, shape_of, number_at, count_of, bank_of as bank_shape, spread, banks_from, spreads_from}
 use Rattle.bank_partition.specs.Partition.{shapes, IsPartition, HasElements, AreBanks, IsHeld, AreHeld}
-use Rattle.bank_partition.proofs.Counting.{count_is}
+use Rattle.bank_partition.proofs.BankCount.{count_is}
 use Rattle.bank_cores.specs.declared.bank.Shape.{Shape as Bank}
 use Rattle.thread_promise.specs.Globals.{IsSmallPower, bank_total}
 use Rattle.law_banks.specs.Partition.{ArePartitioned}

@@ -1,3 +1,3 @@
-pub mod Following
-pub mod Planning
+pub mod CodesInOrder
+pub mod PlansInOrder
 pub mod Zipped

@@ -1,4 +1,4 @@
-pub mod Adding
-pub mod Touching
+pub mod AddedReads
+pub mod StepTouches
 pub mod Least
-pub mod Racing
+pub mod FirstRace

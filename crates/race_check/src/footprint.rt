@@ -59,7 +59,7 @@ fn may_end(state: &State, thread: usize) -> bool
 }
 
 /// Whether a return of the innermost call of a thread is a step.
-#[tactic(auto, using(crate::proofs::Touching::return_cases))]
+#[tactic(auto, using(crate::proofs::StepTouches::return_cases))]
 fn may_return(state: &State, thread: usize) -> bool
     ensures { (f : Frames) (fs : Callers) → slice_get (state_of state.now).slots thread ≡ Some (Running (f ∷ fs)) → result ≡ may_return (state_of state.now) thread fs }
 {

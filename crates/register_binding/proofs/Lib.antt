@@ -1,3 +1,3 @@
-mod Marking
+mod ListMarks
 mod Ends
-mod Binding
+mod BoundLives

@@ -1,2 +1,2 @@
-pub mod Opening
-pub mod Running
+pub mod OpenedNet
+pub mod TextRun

@@ -2,5 +2,5 @@ pub mod Marks
 pub mod Touched
 pub mod Memoryless
 pub mod Settled
-pub mod Settling
-pub mod Taking
+pub mod PendingSteps
+pub mod TakenNumbers

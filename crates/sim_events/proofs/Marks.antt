@@ -7,7 +7,7 @@ use Rattle.std.proofs.lemmas.Bool.{both_ways, cases_eq, leb-true, le-leb}
 use Rattle.std.proofs.Math.ListN.{length-set}
 use Rattle.sim_values.specs.Order.{IsMarked}
 use Rattle.sim_values.proofs.Trees.{front_or_back}
-use Rattle.sim_layout.proofs.Leading.{below_next}
+use Rattle.sim_layout.proofs.LeadSearch.{below_next}
 use Rattle.sim_events.specs.Events.{IsAmong, marked_from}
 
 -- the marks after those of the steps that stand from one place of a list up to another

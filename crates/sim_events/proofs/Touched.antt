@@ -12,7 +12,7 @@ use Rattle.sim_values.proofs.Settles.{gives_new}
 use Rattle.sim_layout.specs.declared.waits.Wait.{Wait}
 use Rattle.sim_layout.specs.Ranks.{operand}
 use Rattle.sim_layout.specs.Waits.{IsWaiting, IsListed}
-use Rattle.sim_layout.proofs.Leading.{each_among, below_next}
+use Rattle.sim_layout.proofs.LeadSearch.{each_among, below_next}
 use Rattle.sim_events.specs.Events.{Touches, IsAmong}
 
 pub last_item : (xs : List ℕ) (x i : ℕ) → i ≡ length xs → slice_index (xs ++ x ∷ []) i ≡ x

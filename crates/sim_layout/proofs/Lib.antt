@@ -1,8 +1,8 @@
 pub mod Calls
-pub mod Waiting
-pub mod Growing
-pub mod Placing
+pub mod WaitChains
+pub mod OrderGrowth
+pub mod PlacedInstances
 pub mod Givens
-pub mod Leading
-pub mod Ranking
+pub mod LeadSearch
+pub mod WordRanks
 pub mod Something

@@ -62,7 +62,7 @@ fn look(
 }
 
 /// Looks at all steps. Whether one was found.
-#[tactic(auto, using(crate::proofs::Leading::closed_more))]
+#[tactic(auto, using(crate::proofs::LeadSearch::closed_more))]
 fn look_through(
     modules: &[Module],
     wires: &[Step],
@@ -191,7 +191,7 @@ fn is_found(modules: &[Module], wires: &[Step], words: usize, place: usize, apar
 }
 
 /// Whether the place leads to itself, where it alone is found.
-#[tactic(auto, using(crate::proofs::Leading::no_loop_there))]
+#[tactic(auto, using(crate::proofs::LeadSearch::no_loop_there))]
 fn leads_back(
     alloc: Global,
     modules: &[Module],
@@ -212,7 +212,7 @@ fn leads_back(
 }
 
 /// Whether the word at a place, among so many, depends on itself.
-#[tactic(auto, using(crate::proofs::Leading::search_none))]
+#[tactic(auto, using(crate::proofs::LeadSearch::search_none))]
 fn is_loop(
     alloc: Global,
     modules: &[Module],
@@ -231,7 +231,7 @@ fn is_loop(
 }
 
 /// The first of so many words from a place on that depends on itself, where all that do are marked.
-#[tactic(auto, using(crate::proofs::Leading::nowhere_more))]
+#[tactic(auto, using(crate::proofs::LeadSearch::nowhere_more))]
 fn first_from(
     alloc: Global,
     modules: &[Module],

@@ -104,7 +104,7 @@ fn unmet(marks: &[bool], modules: &[Module], feed: Feed) -> Option<usize>
 }
 
 /// Whether all that a feed reads is marked.
-#[tactic(auto, using(crate::proofs::Growing::unmet_blocks))]
+#[tactic(auto, using(crate::proofs::OrderGrowth::unmet_blocks))]
 pub fn is_ready(marks: &[bool], modules: &[Module], feed: Feed) -> bool
     ensures ready { IsTrue result → EachOf (IsMarked marks.now) (reads modules.now feed) }
     ensures blocked { result ≡ false → SomeOf (IsClear marks.now) (reads modules.now feed) }
@@ -131,7 +131,7 @@ fn take(growth: &mut Growth, wire: Step) -> Result<(), AllocError>
 }
 
 /// Takes a step where it reads only what is known; else it waits for a word that it reads.
-#[tactic(auto, using(crate::proofs::Growing::grown_known))]
+#[tactic(auto, using(crate::proofs::OrderGrowth::grown_known))]
 fn look(
     growth: &mut Growth,
     modules: &[Module],
@@ -157,7 +157,7 @@ fn look(
 }
 
 /// Looks at the step whose number stands at a place.
-#[tactic(auto, using(crate::proofs::Growing::grown_past))]
+#[tactic(auto, using(crate::proofs::OrderGrowth::grown_past))]
 fn look_at(
     growth: &mut Growth,
     modules: &[Module],

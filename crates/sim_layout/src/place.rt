@@ -115,7 +115,7 @@ fn push_part(
 }
 
 /// Places the instances of a tree one behind the other.
-#[tactic(auto, using(crate::proofs::Placing::placed_none))]
+#[tactic(auto, using(crate::proofs::PlacedInstances::placed_none))]
 pub fn place(alloc: Global, modules: &[Module], tree: &Tree) -> Result<Placed, AllocError>
     requires { length tree.now.children.items ≡ length tree.now.kinds.items }
     ensures placed { IfOk result (λ p. IsPlaced modules.now tree.now.kinds.items tree.now.children.items p.parts.items p.numbers.items p.free.items p.words.items p.starts.items) }

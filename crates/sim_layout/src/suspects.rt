@@ -58,7 +58,7 @@ fn all_suspects(modules: &[Module], wires: &[Step], ranks: &[usize], suspects: &
 }
 
 /// Marks, of so many words, all that depend on themselves. A word that is marked beyond these is looked into and found without a loop.
-#[tactic(auto, using(crate::proofs::Ranking::suspects_ranked, crate::proofs::Ranking::suspects_all))]
+#[tactic(auto, using(crate::proofs::WordRanks::suspects_ranked, crate::proofs::WordRanks::suspects_all))]
 pub fn suspects(
     alloc: Global,
     modules: &[Module],

@@ -1,4 +1,4 @@
-pub mod Depending
-pub mod Nesting
-pub mod Putting
-pub mod Looking
+pub mod SelfDependence
+pub mod InstancePath
+pub mod PathText
+pub mod FirstLoop

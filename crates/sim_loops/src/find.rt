@@ -31,7 +31,7 @@ pub struct Looped {
 
 /// The place of the instance round the one at a place, where it is among so many: the last whose first instance stands no later.
 /// The outermost has none.
-#[tactic(auto, using(crate::proofs::Nesting::outer_here, crate::proofs::Nesting::behind_more))]
+#[tactic(auto, using(crate::proofs::InstancePath::outer_here, crate::proofs::InstancePath::behind_more))]
 fn outer_place(children: &[usize], count: usize, place: usize) -> Option<usize>
     requires count { count ≤ length children.now }
     requires behind { search.AreBehind children.now count place }
@@ -48,7 +48,7 @@ fn outer_place(children: &[usize], count: usize, place: usize) -> Option<usize>
 
 /// How many instances are to be looked at for the one round `outer`, which is the one round `inner`: none behind it, where it stands before `inner`, as
 /// in a tree.
-#[tactic(auto, using(crate::proofs::Nesting::behind_outer))]
+#[tactic(auto, using(crate::proofs::InstancePath::behind_outer))]
 fn next_count(children: &[usize], outer: usize, inner: usize) -> usize
     requires { search.IsOuter children.now (length children.now) inner outer }
     ensures count { result ≤ length children.now }

@@ -11,11 +11,11 @@ use Rattle.sim_values.specs.declared.value.Spot.{Spot}
 use Rattle.sim_values.specs.declared.edge.Part.{Part}
 use Rattle.sim_values.specs.Stands.{place_of, spot_at, word_of}
 use Rattle.sim_layout.specs.Running.{Running, Stands, state_of, IsSameNet}
-use Rattle.cycle_sim.proofs.Putting.{part_is}
+use Rattle.cycle_sim.proofs.PutNumbers.{part_is}
 use Rattle.slot_sim.specs.Threaded.{IsSameBut}
 use Rattle.slot_sim.specs.Members.{AreMembers}
 use Rattle.slot_sim.specs.Taking.{taken_numbers, taken_words, with_state}
-use Rattle.slot_sim.proofs.Collecting.{instance_here}
+use Rattle.slot_sim.proofs.CollectedParts.{instance_here}
 use Rattle.slot_sim.proofs.Taken.{NoSignal, NoWord, numbers_inside, numbers_outside, words_inside, words_outside}
 
 abbrev pub with_taken : Running → Running → List ℕ → Running

@@ -10,7 +10,7 @@ use Rattle.circuit.specs.Nets.{FitsChoice}
 use Rattle.sim_layout.specs.Running.{state_of}
 use Rattle.sim_layout.specs.Rounds.{threads_of}
 use Rattle.cycle_sim.proofs.Same.{moved, settled_moved}
-use Rattle.cycle_sim.proofs.Standing.{cycle_once}
+use Rattle.cycle_sim.proofs.FlatLaws.{cycle_once}
 use Rattle.slot_sim.specs.Laws.{AloneFits, NeedIsTold, NeedsMove, MovesByTrial}
 use Rattle.slot_sim.proofs.Sames.{in_refl, in_trans, within}
 

@@ -57,7 +57,7 @@ fn visit(
 }
 
 /// The part at a place, and all that stand in it.
-#[tactic(auto, using(crate::proofs::Collecting::collected_one, crate::proofs::Collecting::collected_all))]
+#[tactic(auto, using(crate::proofs::CollectedParts::collected_one, crate::proofs::CollectedParts::collected_all))]
 fn collected(
     alloc: Global,
     modules: &[Module],

@@ -73,7 +73,7 @@ fn copied_slots(alloc: Global, slots: &[Slot]) -> Result<Vec<Slot>, AllocError>
 }
 
 /// Where a thread stands. The choice of it alone fits.
-#[tactic(auto, using(crate::proofs::Keeping::slot_here))]
+#[tactic(auto, using(crate::proofs::ThreadsStand::slot_here))]
 fn slot_of<'s>(sim: &Sim, slots: &'s [Slot], thread: usize) -> &'s Slot
     requires thread { thread < threads_of sim.now.modules }
     requires slots { AreSlots sim.now.modules sim.now.parts slots.now }

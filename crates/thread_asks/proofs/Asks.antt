@@ -28,8 +28,8 @@ use Rattle.verilog_meaning.specs.Readings.{Reading, width}
 use Rattle.circuit.specs.Modules.{Obeys}
 use Rattle.operator_wires.specs.Gives.{Grows}
 use Rattle.operator_wires.specs.Built.{Base, IsEarlier}
-use Rattle.operator_wires.proofs.Giving.{grows_refl, grows_then}
-use Rattle.operator_wires.proofs.Building.{stands_after, wires_none, wires_then}
+use Rattle.operator_wires.proofs.PutSignals.{grows_refl, grows_then}
+use Rattle.operator_wires.proofs.BuiltWires.{stands_after, wires_none, wires_then}
 use Rattle.block_datapath.specs.declared.registers.Held.{Held}
 use Rattle.block_datapath.specs.declared.registers.Registers.{Registers}
 use Rattle.block_datapath.specs.Chains.{next_number, TellsStage}
@@ -37,7 +37,7 @@ use Rattle.block_datapath.specs.Leave.{HasStage, IsInStage}
 use Rattle.block_datapath.specs.Operations.{SeesSlot}
 use Rattle.block_datapath.specs.Requests.{Asked, asked_at, AreAsMany, AreBankChains}
 use Rattle.block_datapath.specs.Accesses.{AreFitSpreads, IsAskRight, reaches_now, asked_now, AsksBlock, IsAskingBlock}
-use Rattle.block_datapath.proofs.Requesting.{bank_chains_after}
+use Rattle.block_datapath.proofs.BankRequests.{bank_chains_after}
 use Rattle.thread_slots.specs.declared.shape.Served.{Served}
 use Rattle.thread_slots.specs.declared.requests.Request.{Request}
 use Rattle.thread_slots.specs.declared.requests.Requests.{Requests}
@@ -51,8 +51,8 @@ use Rattle.thread_asks.specs.Asking.{same_service, is_for, is_asked, object_of, 
 use Rattle.thread_asks.specs.Asking.{AskSame, AskAsMany, AsksOver, AskIsWired, AsksAt, AsksStage, AsksFirst, AsksAllWired}
 use Rattle.thread_slots.proofs.Between.{registers_of}
 use Rattle.thread_slots.proofs.Linked.{slots_later, fields_later}
-use Rattle.thread_slots.proofs.Requesting.{request_later}
-use Rattle.thread_slots.proofs.Linking.{same_everywhere, stage_on, has_stage}
+use Rattle.thread_slots.proofs.RequestLinks.{request_later}
+use Rattle.thread_slots.proofs.NextLink.{same_everywhere, stage_on, has_stage}
 use Rattle.thread_slots.proofs.Taken.{Told, stage_below}
 
 -- ---- services

@@ -17,16 +17,16 @@ use Rattle.circuit.specs.Modules.{Obeys}
 use Rattle.operator_wires.specs.declared.words.Word.{Word}
 use Rattle.operator_wires.specs.Gives.{Grows, Gives}
 use Rattle.operator_wires.specs.Words.{IsWord, Holds, Becomes, Resizes, resized_word}
-use Rattle.operator_wires.proofs.Giving.{grows_refl, grows_then}
+use Rattle.operator_wires.proofs.PutSignals.{grows_refl, grows_then}
 use Rattle.block_ir.specs.Asked.{act_value}
 use Rattle.block_datapath.specs.declared.registers.Registers.{Registers}
 use Rattle.block_datapath.specs.Seen.{ShowsVariable}
 use Rattle.block_datapath.specs.Chains.{next_number, is_set, SetsNext}
-use Rattle.block_datapath.proofs.Seeing.{own_word}
+use Rattle.block_datapath.proofs.OperandWords.{own_word}
 use Rattle.operator_wires.specs.Built.{Base, IsEarlier, StandsAs, AddsWord}
 use Rattle.operator_wires.specs.Added.{ChoiceAdds}
-use Rattle.operator_wires.proofs.Building.{stands_after, wires_none, wires_then, room_of}
-use Rattle.operator_wires.proofs.Making.{of_two}
+use Rattle.operator_wires.proofs.BuiltWires.{stands_after, wires_none, wires_then, room_of}
+use Rattle.operator_wires.proofs.MadeWords.{of_two}
 use Rattle.thread_slots.specs.Wired.{LinkFields, AreSlots, KeepsFields}
 use Rattle.thread_asks.proofs.Taken.{values_linked}
 use Rattle.thread_asks.specs.Fields.{IsTypedActOperand, act_type, ShowsActOperand, AsksValues, AsksValue, AsksNumber, NamesObject}

@@ -1,4 +1,4 @@
 pub mod Asks
 pub mod FieldValues
-mod Naming
+mod MeetingBarrier
 pub mod Taken

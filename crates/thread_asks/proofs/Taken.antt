@@ -7,7 +7,7 @@ use Rattle.block_ir.specs.declared.code.ThreadCode.{ThreadCode}
 use Rattle.netlist.specs.declared.netlist.Signal.{Signal}
 use Rattle.operator_wires.specs.declared.words.Word.{Word}
 use Rattle.operator_wires.specs.Built.{Base, IsEarlier, AreWires, Adds, StandsAs, AddsWord}
-use Rattle.operator_wires.proofs.Building.{stands_after, wires_then, room_of}
+use Rattle.operator_wires.proofs.BuiltWires.{stands_after, wires_then, room_of}
 use Rattle.block_datapath.specs.declared.registers.Held.{Held}
 use Rattle.block_datapath.specs.declared.registers.Registers.{Registers}
 use Rattle.block_datapath.specs.Wired.{AreChains, HasWidthAt, AddsLinks}

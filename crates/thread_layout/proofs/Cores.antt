@@ -16,7 +16,7 @@ use Rattle.thread_slots.specs.declared.shape.Service.TheVariants as kind
 use Rattle.thread_slots.specs.Services.{service_of, services, if_ids, numbers_with, core_count}
 use Rattle.thread_asks.specs.Asking.{same_service}
 use Rattle.thread_requests.specs.Early.{joined_bits, act_count, act_open}
-use Rattle.thread_requests.proofs.Opening.{joined_front, joined_back}
+use Rattle.thread_requests.proofs.OpenCores.{joined_front, joined_back}
 use Rattle.thread_layout.specs.Thread.{is_core}
 
 -- ---- bits

@@ -12,8 +12,8 @@ use Rattle.netlist.specs.declared.netlist.Source.{Source}
 use Rattle.netlist.specs.declared.netlist.Source.TheVariants.{Input, Register}
 use Rattle.operator_wires.specs.Gives.{Grows}
 use Rattle.operator_wires.specs.Built.{Base, IsEarlier}
-use Rattle.operator_wires.proofs.Building.{wires_then, stands_after, longer}
-use Rattle.operator_wires.proofs.Giving.{grows_then}
+use Rattle.operator_wires.proofs.BuiltWires.{wires_then, stands_after, longer}
+use Rattle.operator_wires.proofs.PutSignals.{grows_then}
 use Rattle.block_datapath.specs.declared.registers.Held.{Held}
 use Rattle.block_datapath.specs.declared.registers.Registers.{Registers}
 use Rattle.block_datapath.specs.Wired.{HasMemories, CanRead}
@@ -49,13 +49,13 @@ use Rattle.thread_layout.specs.Telling.{heard_place, LaysTold}
 use Rattle.thread_layout.specs.Modules.{marks_of, caller_of, worded, IsWiredInside, LaysInside}
 use Rattle.thread_slots.proofs.Linked.{slots_later}
 use Rattle.thread_slots.proofs.Between.{registers_of}
-use Rattle.thread_layout.proofs.Rewording.{slots_reworded, slot_reworded, early_reworded, code_back}
-use Rattle.thread_layout.proofs.Remembering.{has_memories}
-use Rattle.thread_slots.proofs.Gating.{of_bits_later}
-use Rattle.thread_slots.proofs.Wiring.{behind_then, types_fit}
+use Rattle.thread_layout.proofs.RewordedSlots.{slots_reworded, slot_reworded, early_reworded, code_back}
+use Rattle.thread_layout.proofs.ModuleMemories.{has_memories}
+use Rattle.thread_slots.proofs.BitLists.{of_bits_later}
+use Rattle.thread_slots.proofs.SlotWires.{behind_then, types_fit}
 use Rattle.thread_layout.proofs.Tellings.{bar_wide, run_wide, argument_wide, hears_news}
-use Rattle.thread_requests.proofs.Asking.{held_of, have_widths, equal_width}
-use Rattle.thread_requests.proofs.Spreading.{spread_there, spread_count, spread_from}
+use Rattle.thread_requests.proofs.AllAsks.{held_of, have_widths, equal_width}
+use Rattle.thread_requests.proofs.SpreadBanks.{spread_there, spread_count, spread_from}
 
 -- ---- registers that stand, and inputs
 

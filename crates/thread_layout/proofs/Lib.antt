@@ -1,25 +1,25 @@
 pub mod Cores
 mod Edges
 mod Insides
-pub mod Losing
-pub mod Meeting
-pub mod Moving
+pub mod LostRequests
+pub mod RequestViews
+pub mod StateMoves
 pub mod Needed
 pub mod News
 pub mod Opened
 pub mod Placed
 pub mod Quiet
-pub mod Raising
-pub mod Remembering
+pub mod RaisedAsks
+pub mod ModuleMemories
 pub mod Requested
-pub mod Resting
-mod Rewording
-pub mod Rowing
+pub mod RestingThread
+mod RewordedSlots
+pub mod CoreRows
 pub mod Shown
 pub mod Sight
-mod Slotting
+mod FourFacts
 pub mod Tellings
-pub use Rattle.thread_requests.proofs.Opening
-pub use Rattle.thread_requests.proofs.Asking
-pub use Rattle.thread_requests.proofs.Spreading
-pub use Rattle.thread_states.proofs.Acting
+pub use Rattle.thread_requests.proofs.OpenCores
+pub use Rattle.thread_requests.proofs.AllAsks
+pub use Rattle.thread_requests.proofs.SpreadBanks
+pub use Rattle.thread_states.proofs.ActLinks

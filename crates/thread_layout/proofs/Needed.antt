@@ -6,7 +6,7 @@ use Rattle.std.proofs.lemmas.Option.{slice_get_within}
 use Rattle.std.proofs.Math.Bool.{and-false, or-true}
 use Rattle.std.proofs.lemmas.List.{get_or-append_right, get_or_append_left}
 use Rattle.lists.proofs.Places.{get_there}
-use Rattle.plan_blocks.proofs.Running.{size-view}
+use Rattle.plan_blocks.proofs.ViewRuns.{size-view}
 use Rattle.hls_ints.specs.Residues.{bit_of}
 use Rattle.c_program.specs.declared.tree.BinaryOperator.{BinaryOperator}
 use Rattle.c_program.specs.declared.tree.BinaryOperator.TheVariants as operators
@@ -25,14 +25,14 @@ use Rattle.planned_block.specs.Plan.{last_state, further_states}
 use Rattle.planned_block.specs.Slot.{Slot}
 use Rattle.planned_block.specs.Advance.{any_below}
 use Rattle.planned_block.specs.Closed.{IsClosed}
-use Rattle.planned_block.proofs.Advancing.{some_tells}
+use Rattle.planned_block.proofs.Advances.{some_tells}
 use Rattle.plan_blocks.specs.View.{operation_view, binary_kind, planned_view, plan_view}
 use Rattle.netlist.specs.declared.netlist.Module.{Module}
 use Rattle.verilog_meaning.specs.Readings.{Reading, width}
 use Rattle.circuit.specs.Modules.{Obeys}
 use Rattle.thread_promise.specs.Globals.{bank_total}
 use Rattle.thread_promise.specs.Serving.{IsInside}
-use Rattle.block_datapath.proofs.Walking.{listed_view}
+use Rattle.block_datapath.proofs.OperationValues.{listed_view}
 use Rattle.thread_slots.specs.declared.shape.Shape.{Shape}
 use Rattle.thread_slots.specs.Bits.{HasBit, HaveBits}
 use Rattle.thread_layout.specs.Modules.{IsModule}
@@ -47,7 +47,7 @@ use Rattle.thread_requests.specs.Early.{wants_of}
 use Rattle.block_ir.specs.Asked.{Service, Mutexes, Barriers, Ids, Prints}
 use Rattle.thread_slots.specs.Requests.{group}
 use Rattle.thread_layout.proofs.Placed.{from_early, wide_bit}
-use Rattle.thread_layout.proofs.Raising.{from_whole, from_needs}
+use Rattle.thread_layout.proofs.RaisedAsks.{from_whole, from_needs}
 use Rattle.thread_layout.proofs.Sight.{knows, in_stage}
 
 -- ---- bits

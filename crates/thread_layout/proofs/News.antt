@@ -22,7 +22,7 @@ use Rattle.thread_slots.specs.declared.shape.Shape.{Shape}
 use Rattle.thread_slots.specs.Bits.{HasBit}
 use Rattle.thread_slots.specs.Services.{services, news_widths}
 use Rattle.thread_slots.specs.Slots.{StandsAt}
-use Rattle.thread_slots.proofs.Laying.{stands_later}
+use Rattle.thread_slots.proofs.LaidRegisters.{stands_later}
 use Rattle.thread_requests.specs.Early.{spread_out}
 use Rattle.thread_layout.specs.Leaf.{served_ports}
 use Rattle.thread_layout.specs.Modules.{IsModule}

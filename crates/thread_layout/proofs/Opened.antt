@@ -17,7 +17,7 @@ use Rattle.verilog_meaning.specs.Readings.{Reading, width, signal_width}
 use Rattle.circuit.specs.Modules.{Obeys}
 use Rattle.operator_wires.specs.Gives.{Grows}
 use Rattle.operator_wires.specs.Built.{Base, IsEarlier}
-use Rattle.operator_wires.proofs.Giving.{grows_then, listed}
+use Rattle.operator_wires.proofs.PutSignals.{grows_then, listed}
 use Rattle.block_datapath.specs.declared.registers.Held.{Held}
 use Rattle.block_datapath.specs.Requests.{AreAsMany}
 use Rattle.thread_slots.specs.declared.shape.Shape.{Shape}
@@ -27,9 +27,9 @@ use Rattle.thread_layout.specs.Modules.{marks_of, IsModule, IsWiredInside}
 use Rattle.thread_layout.specs.Thread.{inputs_of, cores_of, IsServed}
 use Rattle.block_ir.specs.Asked.{Service}
 use Rattle.thread_slots.specs.Requests.{group}
-use Rattle.thread_requests.proofs.Opening.{have_joined}
+use Rattle.thread_requests.proofs.OpenCores.{have_joined}
 use Rattle.thread_layout.proofs.Placed.{no_argument, from_early, wide_bit, banks_many, mark_held, stands_wide}
-use Rattle.thread_requests.proofs.Spreading.{spread_there, spread_count}
+use Rattle.thread_requests.proofs.SpreadBanks.{spread_there, spread_count}
 
 -- ---- lists
 

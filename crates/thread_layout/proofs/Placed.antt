@@ -21,7 +21,7 @@ use Rattle.verilog_meaning.specs.Readings.{Reading, width, signal_width, initial
 use Rattle.verilog_meaning.specs.Cycles.{IsRegister}
 use Rattle.circuit.specs.Modules.{Obeys, Agree}
 use Rattle.operator_wires.specs.Gives.{Grows}
-use Rattle.operator_wires.proofs.Giving.{grows_then}
+use Rattle.operator_wires.proofs.PutSignals.{grows_then}
 use Rattle.block_datapath.specs.declared.registers.Held.{Held}
 use Rattle.thread_slots.specs.declared.shape.Shape.{Shape}
 use Rattle.thread_slots.specs.Slots.{StandsAt}
@@ -39,14 +39,14 @@ use Rattle.thread_slots.specs.Hearing.{IsHeard}
 use Rattle.thread_requests.specs.Early.{act_count, held_width, spread_out}
 use Rattle.leaf_machine.specs.Ports.{asks_of, thread_outputs}
 use Rattle.thread_layout.specs.Thread.{cores_of, inputs_of, bank_port, act_port, core_ports, first_output, port_at, need_at, done_at, IsServed}
-use Rattle.thread_slots.proofs.Laying.{stands_later}
+use Rattle.thread_slots.proofs.LaidRegisters.{stands_later}
 use Rattle.thread_layout.proofs.Insides.{heard_widths, widths_same}
-use Rattle.thread_layout.proofs.Rowing.{HaveWidths, own_asks, joined_there, place_of_rows, all_count, rows_widths, acts_widths, bank_there, act_there, field_there}
+use Rattle.thread_layout.proofs.CoreRows.{HaveWidths, own_asks, joined_there, place_of_rows, all_count, rows_widths, acts_widths, bank_there, act_there, field_there}
 use Rattle.thread_layout.proofs.Cores.{services_count}
 use Rattle.block_datapath.specs.Requests.{AreAsMany}
 use Rattle.thread_slots.specs.declared.requests.Request.{Request}
-use Rattle.thread_requests.proofs.Asking.{group_kept}
-use Rattle.thread_requests.proofs.Spreading.{spread_there, spread_count}
+use Rattle.thread_requests.proofs.AllAsks.{group_kept}
+use Rattle.thread_requests.proofs.SpreadBanks.{spread_there, spread_count}
 
 -- ---- a signal that stands at a place
 

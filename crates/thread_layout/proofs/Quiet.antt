@@ -17,7 +17,7 @@ use Rattle.netlist.specs.declared.netlist.Module.{Module}
 use Rattle.verilog_meaning.specs.Readings.{Reading}
 use Rattle.circuit.specs.Modules.{Obeys}
 use Rattle.operator_wires.specs.Gives.{Grows}
-use Rattle.operator_wires.proofs.Giving.{grows_then}
+use Rattle.operator_wires.proofs.PutSignals.{grows_then}
 use Rattle.thread_promise.specs.Globals.{bank_total}
 use Rattle.thread_promise.specs.Promise.{is_run}
 use Rattle.block_datapath.specs.Requests.{Asked as BankAsked, asked_at as bank_asked_at, nothing_asked}
@@ -32,10 +32,10 @@ use Rattle.thread_layout.specs.Thread.{numbers_of, is_core, IsServed}
 use Rattle.block_datapath.specs.declared.requests.BankRequests.{BankRequests}
 use Rattle.thread_slots.specs.declared.requests.Request.{Request}
 use Rattle.thread_requests.specs.Early.{act_count, act_open, with_banks}
-use Rattle.thread_requests.proofs.Asking.{group_kept}
+use Rattle.thread_requests.proofs.AllAsks.{group_kept}
 use Rattle.thread_layout.proofs.Cores.{none_open, asked_open}
 use Rattle.thread_layout.proofs.Opened.{want_wide, ask_wide, acts_by, start_many, start_less}
-use Rattle.thread_layout.proofs.Raising.{from_whole, none_wanted}
+use Rattle.thread_layout.proofs.RaisedAsks.{from_whole, none_wanted}
 use Rattle.thread_layout.proofs.Shown.{Shows}
 use Rattle.thread_layout.proofs.Sight.{asks_so, knows, stage_shown, sees_variables}
 

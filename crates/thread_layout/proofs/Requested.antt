@@ -1,7 +1,7 @@
 -- What a state of a block asks banks, at the ports.
 use Rattle.std.proofs.Common.{◌≡◌, ℕ, ◌%◌, ◌<◌, Bool, true, false, not, slice_get, slice_index, Option, Some, sym, ap, subst, ◌∙◌, arith}
 use Rattle.std.proofs.lemmas.Bool.{not-true, and_from, and_parts}
-use Rattle.plan_blocks.proofs.Running.{size-view}
+use Rattle.plan_blocks.proofs.ViewRuns.{size-view}
 use Rattle.hls_ints.specs.Residues.{residue_of}
 use Rattle.hls_ints.specs.Types.{IntegerType, HasType, width_of}
 use Rattle.bank_partition.specs.declared.banks.Spread.{Spread}
@@ -24,9 +24,9 @@ use Rattle.thread_promise.specs.Serving.{IsInside}
 use Rattle.block_datapath.specs.Operations.{seen_value, SeesSlot}
 use Rattle.block_datapath.specs.Requests.{Asked, asked_at}
 use Rattle.block_datapath.specs.Accesses.{IsAskRight, asked_now}
-use Rattle.block_datapath.proofs.Indexing.{index_typed, target_typed}
-use Rattle.block_datapath.proofs.Reaching.{some_banks}
-use Rattle.block_datapath.proofs.Wanting.{Asker}
+use Rattle.block_datapath.proofs.TypedIndexes.{index_typed, target_typed}
+use Rattle.block_datapath.proofs.OneAskedBank.{some_banks}
+use Rattle.block_datapath.proofs.AskingOperations.{Asker}
 use Rattle.thread_slots.specs.declared.shape.Shape.{Shape}
 use Rattle.block_ir.specs.Asked.{Service}
 use Rattle.thread_slots.specs.Requests.{group}
@@ -34,10 +34,10 @@ use Rattle.thread_slots.specs.Bits.{HasBit}
 use Rattle.thread_layout.specs.Leaf.{served_ports}
 use Rattle.thread_layout.specs.Modules.{IsModule}
 use Rattle.thread_layout.specs.Thread.{cores_of, inputs_of, places_of, port_at, IsServed}
-use Rattle.thread_layout.proofs.Moving.{who, bank, own_bank, within, own_asked, none_asked}
+use Rattle.thread_layout.proofs.StateMoves.{who, bank, own_bank, within, own_asked, none_asked}
 use Rattle.thread_layout.proofs.Placed.{HasBankOutputs, stands_copies, bank_outputs, ask_copied}
 use Rattle.thread_layout.proofs.Quiet.{block_bit}
-use Rattle.thread_layout.proofs.Raising.{asked_by}
+use Rattle.thread_layout.proofs.RaisedAsks.{asked_by}
 use Rattle.thread_layout.proofs.Sight.{enabled, enable_bit, asks_right, sees_slot}
 
 module _ (shape : Shape) (code : ThreadCode) (plan : Planned) (m : Module) (t : IsModule shape code plan m) (served : IsServed shape code plan) where

@@ -3,7 +3,7 @@ use Rattle.std.proofs.Common.{◌≡◌, ℕ, zero, suc, ◌+◌, ◌%◌, ◌<�
 use Rattle.std.specs.Prelude.{replicate}
 use Rattle.std.proofs.lemmas.List.{length-replicate}
 use Rattle.std.proofs.lemmas.Option.{slice_get_within}
-use Rattle.plan_blocks.proofs.Running.{size-view}
+use Rattle.plan_blocks.proofs.ViewRuns.{size-view}
 use Rattle.lists.proofs.Places.{get_there}
 use Rattle.hls_ints.specs.Types.{width_of}
 use Rattle.operator_words.proofs.Typed.{residue_of-zero, has_zero}
@@ -29,7 +29,7 @@ use Rattle.thread_promise.specs.Types.{value_type}
 use Rattle.thread_promise.specs.Slots.{ShowsData, ShowsInBlock}
 use Rattle.thread_promise.specs.Moves.{first_slot}
 use Rattle.thread_promise.specs.Promise.{RunsAt}
-use Rattle.block_datapath.proofs.Walking.{listed_view}
+use Rattle.block_datapath.proofs.OperationValues.{listed_view}
 use Rattle.thread_slots.specs.declared.shape.Shape.{Shape}
 use Rattle.thread_layout.specs.Memories.{memory_for}
 use Rattle.thread_layout.specs.Modules.{IsModule}

@@ -30,15 +30,15 @@ use Rattle.thread_promise.specs.Serving.{HearsBanks}
 use Rattle.block_datapath.specs.declared.registers.Held.{Held}
 use Rattle.block_datapath.specs.Operations.{SeesSlot, IsRight, HasTold}
 use Rattle.block_datapath.specs.Accesses.{IsAskRight}
-use Rattle.block_datapath.proofs.Banking.{bank_read}
-use Rattle.block_datapath.proofs.Reaching.{some_banks}
+use Rattle.block_datapath.proofs.BankOfElement.{bank_read}
+use Rattle.block_datapath.proofs.OneAskedBank.{some_banks}
 use Rattle.block_datapath.specs.Chains.{next_number}
 use Rattle.block_datapath.specs.Leave.{IsInStage}
 use Rattle.block_datapath.specs.Units.{HasUnits}
 use Rattle.thread_slots.specs.declared.shape.Shape.{Shape}
 use Rattle.thread_slots.specs.declared.chains.Chains.{Chains}
 use Rattle.thread_slots.specs.Links.{AreBits, IsStill, ShowSame}
-use Rattle.thread_states.proofs.Linking.{wait_off}
+use Rattle.thread_states.proofs.StateLinks.{wait_off}
 use Rattle.thread_asks.specs.Fields.{SeesVariables}
 use Rattle.thread_slots.specs.Slots.{KnowsStage}
 use Rattle.thread_states.specs.Stages.{HasWidths, DoesStage}
@@ -46,7 +46,7 @@ use Rattle.netlist.specs.declared.netlist.Memory.{Memory}
 use Rattle.thread_slots.specs.Cells.{store_action}
 use Rattle.thread_layout.specs.Memories.{memory_for}
 use Rattle.thread_states.specs.Cells.{StoresFirst}
-use Rattle.thread_layout.proofs.Remembering.{memory_listed}
+use Rattle.thread_layout.proofs.ModuleMemories.{memory_listed}
 use Rattle.std.proofs.lemmas.List.{length-replicate, length-map}
 use Rattle.thread_asks.specs.Asking.{AsksAt}
 use Rattle.thread_requests.specs.Early.{with_banks}

@@ -10,15 +10,15 @@ use Rattle.netlist.specs.declared.netlist.Signal.{Signal}
 use Rattle.operator_wires.specs.Gives.{Grows, Gives}
 use Rattle.operator_wires.specs.Added.{ConstantAdds}
 use Rattle.operator_wires.specs.Built.{Base, IsEarlier}
-use Rattle.operator_wires.proofs.Giving.{grows_then}
-use Rattle.operator_wires.proofs.Building.{stands_after, wires_then, longer}
+use Rattle.operator_wires.proofs.PutSignals.{grows_then}
+use Rattle.operator_wires.proofs.BuiltWires.{stands_after, wires_then, longer}
 use Rattle.planned_block.specs.Advance.{any_below}
 use Rattle.block_datapath.specs.declared.registers.Held.{Held}
 use Rattle.thread_slots.specs.declared.shape.Served.{Served}
 use Rattle.thread_slots.specs.declared.told.Told.{Told}
 use Rattle.thread_slots.specs.Bits.{HasBit, HaveBits, BothOf, MakesBits, MakesAny, AddsBoths, AddsAny, AreBitsOf}
 use Rattle.thread_slots.specs.Services.{if_ids, news_widths}
-use Rattle.thread_slots.proofs.Gating.{of_bits_later}
+use Rattle.thread_slots.proofs.BitLists.{of_bits_later}
 use Rattle.thread_requests.specs.Early.{held_width}
 use Rattle.thread_layout.specs.Telling.{heard_place, TakesFirst, IdsStand, LaysTold}
 

@@ -1,3 +1,3 @@
-pub use Rattle.plan_conditions.proofs.Waiting
-pub use Rattle.plan_conditions.proofs.Running
+pub use Rattle.plan_conditions.proofs.RegisterOperands
+pub use Rattle.plan_conditions.proofs.ViewRuns
 pub use Rattle.operator_words.proofs.Typed

@@ -1,9 +1,9 @@
-pub mod Asking
+pub mod AllAsks
 mod Named
-pub mod Opening
+pub mod OpenCores
 pub mod OutputPorts
-pub mod Banking
-pub mod Spreading
+pub mod BankAsks
+pub mod SpreadBanks
 pub mod Wanted
-pub mod Wiring
+pub mod RequestWires
 pub mod Needs

@@ -8,8 +8,8 @@ use Rattle.verilog_meaning.specs.Readings.{Reading, width}
 use Rattle.circuit.specs.Modules.{Obeys}
 use Rattle.operator_wires.specs.Gives.{Grows}
 use Rattle.operator_wires.specs.Built.{Base, IsEarlier}
-use Rattle.operator_wires.proofs.Giving.{grows_then}
-use Rattle.operator_wires.proofs.Building.{wires_then}
+use Rattle.operator_wires.proofs.PutSignals.{grows_then}
+use Rattle.operator_wires.proofs.BuiltWires.{wires_then}
 use Rattle.block_datapath.specs.declared.registers.Registers.{Registers}
 use Rattle.thread_slots.specs.declared.shape.Served.{Served}
 use Rattle.thread_slots.specs.declared.requests.Requests.{Requests}

@@ -25,8 +25,8 @@ use Rattle.circuit.specs.Modules.{Obeys}
 use Rattle.operator_wires.specs.Gives.{Grows, Gives}
 use Rattle.operator_wires.specs.Built.{Base, IsEarlier, Adds}
 use Rattle.operator_wires.specs.Added.{BothAdds}
-use Rattle.operator_wires.proofs.Giving.{grows_refl, grows_then}
-use Rattle.operator_wires.proofs.Building.{stands_after, wires_none, adds_after}
+use Rattle.operator_wires.proofs.PutSignals.{grows_refl, grows_then}
+use Rattle.operator_wires.proofs.BuiltWires.{stands_after, wires_none, adds_after}
 use Rattle.planned_block.specs.Advance.{any_below}
 use Rattle.block_datapath.specs.declared.registers.Registers.{Registers}
 use Rattle.block_datapath.specs.Chains.{TellsStage, TellsState}
@@ -37,9 +37,9 @@ use Rattle.thread_requests.specs.Needing.{FitsStage, FitStages}
 use Rattle.thread_slots.specs.Idle.{is_idle}
 use Rattle.thread_slots.specs.Numbers.{is_wait}
 use Rattle.block_datapath.specs.Moves.{meeting}
-use Rattle.thread_slots.proofs.Gating.{has_either}
-use Rattle.thread_slots.proofs.Linking.{has_stage}
-use Rattle.thread_slots.proofs.Numbering.{has_meeting}
+use Rattle.thread_slots.proofs.BitLists.{has_either}
+use Rattle.thread_slots.proofs.NextLink.{has_stage}
+use Rattle.thread_slots.proofs.StageNumbers.{has_meeting}
 use Rattle.thread_slots.proofs.Taken.{Told}
 
 -- ---- bits

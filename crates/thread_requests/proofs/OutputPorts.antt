@@ -11,7 +11,7 @@ use Rattle.netlist.specs.declared.netlist.Signal.{Signal}
 use Rattle.operator_wires.specs.declared.wires.Role.TheVariants.{Need}
 use Rattle.operator_wires.specs.Gives.{Stands}
 use Rattle.operator_wires.specs.Built.{Lays, is_single}
-use Rattle.operator_wires.proofs.Giving.{grows_refl, grows_then, listed}
+use Rattle.operator_wires.proofs.PutSignals.{grows_refl, grows_then, listed}
 use Rattle.block_datapath.specs.declared.registers.Held.{Held}
 use Rattle.block_datapath.specs.declared.requests.BankRequests.{BankRequests}
 use Rattle.thread_slots.specs.declared.requests.Requests.{Requests}
@@ -23,7 +23,7 @@ use Rattle.thread_slots.specs.Wired.{field_width}
 use Rattle.thread_requests.specs.declared.outputs.Row.{Row}
 use Rattle.thread_requests.specs.Outputs.{CopiesAt, LaysRows, LaysDone, LaysOutputs, AreNumbered}
 use Rattle.thread_requests.specs.Outputs.{joined, request_row, field_row, bank_rows, rows_at, rows_from, fields_from, act_rows, acts_from, rows_of}
-use Rattle.thread_slots.proofs.Laying.{stands_last, stands_grow, stands_long, stands_later}
+use Rattle.thread_slots.proofs.LaidRegisters.{stands_last, stands_grow, stands_long, stands_later}
 
 -- ---- rows are put together
 

@@ -10,8 +10,8 @@ use Rattle.block_ir.specs.declared.plan.Planned.{Planned}
 use Rattle.netlist.specs.declared.netlist.Signal.{Signal}
 use Rattle.operator_wires.specs.Gives.{Grows}
 use Rattle.operator_wires.specs.Built.{Base, IsEarlier}
-use Rattle.operator_wires.proofs.Giving.{grows_then}
-use Rattle.operator_wires.proofs.Building.{stands_after, wires_then}
+use Rattle.operator_wires.proofs.PutSignals.{grows_then}
+use Rattle.operator_wires.proofs.BuiltWires.{stands_after, wires_then}
 use Rattle.block_datapath.specs.declared.registers.Held.{Held}
 use Rattle.block_datapath.specs.declared.registers.Registers.{Registers}
 use Rattle.block_datapath.specs.declared.requests.BankRequests.{BankRequests}
@@ -21,13 +21,13 @@ use Rattle.block_ir.specs.Asked.{Service, Mutexes, Barriers, Ids, Prints}
 use Rattle.thread_slots.specs.Requests.{group}
 use Rattle.thread_asks.specs.declared.asking.Caller.{Caller}
 use Rattle.thread_requests.specs.declared.early.Acts.{Acts}
-use Rattle.thread_requests.proofs.Opening.{stand_joined}
+use Rattle.thread_requests.proofs.OpenCores.{stand_joined}
 use Rattle.thread_slots.specs.declared.requests.Requests.{Requests}
 use Rattle.thread_requests.specs.declared.early.Early.{Early}
 use Rattle.thread_requests.specs.Needing.{NeedsMore, FitStages, IsNeedOfFirst}
 use Rattle.thread_slots.specs.Bits.{NotOf, BothOf, MakesBits, MakesAny, AreBitsOf, AddsNots, AddsBoths, AddsAny}
 use Rattle.thread_requests.specs.Early.{held_width, spread_out, wants_of, AsksGlobals, AsksBanks, OpensActs, IsLost, LaysEarlyWired}
-use Rattle.thread_slots.proofs.Gating.{of_bits_later}
+use Rattle.thread_slots.proofs.BitLists.{of_bits_later}
 use Rattle.thread_asks.proofs.Asks.{ask_links_after}
 
 -- ---- all of it

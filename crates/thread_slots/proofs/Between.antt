@@ -8,7 +8,7 @@ use Rattle.netlist.specs.declared.netlist.Signal.{Signal}
 use Rattle.operator_wires.specs.declared.words.Word.{Word}
 use Rattle.operator_wires.specs.Gives.{Grows}
 use Rattle.operator_wires.specs.Built.{Base, IsEarlier, AreWires, StandsAs, AddsWord}
-use Rattle.operator_wires.proofs.Building.{stands_after, wires_then}
+use Rattle.operator_wires.proofs.BuiltWires.{stands_after, wires_then}
 use Rattle.block_datapath.specs.declared.registers.Registers.{Registers}
 use Rattle.block_datapath.specs.declared.operands.Given.{Given}
 use Rattle.block_datapath.specs.Wired.{AreRegisters, AreSources}

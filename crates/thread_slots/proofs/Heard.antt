@@ -13,8 +13,8 @@ use Rattle.operator_wires.specs.declared.wires.Role.TheVariants.{Wire}
 use Rattle.operator_wires.specs.Gives.{Grows, Gives}
 use Rattle.operator_wires.specs.Built.{Base, Lays, IsEarlier}
 use Rattle.operator_wires.specs.Added.{IsAdded}
-use Rattle.operator_wires.proofs.Giving.{grows_refl, grows_then}
-use Rattle.operator_wires.proofs.Building.{stands_after, room_of, longer, wires_none, wires_then, constant_right, choice_right}
+use Rattle.operator_wires.proofs.PutSignals.{grows_refl, grows_then}
+use Rattle.operator_wires.proofs.BuiltWires.{stands_after, room_of, longer, wires_none, wires_then, constant_right, choice_right}
 use Rattle.block_datapath.specs.declared.registers.Held.{Held}
 use Rattle.thread_slots.specs.Hearing.{IsHeard, AddsBehind, HearsWord, HearsWords, AddAllBehind}
 

@@ -9,12 +9,12 @@ use Rattle.netlist.specs.declared.netlist.Signal.{Signal}
 use Rattle.operator_wires.specs.declared.wires.Role.TheVariants.{Clock}
 use Rattle.operator_wires.specs.Gives.{Stands}
 use Rattle.operator_wires.specs.Built.{Lays}
-use Rattle.operator_wires.proofs.Giving.{grows_then, listed}
+use Rattle.operator_wires.proofs.PutSignals.{grows_then, listed}
 use Rattle.block_datapath.specs.declared.registers.Held.{Held}
 use Rattle.thread_slots.specs.declared.inputs.Inputs.{Inputs}
 use Rattle.thread_slots.specs.Slots.{StandsAt, LaysAll}
 use Rattle.thread_slots.specs.Inputs.{LaysInputs}
-use Rattle.thread_slots.proofs.Laying.{stands_last, stands_grow, stands_long, stands_later}
+use Rattle.thread_slots.proofs.LaidRegisters.{stands_last, stands_grow, stands_long, stands_later}
 
 -- ---- inputs
 

@@ -1,16 +1,16 @@
-mod Beginning
+mod FirstLinks
 pub mod Between
 pub mod Digits
-pub mod Gating
+pub mod BitLists
 mod Heard
 mod InputPorts
-pub mod Laying
+pub mod LaidRegisters
 pub mod Linked
-pub mod Linking
-pub mod Naming
-pub mod Numbering
-pub mod Putting
-pub mod Requesting
-pub mod Storing
+pub mod NextLink
+pub mod RegisterNames
+pub mod StageNumbers
+pub mod PutStores
+pub mod RequestLinks
+pub mod StandingStores
 pub mod Taken
-pub mod Wiring
+pub mod SlotWires

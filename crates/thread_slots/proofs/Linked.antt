@@ -8,8 +8,8 @@ use Rattle.block_ir.specs.declared.code.ThreadCode.{ThreadCode}
 use Rattle.netlist.specs.declared.netlist.Signal.{Signal}
 use Rattle.operator_wires.specs.Gives.{Grows}
 use Rattle.operator_wires.specs.Built.{Base, IsEarlier, AreWires, Adds}
-use Rattle.operator_wires.proofs.Giving.{grows_then}
-use Rattle.operator_wires.proofs.Building.{stands_after, wires_then, room_of, longer}
+use Rattle.operator_wires.proofs.PutSignals.{grows_then}
+use Rattle.operator_wires.proofs.BuiltWires.{stands_after, wires_then, room_of, longer}
 use Rattle.block_datapath.specs.declared.registers.Held.{Held}
 use Rattle.block_datapath.specs.declared.registers.Registers.{Registers}
 use Rattle.block_datapath.specs.Wired.{CanRead}

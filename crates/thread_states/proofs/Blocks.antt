@@ -26,19 +26,19 @@ use Rattle.planned_block.specs.Slot.{Slot, value_now}
 use Rattle.planned_block.proofs.Bits.{other_is}
 use Rattle.plan_blocks.specs.View.{planned_view, plan_view}
 use Rattle.operator_wires.specs.Gives.{Grows}
-use Rattle.operator_wires.proofs.Giving.{grows_refl, grows_then}
+use Rattle.operator_wires.proofs.PutSignals.{grows_refl, grows_then}
 use Rattle.thread_promise.specs.Types.{IsTypedOperation}
 use Rattle.block_datapath.specs.declared.registers.Registers.{Registers}
 use Rattle.block_datapath.specs.declared.operands.Given.{Given}
 use Rattle.block_datapath.specs.declared.leaving_block.Left.{Left}
 use Rattle.block_datapath.specs.Operations.{SeesSlot, IsRight, IsFed, IsShown}
 use Rattle.block_datapath.specs.Leave.{HasStage, IsInStage, LeavesBlock}
-use Rattle.block_datapath.proofs.Walking.{within_view, operand_here, left_used, right_used}
+use Rattle.block_datapath.proofs.OperationValues.{within_view, operand_here, left_used, right_used}
 use Rattle.thread_slots.specs.declared.stores.Store.{Store}
 use Rattle.thread_slots.specs.Slots.{KnowsStage}
 use Rattle.thread_slots.specs.Cells.{AreOff, cells_first, SeesWrite, PutsFirst}
 use Rattle.thread_states.specs.Cells.{PutsBlock, StoresBlock, StoresStage, StoresFirst}
-use Rattle.thread_slots.proofs.Putting.{nothing_off, off_both, puts_off, puts_both}
+use Rattle.thread_slots.proofs.PutStores.{nothing_off, off_both, puts_off, puts_both}
 
 -- ---- a block at a stage
 

@@ -1,10 +1,10 @@
-pub mod Acting
+pub mod ActLinks
 mod Between
 pub mod Blocks
-mod Closing
-pub mod Linking
-mod Setting
-pub mod Stepping
-pub mod Storing
-mod Steering
+mod LeftStates
+pub mod StateLinks
+mod RestLinks
+pub mod StageByStage
+pub mod StateStores
+mod ControlWires
 mod Taken

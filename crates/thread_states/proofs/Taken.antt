@@ -5,7 +5,7 @@ use Rattle.block_ir.specs.declared.plan.BlockPlan.{BlockPlan}
 use Rattle.block_ir.specs.declared.plan.StagePlan.TheVariants as planned
 use Rattle.netlist.specs.declared.netlist.Signal.{Signal}
 use Rattle.operator_wires.specs.Built.{Base, IsEarlier, AreWires}
-use Rattle.operator_wires.proofs.Building.{stands_after, wires_then}
+use Rattle.operator_wires.proofs.BuiltWires.{stands_after, wires_then}
 use Rattle.block_datapath.specs.declared.registers.Registers.{Registers}
 use Rattle.block_datapath.specs.Wired.{CanRead}
 use Rattle.block_datapath.specs.declared.leaving_block.Left.{Left}

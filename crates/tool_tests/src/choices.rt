@@ -13,7 +13,7 @@ use std::test::Fail;
 use verilog_reader::read::{ReadError, read};
 
 /// One cycle in which all threads are enabled and each arbiter prefers thread 1, and whether done is then shown.
-#[tactic(auto, using(cycle_sim::proofs::Turning::net_refl, cycle_sim::proofs::Turning::fits_round, cycle_sim::proofs::Turning::fits_all))]
+#[tactic(auto, using(cycle_sim::proofs::LockstepTurns::net_refl, cycle_sim::proofs::LockstepTurns::fits_round, cycle_sim::proofs::LockstepTurns::fits_all))]
 fn cycle(sim: &mut Sim<'_>, out: &mut Bytes) -> Result<bool, AllocError> {
     let all = sim.all_enabled();
     let choice = sim.all_preferring(1)?;

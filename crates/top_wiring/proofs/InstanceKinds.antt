@@ -9,7 +9,7 @@ use Rattle.top_parts.specs.declared.layout.Layout.{Layout}
 use Rattle.top_parts.specs.Parts.{each_from, ask_widths, parts}
 use Rattle.top_wiring.specs.Top.{thread_instance, core_instance, arbiter_instance, starts, IsTop}
 use Rattle.top_wiring.specs.Ports.{EachModule}
-use Rattle.top_parts.proofs.Growing.{length-each_from}
+use Rattle.top_parts.proofs.GrownLists.{length-each_from}
 use Rattle.top_wiring.proofs.Lists.{get_either, each_back, spread_back, IsBehind}
 
 module _ (layout : Layout) (modules : List Module) where

@@ -13,7 +13,7 @@ use Rattle.circuit.proofs.Growth.{slice_get-spread}
 use Rattle.top_parts.specs.declared.parts.Part.{Part}
 use Rattle.top_parts.specs.Parts.{each_from, flat_from, flat_spread}
 use Rattle.top_parts.specs.Wires.{ports, starts_from}
-use Rattle.top_parts.proofs.Growing.{length-ports}
+use Rattle.top_parts.proofs.GrownLists.{length-ports}
 
 -- the same, where the length is known
 pub get_behind : {A : Type 0} (n : ℕ) (xs ys : List A) (i : ℕ) (x : A) → length xs ≡ n → slice_get ys i ≡ Some x → slice_get (xs ++ ys) (n + i) ≡ Some x

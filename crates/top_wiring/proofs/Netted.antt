@@ -21,7 +21,7 @@ use Rattle.top_wiring.specs.Sound.{AreSound, WritesIn, IsOf, NetsAreSound}
 use Rattle.top_wiring.specs.Wired.{IsWired}
 use Rattle.top_wiring.proofs.Lists.{get_either}
 use Rattle.top_wiring.proofs.Soundness as soundness
-use Rattle.top_wiring.proofs.Rounding as rounding
+use Rattle.top_wiring.proofs.RoundModule as rounding
 
 -- an element of mapped names
 mapped : {A : Type 0} (f : A → List ℕ) (xs : List A) (i : ℕ) (x : List ℕ) → slice_get (map f xs) i ≡ Some x → (a : A) × (slice_get xs i ≡ Some a) × (x ≡ f a)

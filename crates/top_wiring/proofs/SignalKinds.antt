@@ -14,9 +14,9 @@ use Rattle.top_parts.specs.declared.wires.Wire.TheVariants.{Whole, Bit, Port}
 use Rattle.top_parts.specs.Parts.{each_from, parts}
 use Rattle.top_parts.specs.Wires.{first_port, port_wire, ports, enables, blocks, wire_signal}
 use Rattle.top_wiring.specs.Top.{input, preference, output, starts, all_wires, done_place, IsTop}
-use Rattle.top_parts.proofs.Growing.{length-each_from}
+use Rattle.top_parts.proofs.GrownLists.{length-each_from}
 use Rattle.top_wiring.proofs.Lists.{get_either, each_back, spread_back, flat_from_back, IsBehind}
-use Rattle.top_wiring.proofs.Standing as standing
+use Rattle.top_wiring.proofs.TopPlaces as standing
 
 module _ (modules : List Module) (layout : Layout) where
   abbrev T : ℕ

@@ -39,10 +39,10 @@ use Rattle.top_wiring.proofs.InstanceKinds.Kind.{of_thread, of_core, of_arbiter}
 use Rattle.top_wiring.proofs.SignalKinds as signals
 use Rattle.top_wiring.proofs.SignalKinds.SignalKind.{clock, mask, chosen, wire, done}
 use Rattle.top_wiring.proofs.SignalKinds.WireKind.{whole, bit, port}
-use Rattle.top_wiring.proofs.Standing as standing
+use Rattle.top_wiring.proofs.TopPlaces as standing
 use Rattle.top_wiring.proofs.InputLists as inputs
-use Rattle.top_wiring.proofs.Joining as joining
-use Rattle.top_wiring.proofs.Naming.{names_apart}
+use Rattle.top_wiring.proofs.ConnectedInputs as joining
+use Rattle.top_wiring.proofs.ApartNames.{names_apart}
 
 -- ---- filters
 

@@ -18,7 +18,7 @@ use Rattle.top_parts.specs.declared.wires.Wire.TheVariants.{Whole, Bit}
 use Rattle.top_parts.specs.Parts.{each_from, flat_from, flat_spread, group_widths, ask_widths, told_widths, thread_part, core_part, arbiter_part, output_count, parts}
 use Rattle.top_parts.specs.Wires.{ports, enables, blocks, wire_signal}
 use Rattle.top_wiring.specs.Top.{input, preference, output, top_signals, run, group_places, all_wires, starts, IsSmall}
-use Rattle.top_parts.proofs.Growing.{each_behind, flat_from_onto, flat_next, length-ports, starts_low, counts_low}
+use Rattle.top_parts.proofs.GrownLists.{each_behind, flat_from_onto, flat_next, length-ports, starts_low, counts_low}
 
 pub asks_grow : (starts : List ℕ) (threads cores asked : ℕ) (groups : List Group) (a b c : List ℕ) (i : ℕ) (x : Group) (n : ℕ)
     → b ≡ a ++ flat_from (group_places starts threads cores asked groups) 0 (take i groups)

@@ -8,7 +8,7 @@ use Rattle.interval_pack.specs.LeftEdge.{IsBefore}
 use Rattle.interval_pack.specs.Packing.{at, nowhere, start_of, Meet, crowd_at}
 use Rattle.interval_pack.proofs.Counts.{holds}
 use Rattle.interval_pack.specs.Sparse.{HasPlace, IsSparsePacking}
-use Rattle.interval_pack.proofs.Choosing.{crowd-counted, count-same}
+use Rattle.interval_pack.proofs.ChosenIntervals.{crowd-counted, count-same}
 use Rattle.op_graph.specs.declared.node.Kind.{Kind}
 use Rattle.op_graph.specs.declared.node.Node.{Node}
 use Rattle.op_graph.specs.Graph.{kind_at, done, same_kind}

@@ -19,9 +19,9 @@ use Rattle.unit_datapath.specs.declared.units.UnitCounts.{UnitCounts}
 use Rattle.unit_datapath.specs.Kinds.{is_of}
 use Rattle.unit_datapath.specs.Counts.{IsCountOf}
 use Rattle.unit_datapath.specs.Units.{HasUnit, IsOperatorCount, AreCounted, AreCountsOf, AreOnce, IsLaid}
-use Rattle.unit_datapath.proofs.Kinding.{type_same}
-use Rattle.unit_datapath.proofs.Laying.{only_get}
-use Rattle.unit_datapath.proofs.Valuing.{type_is, operator_is}
+use Rattle.unit_datapath.proofs.UnitKinds.{type_same}
+use Rattle.unit_datapath.proofs.UnitsLaid.{only_get}
+use Rattle.unit_datapath.proofs.UnitValues.{type_is, operator_is}
 
 -- a list is as long as the numbers of the units ask for
 abbrev pub IsLongEnough : ThreadCode → Planned → UnitResults → Type 0

@@ -104,7 +104,7 @@ fn begin_unit(inputs: &mut UnitInputs, unit: usize, left: usize, right: usize)
     put(&mut inputs.rights, unit, right);
 }
 
-#[tactic(auto, using(crate::proofs::Inputting::set_past))]
+#[tactic(auto, using(crate::proofs::UnitInputs::set_past))]
 fn mark(marks: &mut Items<bool>, number: usize)
     ensures { marks.new ≡ slice_set marks.old number true }
 {
@@ -113,7 +113,7 @@ fn mark(marks: &mut Items<bool>, number: usize)
     }
 }
 
-#[tactic(auto, using(crate::proofs::Inputting::set_past))]
+#[tactic(auto, using(crate::proofs::UnitInputs::set_past))]
 fn put(places: &mut Items<usize>, number: usize, place: usize)
     ensures { places.new ≡ slice_set places.old number place }
 {

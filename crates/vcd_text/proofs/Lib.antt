@@ -2,4 +2,4 @@ pub mod Bytes
 pub mod Ids
 pub mod Injective
 pub mod Lines
-pub mod Recovering
+pub mod Recovered

@@ -10,11 +10,11 @@ use Rattle.sim_layout.specs.Running.{Running, Stands, state_of, IsSameNet, IsSam
 use Rattle.sim_layout.specs.Rounds.{threads_of, round, rounds}
 use Rattle.cycle_sim.specs.Lockstep.{IsTurned}
 use Rattle.cycle_sim.proofs.Same.{runs_from_same}
-use Rattle.cycle_sim.proofs.Turning.{takes_rounds, turned_none, IsTold, told, turned_on}
+use Rattle.cycle_sim.proofs.LockstepTurns.{takes_rounds, turned_none, IsTold, told, turned_on}
 use Rattle.cycle_sim.specs.Round.{IsBegun, turns}
 use Rattle.vcd_text.specs.Dump.{AreValues, first_frame, frame}
 use Rattle.vcd_text.specs.Recover.{frames, recover}
-use Rattle.vcd_text.proofs.Recovering.{recovers}
+use Rattle.vcd_text.proofs.Recovered.{recovers}
 use Rattle.net_registers.specs.declared.listing.Listing.{Listing}
 use Rattle.net_registers.specs.Marks.{Register, registers_of}
 use Rattle.net_registers.specs.Heads.{IsListing, width_of, place_of, head_lines}

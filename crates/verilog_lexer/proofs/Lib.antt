@@ -1,5 +1,5 @@
-mod Counting
-mod Marking
-mod Running
-mod Facing
-mod Lexing
+mod DigitValue
+mod FrontMarks
+mod ByteRuns
+mod FrontToken
+mod NextToken

@@ -28,7 +28,7 @@ fn text_of(alloc: Global, bytes: &[u8]) -> Result<String, AllocError>
 }
 
 /// The word of the grammar or the name at the front of the text.
-#[tactic(auto, using(crate::proofs::Running::name_valid, crate::proofs::Facing::name_taken, crate::proofs::Facing::name_token))]
+#[tactic(auto, using(crate::proofs::ByteRuns::name_valid, crate::proofs::FrontToken::name_taken, crate::proofs::FrontToken::name_token))]
 fn name_token(alloc: Global, text: &[u8]) -> Result<(Token, usize), AllocError>
     requires { spec.BeginsName text.now }
     ensures { IfOk result (λ found. spec.IsToken text.now found.0 found.1) }
@@ -44,7 +44,7 @@ fn name_token(alloc: Global, text: &[u8]) -> Result<(Token, usize), AllocError>
     }
 }
 
-#[tactic(auto, using(crate::proofs::Facing::number_token, crate::proofs::Facing::no_number))]
+#[tactic(auto, using(crate::proofs::FrontToken::number_token, crate::proofs::FrontToken::no_number))]
 fn number_token(text: &[u8]) -> Option<(Token, usize)>
     requires { spec.BeginsDigit text.now }
     ensures { spec.IsFront text.now result }
@@ -57,7 +57,7 @@ fn number_token(text: &[u8]) -> Option<(Token, usize)>
 }
 
 /// The string at the front of the text, by what stands behind its first quote.
-#[tactic(auto, using(crate::proofs::Facing::quoted_taken, crate::proofs::Facing::quoted_token, crate::proofs::Facing::no_quoted))]
+#[tactic(auto, using(crate::proofs::FrontToken::quoted_taken, crate::proofs::FrontToken::quoted_token, crate::proofs::FrontToken::no_quoted))]
 fn quoted_token(
     alloc: Global,
     text: &[u8],
@@ -76,7 +76,7 @@ fn quoted_token(
     }
 }
 
-#[tactic(auto, using(crate::proofs::Facing::mark_token, crate::proofs::Facing::no_mark))]
+#[tactic(auto, using(crate::proofs::FrontToken::mark_token, crate::proofs::FrontToken::no_mark))]
 fn mark_token(text: &[u8]) -> Option<(Token, usize)>
     requires { spec.BeginsMark text.now }
     ensures { spec.IsFront text.now result }
@@ -88,7 +88,7 @@ fn mark_token(text: &[u8]) -> Option<(Token, usize)>
 }
 
 /// The token at the front of the text, and how many bytes it has.
-#[tactic(auto, using(crate::proofs::Facing::front_steps))]
+#[tactic(auto, using(crate::proofs::FrontToken::front_steps))]
 pub(crate) fn front_token(alloc: Global, text: &[u8]) -> Result<Option<(Token, usize)>, AllocError>
     ensures { IfOk result (spec.IsFront text.now) }
 {

@@ -119,7 +119,7 @@ fn mark_spelling(mark: Mark) -> &'static [u8]
 }
 
 /// The first of these words that is spelled so.
-#[tactic(auto, using(crate::proofs::Marking::word_here, crate::proofs::Marking::word_later))]
+#[tactic(auto, using(crate::proofs::FrontMarks::word_here, crate::proofs::FrontMarks::word_later))]
 fn word_among(words: &[Word], text: &[u8]) -> Option<Word>
     ensures { result ≡ spelling.word_among words.now text.now }
 {
@@ -139,7 +139,7 @@ pub(crate) fn word_of(text: &[u8]) -> Option<Word>
 }
 
 /// The first of these marks that stands at the front of the text, and how many bytes it has.
-#[tactic(auto, using(crate::proofs::Marking::mark_found, crate::proofs::Marking::mark_passed))]
+#[tactic(auto, using(crate::proofs::FrontMarks::mark_found, crate::proofs::FrontMarks::mark_passed))]
 pub(crate) fn mark_among(marks: &[Mark], text: &[u8]) -> Option<(Mark, usize)>
     ensures { spec.IsMarkAmong marks.now text.now result }
 {

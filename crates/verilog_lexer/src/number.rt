@@ -18,7 +18,7 @@ fn shifted(value: u64, digit: u8) -> Option<u64>
 }
 
 /// The number whose digits these are, where it is below 2 to the 64. Other bytes count as digits too.
-#[tactic(auto, using(crate::proofs::Counting::too_large))]
+#[tactic(auto, using(crate::proofs::DigitValue::too_large))]
 fn value_of(digits: &[u8]) -> Option<u64>
     ensures { MatchOption result (2 ^ 64 ≤ read_on 0 digits.now) (λ n. n ≡ read_on 0 digits.now) }
 {
@@ -35,7 +35,7 @@ fn value_of(digits: &[u8]) -> Option<u64>
 }
 
 /// The number that these digits spell without leading zeros, where it is below 2 to the 64.
-#[tactic(auto, using(crate::proofs::Counting::written, crate::proofs::Counting::differs, crate::proofs::Counting::large))]
+#[tactic(auto, using(crate::proofs::DigitValue::written, crate::proofs::DigitValue::differs, crate::proofs::DigitValue::large))]
 pub(crate) fn number_of(digits: &[u8]) -> Option<u64>
     ensures { result ≡ spec.number_of digits.now }
 {

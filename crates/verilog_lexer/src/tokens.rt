@@ -29,7 +29,7 @@ fn behind(text: &[u8], n: usize) -> &[u8]
 }
 
 /// The tokens at the front of the text.
-#[tactic(auto, using(crate::proofs::Lexing::lexes_more, crate::proofs::Lexing::skip_short, crate::proofs::Lexing::behind_short))]
+#[tactic(auto, using(crate::proofs::NextToken::lexes_more, crate::proofs::NextToken::skip_short, crate::proofs::NextToken::behind_short))]
 pub fn lex(alloc: Global, text: &[u8]) -> Result<Lexed, AllocError>
     ensures { IfOk result (IsLexed text.now) }
 {

@@ -1,5 +1,5 @@
 pub mod Ranked
 pub mod Operands
-pub mod Settling
-pub mod Listing
+pub mod OneSettled
+pub mod DistinctLists
 pub mod Banks

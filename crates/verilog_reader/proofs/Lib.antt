@@ -1,8 +1,8 @@
-pub mod Counting
-pub mod Faulting
-pub mod Placing
-pub mod Standing
-pub mod Answering
+pub mod TokenCounts
+pub mod NoNets
+pub mod TokenPlaces
+pub mod PartPlaces
+pub mod ReadClauses
 pub mod Names
 pub mod Wanted
-pub mod Turning
+pub mod LoopTurns

@@ -23,7 +23,7 @@ fn of_range(high: Option<u64>) -> usize
     }
 }
 
-#[tactic(auto, using(crate::proofs::Counting::concatenation_length))]
+#[tactic(auto, using(crate::proofs::TokenCounts::concatenation_length))]
 fn of_expression(value: &Expression) -> Result<usize, AllocError>
     ensures { IfOk result (λ n. n ≡ length (g.expression value.now)) }
 {
@@ -47,7 +47,7 @@ fn of_expression(value: &Expression) -> Result<usize, AllocError>
 }
 
 /// The tokens of a port and a comma.
-#[tactic(auto, using(crate::proofs::Counting::port_length))]
+#[tactic(auto, using(crate::proofs::TokenCounts::port_length))]
 fn of_port(port: &Port) -> usize
     ensures { result ≡ length (port_and_comma port.now) }
 {
@@ -85,7 +85,7 @@ fn of_arguments(arguments: &[WriteArgument]) -> Result<usize, AllocError>
 }
 
 #[cycle(counts)]
-#[tactic(auto, using(crate::proofs::Counting::set_length, crate::proofs::Counting::store_length, crate::proofs::Counting::if_length, crate::proofs::Counting::write_length))]
+#[tactic(auto, using(crate::proofs::TokenCounts::set_length, crate::proofs::TokenCounts::store_length, crate::proofs::TokenCounts::if_length, crate::proofs::TokenCounts::write_length))]
 fn of_statement(statement: &Statement) -> Result<usize, AllocError>
     ensures { IfOk result (λ n. n ≡ length (g.statement statement.now)) }
 {
@@ -108,7 +108,7 @@ fn of_statements(statements: &[Statement]) -> Result<usize, AllocError>
     Ok(count)
 }
 
-#[tactic(auto, using(crate::proofs::Counting::initial_length))]
+#[tactic(auto, using(crate::proofs::TokenCounts::initial_length))]
 fn of_initial(constant: &InitialConstant) -> usize
     ensures { result ≡ length (g.initial_constant constant.now) }
 {
@@ -128,7 +128,7 @@ fn of_initials(constants: &[InitialConstant]) -> Result<usize, AllocError>
     Ok(count)
 }
 
-#[tactic(auto, using(crate::proofs::Counting::item_lengths))]
+#[tactic(auto, using(crate::proofs::TokenCounts::item_lengths))]
 fn of_item(item: &Item) -> Result<usize, AllocError>
     ensures { IfOk result (λ n. n ≡ length (g.item item.now)) }
 {

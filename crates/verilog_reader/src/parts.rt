@@ -10,7 +10,7 @@ use std::alloc::AllocError;
 use verilog_tree::tree::{Module, Port};
 
 /// How many tokens a module has before its items: the ports with a comma behind each, of which the last is none, but `)` and `;` follow.
-#[tactic(auto, using(crate::proofs::Counting::listed_ports))]
+#[tactic(auto, using(crate::proofs::TokenCounts::listed_ports))]
 fn before_items(ports: &[Port]) -> Result<usize, AllocError>
     ensures { IfOk result (λ n. n ≡ length (g.commas g.port ports.now) + 5) }
 {
@@ -18,7 +18,7 @@ fn before_items(ports: &[Port]) -> Result<usize, AllocError>
     sum(listed, 5)
 }
 
-#[tactic(auto, using(crate::proofs::Counting::module_length))]
+#[tactic(auto, using(crate::proofs::TokenCounts::module_length))]
 fn of_module(module: &Module) -> Result<usize, AllocError>
     ensures { IfOk result (λ n. n ≡ length (g.module_tokens module.now)) }
 {
@@ -45,7 +45,7 @@ fn of_modules(modules: &[Module]) -> Result<usize, AllocError>
 }
 
 /// How many tokens stand in the net before the name of the module with this number.
-#[tactic(auto, using(crate::proofs::Counting::name_place))]
+#[tactic(auto, using(crate::proofs::TokenCounts::name_place))]
 pub fn name_place(modules: &[Module], number: usize) -> Result<usize, AllocError>
     ensures { IfOk result (λ n. (x : tree.Module) → slice_get modules.now number ≡ Some x → n ≡ length (before modules.now number (before_name x))) }
 {
@@ -54,7 +54,7 @@ pub fn name_place(modules: &[Module], number: usize) -> Result<usize, AllocError
 }
 
 /// How many tokens stand in the net before a port of the module with this number.
-#[tactic(auto, using(crate::proofs::Counting::port_place))]
+#[tactic(auto, using(crate::proofs::TokenCounts::port_place))]
 pub fn port_place(modules: &[Module], number: usize, port: usize) -> Result<usize, AllocError>
     ensures { IfOk result (λ n. (x : tree.Module) → slice_get modules.now number ≡ Some x → n ≡ length (before modules.now number (before_port port x))) }
 {
@@ -69,7 +69,7 @@ pub fn port_place(modules: &[Module], number: usize, port: usize) -> Result<usiz
 }
 
 /// How many tokens stand in the net before an item of the module with this number.
-#[tactic(auto, using(crate::proofs::Counting::item_place))]
+#[tactic(auto, using(crate::proofs::TokenCounts::item_place))]
 pub fn item_place(modules: &[Module], number: usize, item: usize) -> Result<usize, AllocError>
     ensures { IfOk result (λ n. (x : tree.Module) → slice_get modules.now number ≡ Some x → n ≡ length (before modules.now number (before_item item x))) }
 {

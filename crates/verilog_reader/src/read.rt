@@ -155,7 +155,7 @@ fn lacking(modules: &[Module]) -> Option<Place>
 }
 
 /// Where a well-formed net is none that a simulator runs, by the first port that `top` may not have.
-#[tactic(auto, using(crate::proofs::Faulting::unwanted_fault, crate::proofs::Faulting::lacking_is))]
+#[tactic(auto, using(crate::proofs::NoNets::unwanted_fault, crate::proofs::NoNets::lacking_is))]
 fn unbroken(net: &Net, unwanted: Option<(usize, usize)>) -> Option<Place>
     requires well_formed { IsWellFormed net.now }
     requires unwanted { IsUnwantedOf net.now.modules unwanted }
@@ -171,7 +171,7 @@ fn unbroken(net: &Net, unwanted: Option<(usize, usize)>) -> Option<Place>
 }
 
 /// Where the net is none that a simulator runs.
-#[tactic(auto, using(crate::proofs::Faulting::broken_fault))]
+#[tactic(auto, using(crate::proofs::NoNets::broken_fault))]
 fn fault_of(alloc: Global, net: &Net) -> Result<Option<Place>, AllocError>
     requires { IsFilled net.now.modules }
     ensures { IfOk result (spec.IsFaultOf net.now) }

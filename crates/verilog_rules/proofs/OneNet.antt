@@ -5,7 +5,7 @@ use Rattle.verilog_tree.specs.declared.tree.Net.{Net}
 use Rattle.verilog_tree.specs.Grammar as v
 use Rattle.verilog_tree.specs.Reads.{Reads, IsFull}
 use Rattle.verilog_tree.specs.Spelling.{Text}
-use Rattle.verilog_tree.proofs.Splitting.{splits_same}
+use Rattle.verilog_tree.proofs.OneSplit.{splits_same}
 use Rattle.grammar.specs.Rules.{Placed}
 use Rattle.grammar.specs.Sentences.{Within, SentenceWithin}
 use Rattle.grammar.specs.Readers.{Reading}

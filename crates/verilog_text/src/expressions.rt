@@ -153,7 +153,7 @@ fn division<'p>(
     ])
 }
 
-#[tactic(auto, using(crate::proofs::Laying::put_all_append, crate::proofs::Laying::all_tokens_append))]
+#[tactic(auto, using(crate::proofs::LaidTokens::put_all_append, crate::proofs::LaidTokens::all_tokens_append))]
 fn signed_division<'p>(
     out: &mut Text,
     guarded: Constant,
@@ -220,7 +220,7 @@ fn part_select(out: &mut Text, of: &Identifier, high: u64, low: u64) -> Result<(
     ])
 }
 
-#[tactic(auto, using(crate::proofs::Laying::put_all_append, crate::proofs::Laying::all_tokens_append))]
+#[tactic(auto, using(crate::proofs::LaidTokens::put_all_append, crate::proofs::LaidTokens::all_tokens_append))]
 fn names(out: &mut Text, names: &[Identifier]) -> Result<(), AllocError>
     ensures text { OnOk result (out.new ≡ put_all out.old (g.commas g.name names.now)) }
     ensures tokens { OnOk result (AllTokens (g.commas g.name names.now)) }
@@ -236,7 +236,7 @@ fn names(out: &mut Text, names: &[Identifier]) -> Result<(), AllocError>
     Ok(())
 }
 
-#[tactic(auto, using(crate::proofs::Laying::put_all_append, crate::proofs::Laying::all_tokens_append))]
+#[tactic(auto, using(crate::proofs::LaidTokens::put_all_append, crate::proofs::LaidTokens::all_tokens_append))]
 fn concatenation(out: &mut Text, parts: &[Identifier]) -> Result<(), AllocError>
     ensures text { OnOk result (out.new ≡ put_all out.old (g.mark m.OpenCurly ++ g.commas g.name parts.now ++ g.mark m.CloseCurly)) }
     ensures tokens { OnOk result (AllTokens (g.mark m.OpenCurly ++ g.commas g.name parts.now ++ g.mark m.CloseCurly)) }
@@ -260,7 +260,7 @@ fn replication(out: &mut Text, count: u64, of: &Identifier) -> Result<(), AllocE
     ])
 }
 
-#[tactic(auto, using(crate::proofs::Laying::put_all_append, crate::proofs::Laying::all_tokens_append))]
+#[tactic(auto, using(crate::proofs::LaidTokens::put_all_append, crate::proofs::LaidTokens::all_tokens_append))]
 pub fn expression(out: &mut Text, expression: &Expression) -> Result<(), AllocError>
     ensures text { OnOk result (out.new ≡ put_all out.old (g.expression expression.now)) }
     ensures tokens { OnOk result (AllTokens (g.expression expression.now)) }

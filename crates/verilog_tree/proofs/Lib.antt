@@ -1,6 +1,6 @@
 pub mod Tests
 pub mod Names
 pub mod Fold
-pub mod Splitting
+pub mod OneSplit
 pub mod Fronts
 pub mod Examples

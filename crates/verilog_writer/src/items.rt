@@ -42,7 +42,7 @@ fn direction(out: &mut Text, direction: Direction) -> Result<(), AllocError>
     }
 }
 
-#[tactic(auto, using(verilog_text::proofs::Laying::put_all_append, verilog_text::proofs::Laying::all_tokens_append))]
+#[tactic(auto, using(verilog_text::proofs::LaidTokens::put_all_append, verilog_text::proofs::LaidTokens::all_tokens_append))]
 fn port(out: &mut Text, port: &Port) -> Result<(), AllocError>
     ensures text { OnOk result (out.new ≡ put_all out.old (g.port port.now)) }
     ensures tokens { OnOk result (AllTokens (g.port port.now)) }
@@ -76,7 +76,7 @@ fn argument(out: &mut Text, argument: &WriteArgument) -> Result<(), AllocError>
     }
 }
 
-#[tactic(auto, using(verilog_text::proofs::Laying::put_all_append, verilog_text::proofs::Laying::all_tokens_append))]
+#[tactic(auto, using(verilog_text::proofs::LaidTokens::put_all_append, verilog_text::proofs::LaidTokens::all_tokens_append))]
 fn ports(out: &mut Text, ports: &[Port]) -> Result<(), AllocError>
     ensures text { OnOk result (out.new ≡ put_all out.old (g.commas g.port ports.now)) }
     ensures tokens { OnOk result (AllTokens (g.commas g.port ports.now)) }
@@ -92,7 +92,7 @@ fn ports(out: &mut Text, ports: &[Port]) -> Result<(), AllocError>
     Ok(())
 }
 
-#[tactic(auto, using(verilog_text::proofs::Laying::put_all_append, verilog_text::proofs::Laying::all_tokens_append))]
+#[tactic(auto, using(verilog_text::proofs::LaidTokens::put_all_append, verilog_text::proofs::LaidTokens::all_tokens_append))]
 fn connections(out: &mut Text, connections: &[Connection]) -> Result<(), AllocError>
     ensures text { OnOk result (out.new ≡ put_all out.old (g.commas g.connection connections.now)) }
     ensures tokens { OnOk result (AllTokens (g.commas g.connection connections.now)) }
@@ -133,7 +133,7 @@ fn index(out: &mut Text, word: Option<u64>) -> Result<(), AllocError>
     }
 }
 
-#[tactic(auto, using(verilog_text::proofs::Laying::put_all_append, verilog_text::proofs::Laying::all_tokens_append))]
+#[tactic(auto, using(verilog_text::proofs::LaidTokens::put_all_append, verilog_text::proofs::LaidTokens::all_tokens_append))]
 fn initial_constant(out: &mut Text, initial: &InitialConstant) -> Result<(), AllocError>
     ensures text { OnOk result (out.new ≡ put_all out.old (g.initial_constant initial.now)) }
     ensures tokens { OnOk result (AllTokens (g.initial_constant initial.now)) }
@@ -160,7 +160,7 @@ fn constants(out: &mut Text, constants: &[InitialConstant]) -> Result<(), AllocE
 }
 
 /// `$write("text", argument, argument);`
-#[tactic(auto, using(verilog_text::proofs::Laying::put_all_append, verilog_text::proofs::Laying::all_tokens_append))]
+#[tactic(auto, using(verilog_text::proofs::LaidTokens::put_all_append, verilog_text::proofs::LaidTokens::all_tokens_append))]
 fn system_write(
     out: &mut Text,
     text: &Quoted,
@@ -211,7 +211,7 @@ fn statement(out: &mut Text, statement: &Statement) -> Result<(), AllocError>
 }
 
 /// `if (condition) begin .. end`
-#[tactic(auto, using(verilog_text::proofs::Laying::put_all_append, verilog_text::proofs::Laying::all_tokens_append))]
+#[tactic(auto, using(verilog_text::proofs::LaidTokens::put_all_append, verilog_text::proofs::LaidTokens::all_tokens_append))]
 #[cycle(statements)]
 fn conditional(out: &mut Text, condition: &Identifier, body: &[Statement]) -> Result<(), AllocError>
     ensures text { OnOk result (out.new ≡ put_all out.old (g.conditional condition.now (g.all g.statement body.now))) }
@@ -240,7 +240,7 @@ fn statements(out: &mut Text, statements: &[Statement]) -> Result<(), AllocError
 }
 
 /// A wire or a register.
-#[tactic(auto, using(verilog_text::proofs::Laying::put_all_append, verilog_text::proofs::Laying::all_tokens_append))]
+#[tactic(auto, using(verilog_text::proofs::LaidTokens::put_all_append, verilog_text::proofs::LaidTokens::all_tokens_append))]
 fn declaration(
     out: &mut Text,
     kind: Word,
@@ -276,7 +276,7 @@ fn memory(out: &mut Text, memory: &Memory) -> Result<(), AllocError>
     ])
 }
 
-#[tactic(auto, using(verilog_text::proofs::Laying::put_all_append, verilog_text::proofs::Laying::all_tokens_append))]
+#[tactic(auto, using(verilog_text::proofs::LaidTokens::put_all_append, verilog_text::proofs::LaidTokens::all_tokens_append))]
 fn assign(out: &mut Text, assign: &Assign) -> Result<(), AllocError>
     ensures text { OnOk result (out.new ≡ put_all out.old (g.item (i.Assign assign.now))) }
     ensures tokens { OnOk result (AllTokens (g.item (i.Assign assign.now))) }
@@ -290,7 +290,7 @@ fn assign(out: &mut Text, assign: &Assign) -> Result<(), AllocError>
     out.mark(Mark::Semicolon)
 }
 
-#[tactic(auto, using(verilog_text::proofs::Laying::put_all_append, verilog_text::proofs::Laying::all_tokens_append))]
+#[tactic(auto, using(verilog_text::proofs::LaidTokens::put_all_append, verilog_text::proofs::LaidTokens::all_tokens_append))]
 fn initial(out: &mut Text, initial: &Initial) -> Result<(), AllocError>
     ensures text { OnOk result (out.new ≡ put_all out.old (g.item (i.Initial initial.now))) }
     ensures tokens { OnOk result (AllTokens (g.item (i.Initial initial.now))) }
@@ -301,7 +301,7 @@ fn initial(out: &mut Text, initial: &Initial) -> Result<(), AllocError>
 }
 
 /// `always @(posedge clk) begin .. end`
-#[tactic(auto, using(verilog_text::proofs::Laying::put_all_append, verilog_text::proofs::Laying::all_tokens_append))]
+#[tactic(auto, using(verilog_text::proofs::LaidTokens::put_all_append, verilog_text::proofs::LaidTokens::all_tokens_append))]
 fn always(out: &mut Text, always: &Always) -> Result<(), AllocError>
     ensures text { OnOk result (out.new ≡ put_all out.old (g.item (i.Always always.now))) }
     ensures tokens { OnOk result (AllTokens (g.item (i.Always always.now))) }
@@ -319,7 +319,7 @@ fn always(out: &mut Text, always: &Always) -> Result<(), AllocError>
     out.word(Word::End)
 }
 
-#[tactic(auto, using(verilog_text::proofs::Laying::put_all_append, verilog_text::proofs::Laying::all_tokens_append))]
+#[tactic(auto, using(verilog_text::proofs::LaidTokens::put_all_append, verilog_text::proofs::LaidTokens::all_tokens_append))]
 fn instance(out: &mut Text, instance: &Instance) -> Result<(), AllocError>
     ensures text { OnOk result (out.new ≡ put_all out.old (g.item (i.Instance instance.now))) }
     ensures tokens { OnOk result (AllTokens (g.item (i.Instance instance.now))) }
@@ -359,7 +359,7 @@ fn items(out: &mut Text, items: &[Item]) -> Result<(), AllocError>
     Ok(())
 }
 
-#[tactic(auto, using(verilog_text::proofs::Laying::put_all_append, verilog_text::proofs::Laying::all_tokens_append))]
+#[tactic(auto, using(verilog_text::proofs::LaidTokens::put_all_append, verilog_text::proofs::LaidTokens::all_tokens_append))]
 fn one_module(out: &mut Text, one: &Module) -> Result<(), AllocError>
     ensures text { OnOk result (out.new ≡ put_all out.old (g.module_tokens one.now)) }
     ensures tokens { OnOk result (AllTokens (g.module_tokens one.now)) }

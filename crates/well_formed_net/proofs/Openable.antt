@@ -15,8 +15,8 @@ use Rattle.well_formed_net.proofs.Prints.{modules_apart, stands_earlier, printin
 use Rattle.sim_layout.specs.Rounds.{enables, threads_of}
 use Rattle.cycle_sim.proofs.Right.{named_at}
 use Rattle.cycle_sim.proofs.Enables.{enable_at}
-use Rattle.cycle_sim.proofs.Printing.{PrintsOnce, printer_of}
-use Rattle.cycle_sim.proofs.Taking.{wide_taken}
+use Rattle.cycle_sim.proofs.PrinterInstance.{PrintsOnce, printer_of}
+use Rattle.cycle_sim.proofs.TakenChoices.{wide_taken}
 use Rattle.well_formed_net.specs.Openable.{OpenableOfWellFormed}
 use Rattle.well_formed_net.proofs.Right.{right}
 

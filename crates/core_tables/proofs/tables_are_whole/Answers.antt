@@ -1,5 +1,5 @@
-use Rattle.core_tables.proofs.Keeping.{tables_keep_promises}
-use Rattle.core_tables.proofs.Netting.{tables_are_nets}
+use Rattle.core_tables.proofs.TablesKeep.{tables_keep_promises}
+use Rattle.core_tables.proofs.TableNets.{tables_are_nets}
 use Rattle.core_tables.proofs.Sound.{tables_are_sound}
 use Rattle.core_tables.proofs.tables_are_whole.Goals as goal
 

@@ -1,9 +1,9 @@
 use Rattle.core_tables.proofs.CoresFit.{cores_fit}
-use Rattle.core_tables.proofs.Fitting as fitting
-use Rattle.core_tables.proofs.Naming.{cores_are_named}
+use Rattle.core_tables.proofs.TablesFit as fitting
+use Rattle.core_tables.proofs.CoreNames.{cores_are_named}
 use Rattle.core_tables.proofs.Threads.{threads_fit}
 use Rattle.core_tables.proofs.Widths.{thread_ports}
-use Rattle.core_tables.proofs.Writing.{printers_write}
+use Rattle.core_tables.proofs.OneWriter.{printers_write}
 use Rattle.core_tables.proofs.tables_fit.Goals as goal
 
 pub returns-clause-cores : goal.returns-clause-cores

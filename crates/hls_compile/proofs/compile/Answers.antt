@@ -2,7 +2,7 @@ use Rattle.std.proofs.Common.{subst, sym}
 use Rattle.c_program.specs.Plain.{program_of}
 use Rattle.program_bodies.specs.Plans.{ArePlanned}
 use Rattle.hls_compile.specs.Plans.{RunPlanned}
-use Rattle.hls_compile.proofs.Making.{few_threads}
+use Rattle.hls_compile.proofs.MadeText.{few_threads}
 use Rattle.hls_compile.proofs.compile.Goals as goal
 
 pub written-requires : goal.written-requires

@@ -1,5 +1,5 @@
 -- The laws stand in proofs/Owning.
-use Rattle.law_banks.proofs.Owning.{memory_has_all, places_are_owned, answered_is_owned}
+use Rattle.law_banks.proofs.OwnedMemory.{memory_has_all, places_are_owned, answered_is_owned}
 use Rattle.law_banks.proofs.places_are_owned.Goals as goal
 
 pub returns : goal.returns

@@ -1,5 +1,5 @@
 -- The law stands in proofs/Fitting.
-use Rattle.law_cycle.proofs.Fitting.{built_fits}
+use Rattle.law_cycle.proofs.BuiltCode.{built_fits}
 use Rattle.law_cycle.proofs.built_fits.Goals as goal
 
 pub returns : goal.returns

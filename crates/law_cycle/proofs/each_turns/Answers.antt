@@ -1,5 +1,5 @@
 -- The law stands in proofs/Turning.
-use Rattle.law_cycle.proofs.Turning.{each_turns}
+use Rattle.law_cycle.proofs.CoreTurns.{each_turns}
 use Rattle.law_cycle.proofs.each_turns.Goals as goal
 
 pub returns : goal.returns

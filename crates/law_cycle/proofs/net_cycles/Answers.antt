@@ -1,5 +1,5 @@
 -- The law stands in proofs/Cycling.
-use Rattle.law_cycle.proofs.Cycling.{net_cycles}
+use Rattle.law_cycle.proofs.MachineCycle.{net_cycles}
 use Rattle.law_cycle.proofs.net_cycles.Goals as goal
 
 pub returns : goal.returns

@@ -1,4 +1,4 @@
-use Rattle.law_cycle.proofs.Asking.{thread_asks}
+use Rattle.law_cycle.proofs.ThreadAsks.{thread_asks}
 use Rattle.law_cycle.proofs.thread_asks.Goals as goal
 
 pub returns : goal.returns

@@ -1,4 +1,4 @@
-use Rattle.law_cycle.proofs.Moving.{thread_starts, thread_moves, beats}
+use Rattle.law_cycle.proofs.ThreadMoves.{thread_starts, thread_moves, beats}
 use Rattle.law_cycle.proofs.thread_moves.Goals as goal
 
 pub returns-clause-starts : goal.returns-clause-starts

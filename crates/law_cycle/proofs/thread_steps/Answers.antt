@@ -1,4 +1,4 @@
-use Rattle.law_cycle.proofs.Stepping.{thread_steps, thread_is_done}
+use Rattle.law_cycle.proofs.ThreadSteps.{thread_steps, thread_is_done}
 use Rattle.law_cycle.proofs.thread_steps.Goals as goal
 
 pub returns-clause-steps : goal.returns-clause-steps

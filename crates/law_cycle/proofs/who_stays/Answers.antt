@@ -1,4 +1,4 @@
-use Rattle.law_cycle.proofs.Staying.{who_stays, granted_accesses, still_reading}
+use Rattle.law_cycle.proofs.GrantedAccesses.{who_stays, granted_accesses, still_reading}
 use Rattle.law_cycle.proofs.who_stays.Goals as goal
 
 pub returns-clause-stays : goal.returns-clause-stays

@@ -1,4 +1,4 @@
-use Rattle.law_threads.proofs.Keeping.{waiters_count}
+use Rattle.law_threads.proofs.KeptTold.{waiters_count}
 use Rattle.law_threads.proofs.bits_count.Goals as goal
 
 pub returns : goal.returns

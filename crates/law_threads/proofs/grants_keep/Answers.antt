@@ -1,4 +1,4 @@
-use Rattle.law_threads.proofs.Keeping.{runners_stay, passers_stay}
+use Rattle.law_threads.proofs.KeptTold.{runners_stay, passers_stay}
 use Rattle.law_threads.proofs.grants_keep.Goals as goal
 
 pub returns-clause-runners : goal.returns-clause-runners

@@ -1,5 +1,5 @@
 use Rattle.law_threads.proofs.Awake.{stands_awake}
-use Rattle.law_threads.proofs.Blocking.{marks_threads, what_blocks}
+use Rattle.law_threads.proofs.WhoBlocks.{marks_threads, what_blocks}
 use Rattle.law_threads.proofs.Fits.{fits_threads}
 use Rattle.law_threads.proofs.Requests.{all_are_steps}
 use Rattle.law_threads.proofs.planned_threads.Goals as goal

@@ -2,7 +2,7 @@ use Rattle.std.proofs.Common.{ap, ◌∙◌, sym}
 use Rattle.std.specs.List.{list_any}
 use Rattle.c_program.specs.Plain.{program_of}
 use Rattle.program_modules.specs.Numbers.{is_idle_object}
-use Rattle.program_modules.proofs.Counting.{idle_is}
+use Rattle.program_modules.proofs.ModuleCount.{idle_is}
 use Rattle.program_modules.proofs.has_idle.Goals as goal
 
 pub returns : goal.returns

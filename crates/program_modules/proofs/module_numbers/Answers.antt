@@ -3,7 +3,7 @@ use Rattle.std.specs.List.{flat_map}
 use Rattle.c_program.specs.declared.tree.ThreadObject.{ThreadObject}
 use Rattle.c_program.specs.Plain.{program_of}
 use Rattle.program_modules.specs.Numbers.{object_numbers}
-use Rattle.program_modules.proofs.Counting.{numbers_are}
+use Rattle.program_modules.proofs.ModuleCount.{numbers_are}
 use Rattle.program_modules.proofs.module_numbers.Goals as goal
 
 pub returns : goal.returns

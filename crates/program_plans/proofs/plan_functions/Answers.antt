@@ -4,8 +4,8 @@ use Rattle.c_program.specs.Plain.{program_of}
 use Rattle.block_ir.specs.declared.code.ThreadCode.{ThreadCode}
 use Rattle.fsm_plan.specs.Plans as parallel
 use Rattle.program_plans.specs.Steps.{AreCodes, AreZipped}
-use Rattle.program_plans.proofs.Following.{codes_count}
-use Rattle.program_plans.proofs.Planning.{plans_count, are_planned}
+use Rattle.program_plans.proofs.CodesInOrder.{codes_count}
+use Rattle.program_plans.proofs.PlansInOrder.{plans_count, are_planned}
 use Rattle.program_plans.proofs.plan_functions.Goals as goal
 
 pub planned-requires-clause-codes : goal.planned-requires-clause-codes

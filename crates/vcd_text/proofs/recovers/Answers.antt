@@ -1,4 +1,4 @@
-use Rattle.vcd_text.proofs.Recovering as recovering
+use Rattle.vcd_text.proofs.Recovered as recovering
 use Rattle.vcd_text.proofs.recovers.Goals as goal
 
 pub returns : goal.returns

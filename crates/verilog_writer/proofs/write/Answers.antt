@@ -1,7 +1,7 @@
 use Rattle.std.proofs.Common.{◌≡◌, ◌∙◌, ap}
 use Rattle.verilog_tree.specs.Grammar as g
 use Rattle.verilog_text.specs.Layout.{put_all, start}
-use Rattle.verilog_text.proofs.Laying.{written, written_reads}
+use Rattle.verilog_text.proofs.LaidTokens.{written, written_reads}
 use Rattle.verilog_writer.proofs.write.Goals as goal
 
 pub returns-clause-tokens : goal.returns-clause-tokens

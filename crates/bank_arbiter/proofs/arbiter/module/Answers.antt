@@ -3,8 +3,8 @@ use Rattle.circuit.specs.Interfaces.{IsTableModule}
 use Rattle.circuit.specs.Arbitration.{Arbitrates}
 use Rattle.circuit.proofs.Growth.{of_ok}
 use Rattle.bank_arbiter.specs.Arbiter.{places, inputs, input_widths, output_widths, never, IsArbiter}
-use Rattle.bank_arbiter.proofs.Granting.{arbiter_grants, arbiter_leaf}
-use Rattle.bank_arbiter.proofs.Standing.{arbiter_stands}
+use Rattle.bank_arbiter.proofs.FirstCandidate.{arbiter_grants, arbiter_leaf}
+use Rattle.bank_arbiter.proofs.ArbiterStands.{arbiter_stands}
 use Rattle.bank_arbiter.proofs.arbiter.module.Goals as goal
 
 pub returns : goal.returns

@@ -4,8 +4,8 @@ use Rattle.circuit.specs.Machines.{IsCore}
 use Rattle.circuit.proofs.Growth.{of_ok}
 use Rattle.bank_cores.specs.Bank.{IsBank}
 use Rattle.bank_cores.specs.Machine.{bank_machine, bank_places, inputs, input_widths, output_widths, is_late}
-use Rattle.bank_cores.proofs.Banking.{bank_core, bank_leaf}
-use Rattle.bank_cores.proofs.Standing.{bank_stands}
+use Rattle.bank_cores.proofs.BankTable.{bank_core, bank_leaf}
+use Rattle.bank_cores.proofs.BankStands.{bank_stands}
 use Rattle.bank_cores.proofs.bank.module.Goals as goal
 
 pub returns : goal.returns

@@ -2,8 +2,8 @@ use Rattle.std.proofs.Common.{◌≡◌, ◌+◌, ◌*◌, ◌<◌, arith}
 use Rattle.c_program.specs.Plain.{global_of}
 use Rattle.bank_partition.specs.Counts.{words_of}
 use Rattle.bank_partition.specs.Shapes.{first_value}
-use Rattle.bank_partition.proofs.Counting.{has_element}
-use Rattle.bank_partition.proofs.Growing.{value_pushed}
+use Rattle.bank_partition.proofs.BankCount.{has_element}
+use Rattle.bank_partition.proofs.OneBankMore.{value_pushed}
 use Rattle.bank_partition.proofs.banks.first_values.Goals as goal
 
 pub overflow_mul-address : goal.overflow_mul-address

@@ -5,7 +5,7 @@ use Rattle.bank_partition.specs.Counts.{bank_count}
 use Rattle.bank_partition.specs.Shapes.{count_of, banks_from, spreads_from}
 use Rattle.bank_partition.specs.declared.banks.Spread.{Spread}
 use Rattle.bank_partition.specs.Partition.{AreShort}
-use Rattle.bank_partition.proofs.Growing.{front, banks_pushed, spreads_pushed, short_pushed, partitioned}
+use Rattle.bank_partition.proofs.OneBankMore.{front, banks_pushed, spreads_pushed, short_pushed, partitioned}
 use Rattle.bank_partition.proofs.banks.partition.Goals as goal
 
 pub loop-variable-preserved : goal.loop-variable-preserved

@@ -1,6 +1,6 @@
 use Rattle.c_program.specs.Plain.{global_of}
 use Rattle.bank_partition.specs.Shapes.{bank_of}
-use Rattle.bank_partition.proofs.Growing.{bank_pushed}
+use Rattle.bank_partition.proofs.OneBankMore.{bank_pushed}
 use Rattle.bank_partition.proofs.banks.push_banks.Goals as goal
 
 pub loop-number-preserved : goal.loop-number-preserved

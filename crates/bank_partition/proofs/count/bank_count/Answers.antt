@@ -1,6 +1,6 @@
 use Rattle.std.proofs.Common.{◌≡◌, sym, subst, rules}
 use Rattle.bank_partition.specs.Counts.{bank_count, IsBankCount}
-use Rattle.bank_partition.proofs.Counting.{count_is}
+use Rattle.bank_partition.proofs.BankCount.{count_is}
 use Rattle.bank_partition.proofs.count.bank_count.Goals as goal
 
 pub returns-clause-law : goal.returns-clause-law

@@ -1,7 +1,7 @@
 use Rattle.std.proofs.Common.{◌≡◌, ◌+◌, ◌/◌, ◌%◌, nat_lt, true, false, sym, ap, ◌∙◌, arith}
 use Rattle.std.proofs.lemmas.Bool.Decides.{nat_tests}
 use Rattle.bank_partition.specs.Counts.{one_if}
-use Rattle.bank_partition.proofs.Counting.{words_are}
+use Rattle.bank_partition.proofs.BankCount.{words_are}
 use Rattle.bank_partition.proofs.count.words.Goals as goal
 
 pub returns-then-number-length : goal.returns-then-number-length

@@ -1,4 +1,4 @@
-use Rattle.barrier_cores.proofs.Waiting as waiting
+use Rattle.barrier_cores.proofs.WaitBits as waiting
 use Rattle.barrier_cores.proofs.law.barriers_wait.Goals as goal
 
 pub returns : goal.returns

@@ -1,7 +1,7 @@
 use Rattle.std.proofs.Common.{◌≡◌, ℕ, length, ap, subst, arith}
 use Rattle.block_datapath.specs.Accesses.{AsksFirst}
-use Rattle.block_datapath.proofs.Walking.{item_is}
-use Rattle.block_datapath.proofs.Accessing.{first_asked_none, first_asked_more, first_linked_none, first_linked_more}
+use Rattle.block_datapath.proofs.OperationValues.{item_is}
+use Rattle.block_datapath.proofs.AskedByAccesses.{first_asked_none, first_asked_more, first_linked_none, first_linked_more}
 use Rattle.block_datapath.proofs.accesses.ask_all.Goals as goal
 
 pub loop-number-preserved : goal.loop-number-preserved

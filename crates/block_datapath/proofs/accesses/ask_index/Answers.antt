@@ -5,7 +5,7 @@ use Rattle.thread_promise.specs.Types.{operand_type}
 use Rattle.block_datapath.specs.declared.requests.BankAccess.{BankAccess}
 use Rattle.block_datapath.specs.Seen.{ShowsOperand}
 use Rattle.block_datapath.specs.Wired.{IsSourced}
-use Rattle.block_datapath.proofs.Accessing.{index_asked, index_linked}
+use Rattle.block_datapath.proofs.AskedByAccesses.{index_asked, index_linked}
 use Rattle.block_datapath.proofs.accesses.ask_index.Goals as goal
 
 pub returns-clause-shows : goal.returns-clause-shows

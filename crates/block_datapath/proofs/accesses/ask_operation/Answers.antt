@@ -2,7 +2,7 @@ use Rattle.std.proofs.Common.{refl, sym, subst}
 use Rattle.std.proofs.lemmas.Result.{on_ok_weaker}
 use Rattle.block_ir.specs.declared.block.Operation.{Operation}
 use Rattle.block_datapath.specs.Accesses.{AsksOperation}
-use Rattle.block_datapath.proofs.Accessing.{others_asked, silent_linked}
+use Rattle.block_datapath.proofs.AskedByAccesses.{others_asked, silent_linked}
 use Rattle.block_datapath.proofs.accesses.ask_operation.Goals as goal
 
 pub returns-in-ReadGlobal-clause-shows : goal.returns-in-ReadGlobal-clause-shows

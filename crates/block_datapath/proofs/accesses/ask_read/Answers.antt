@@ -1,5 +1,5 @@
 use Rattle.std.proofs.lemmas.Result.{on_ok_weaker}
-use Rattle.block_datapath.proofs.Accessing.{read_asked, read_linked}
+use Rattle.block_datapath.proofs.AskedByAccesses.{read_asked, read_linked}
 use Rattle.block_datapath.proofs.accesses.ask_read.Goals as goal
 
 pub returns-clause-shows : goal.returns-clause-shows

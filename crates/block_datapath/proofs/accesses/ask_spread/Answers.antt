@@ -2,7 +2,7 @@ use Rattle.std.proofs.Common.{Option, refl, sym, subst}
 use Rattle.std.specs.Prelude.{OnOk}
 use Rattle.bank_partition.specs.declared.banks.Spread.{Spread}
 use Rattle.block_datapath.specs.Accesses.{AsksIndex, AreIndexLinks}
-use Rattle.block_datapath.proofs.Accessing.{none_asked, none_linked}
+use Rattle.block_datapath.proofs.AskedByAccesses.{none_asked, none_linked}
 use Rattle.block_datapath.proofs.accesses.ask_spread.Goals as goal
 
 pub returns-in-Some-clause-shows : goal.returns-in-Some-clause-shows

@@ -4,7 +4,7 @@ use Rattle.hls_ints.specs.Types.{IntegerType}
 use Rattle.thread_promise.specs.Types.{operand_type}
 use Rattle.block_datapath.specs.Seen.{ShowsOperand}
 use Rattle.block_datapath.specs.Wired.{IsSourced}
-use Rattle.block_datapath.proofs.Accessing.{write_asked, write_linked}
+use Rattle.block_datapath.proofs.AskedByAccesses.{write_asked, write_linked}
 use Rattle.block_datapath.proofs.accesses.ask_write.Goals as goal
 
 pub returns-clause-shows : goal.returns-clause-shows

@@ -1,6 +1,6 @@
 use Rattle.std.proofs.Common.{arith}
 use Rattle.block_datapath.specs.declared.operands.Given.{Given}
-use Rattle.block_datapath.proofs.Accessing.{registered_one, zero_wired}
+use Rattle.block_datapath.proofs.AskedByAccesses.{registered_one, zero_wired}
 use Rattle.block_datapath.proofs.accesses.registered_value.Goals as goal
 
 pub returns-clause-value : goal.returns-clause-value

@@ -1,8 +1,8 @@
 use Rattle.std.proofs.Common.{◌+◌, ◌∙◌, List, sym, subst}
 use Rattle.block_datapath.specs.declared.operands.Given.{Given}
 use Rattle.block_datapath.specs.Accesses.{AreRegistered, AreZeros}
-use Rattle.block_datapath.proofs.Walking.{item_is}
-use Rattle.block_datapath.proofs.Accessing.{registered_none, registered_more, zeros_none, zeros_more}
+use Rattle.block_datapath.proofs.OperationValues.{item_is}
+use Rattle.block_datapath.proofs.AskedByAccesses.{registered_none, registered_more, zeros_none, zeros_more}
 use Rattle.block_datapath.proofs.accesses.registered_values.Goals as goal
 
 pub loop-operation-preserved : goal.loop-operation-preserved

@@ -1,6 +1,6 @@
 use Rattle.block_datapath.specs.Wired.{IsSourced}
-use Rattle.block_datapath.proofs.Leaving.{branch_shown}
-use Rattle.block_datapath.proofs.Linking.{branch_wired}
+use Rattle.block_datapath.proofs.BlockEnd.{branch_shown}
+use Rattle.block_datapath.proofs.LinkWires.{branch_wired}
 use Rattle.std.proofs.Common.{List, subst}
 use Rattle.hls_ints.specs.Types.{IntegerType}
 use Rattle.thread_promise.specs.Types.{operand_type}

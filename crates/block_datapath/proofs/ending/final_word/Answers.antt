@@ -1,7 +1,7 @@
 use Rattle.std.proofs.Common.{List, refl, subst}
 use Rattle.block_datapath.specs.Wired.{IsSourced, IsOwnAdded}
-use Rattle.block_datapath.proofs.Leaving.{final_made}
-use Rattle.block_datapath.proofs.Linking.{final_wired}
+use Rattle.block_datapath.proofs.BlockEnd.{final_made}
+use Rattle.block_datapath.proofs.LinkWires.{final_wired}
 use Rattle.hls_ints.specs.Types.{IntegerType}
 use Rattle.thread_promise.specs.Types.{operand_type}
 use Rattle.block_datapath.proofs.ending.final_word.Goals as goal

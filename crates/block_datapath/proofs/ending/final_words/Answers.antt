@@ -2,9 +2,9 @@ use Rattle.std.proofs.Common.{List, refl, sym, subst}
 use Rattle.block_datapath.specs.declared.ending.Finish.{Finish}
 use Rattle.block_datapath.specs.Ending.{ShowsFinals}
 use Rattle.block_datapath.specs.Wired.{AreFinishesAdded}
-use Rattle.block_datapath.proofs.Leaving.{finals_none, finals_more}
-use Rattle.block_datapath.proofs.Walking.{item_is}
-use Rattle.block_datapath.proofs.Linking.{finishes_none, finishes_more}
+use Rattle.block_datapath.proofs.BlockEnd.{finals_none, finals_more}
+use Rattle.block_datapath.proofs.OperationValues.{item_is}
+use Rattle.block_datapath.proofs.LinkWires.{finishes_none, finishes_more}
 use Rattle.block_datapath.proofs.ending.final_words.Goals as goal
 
 pub loop-finish-preserved : goal.loop-finish-preserved

@@ -1,6 +1,6 @@
 use Rattle.std.proofs.Common.{sym, ◌∙◌}
-use Rattle.block_datapath.proofs.Leaving.{own_answer}
-use Rattle.block_datapath.proofs.Linking.{own_converted, own_missing}
+use Rattle.block_datapath.proofs.BlockEnd.{own_answer}
+use Rattle.block_datapath.proofs.LinkWires.{own_converted, own_missing}
 use Rattle.block_datapath.proofs.ending.own_word.Goals as goal
 
 pub returns-in-Some-clause-shows : goal.returns-in-Some-clause-shows

@@ -1,6 +1,6 @@
 use Rattle.std.proofs.lemmas.Option.{slice_get-get_or}
-use Rattle.block_datapath.proofs.Leaving.{sets_none, sets_more}
-use Rattle.block_datapath.proofs.Linking.{sets_nothing, sets_one_more}
+use Rattle.block_datapath.proofs.BlockEnd.{sets_none, sets_more}
+use Rattle.block_datapath.proofs.LinkWires.{sets_nothing, sets_one_more}
 use Rattle.block_datapath.proofs.ending.set_finals.Goals as goal
 
 pub loop-finish-preserved : goal.loop-finish-preserved

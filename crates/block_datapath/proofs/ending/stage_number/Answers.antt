@@ -1,5 +1,5 @@
 use Rattle.std.proofs.Common.{◌≤◌, length, rules}
-use Rattle.block_datapath.proofs.Linking.{number_wired}
+use Rattle.block_datapath.proofs.LinkWires.{number_wired}
 use Rattle.block_datapath.proofs.ending.stage_number.Goals as goal
 
 pub returns-clause-wired : goal.returns-clause-wired

@@ -1,4 +1,4 @@
-use Rattle.block_datapath.proofs.Linking.{jump_wired}
+use Rattle.block_datapath.proofs.LinkWires.{jump_wired}
 use Rattle.block_datapath.proofs.ending.target.Goals as goal
 
 pub returns-in-Jump-clause-wired : goal.returns-in-Jump-clause-wired

@@ -1,5 +1,5 @@
 use Rattle.block_datapath.specs.Wired.{GivenStands}
-use Rattle.block_datapath.proofs.Linking.{keeps_nothing}
+use Rattle.block_datapath.proofs.LinkWires.{keeps_nothing}
 use Rattle.block_datapath.proofs.keeping.keep.Goals as goal
 
 pub returns-in-None-clause-wired : goal.returns-in-None-clause-wired

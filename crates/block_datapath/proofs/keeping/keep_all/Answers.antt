@@ -2,8 +2,8 @@ use Rattle.std.proofs.Common.{◌≡◌, ℕ, length, subst, arith}
 use Rattle.std.proofs.lemmas.Option.{slice_get-get_or}
 use Rattle.block_datapath.specs.Chains.{KeepsFirst}
 use Rattle.block_datapath.specs.Wired.{ValuesStand}
-use Rattle.block_datapath.proofs.Chaining.{keeps_none, keeps_more}
-use Rattle.block_datapath.proofs.Linking.{keeps_nothing, keeps_one_more}
+use Rattle.block_datapath.proofs.ConditionalChains.{keeps_none, keeps_more}
+use Rattle.block_datapath.proofs.LinkWires.{keeps_nothing, keeps_one_more}
 use Rattle.block_datapath.proofs.keeping.keep_all.Goals as goal
 
 pub loop-given-preserved : goal.loop-given-preserved

@@ -1,7 +1,7 @@
 use Rattle.std.proofs.Common.{◌≡◌, slice_get, None}
 use Rattle.block_datapath.specs.Wired.{GivenStands}
-use Rattle.block_datapath.proofs.Chaining.{keep_missing}
-use Rattle.block_datapath.proofs.Linking.{keeps_nothing}
+use Rattle.block_datapath.proofs.ConditionalChains.{keep_missing}
+use Rattle.block_datapath.proofs.LinkWires.{keeps_nothing}
 use Rattle.block_datapath.proofs.keeping.keep_at.Goals as goal
 
 pub returns-in-None-clause-shows : goal.returns-in-None-clause-shows

@@ -1,8 +1,8 @@
 use Rattle.std.proofs.Common.{refl}
 use Rattle.std.proofs.lemmas.Result.{on_ok_weaker}
 use Rattle.block_datapath.specs.declared.states.Moment.{Moment}
-use Rattle.block_datapath.proofs.Chaining.{keep_linked}
-use Rattle.block_datapath.proofs.Linking.{keep_wired}
+use Rattle.block_datapath.proofs.ConditionalChains.{keep_linked}
+use Rattle.block_datapath.proofs.LinkWires.{keep_wired}
 use Rattle.block_datapath.proofs.keeping.keep_in.Goals as goal
 
 pub returns-clause-shows : goal.returns-clause-shows

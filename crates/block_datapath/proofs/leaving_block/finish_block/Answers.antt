@@ -1,7 +1,7 @@
 use Rattle.std.proofs.Common.{refl}
 use Rattle.block_datapath.specs.Wired.{AreFinishesAdded, IsTarget, SetsLinks}
 use Rattle.block_datapath.proofs.Ends.{block_left_by}
-use Rattle.block_datapath.proofs.Linking.{block_wired}
+use Rattle.block_datapath.proofs.LinkWires.{block_wired}
 use Rattle.std.proofs.Common.{List, subst}
 use Rattle.block_datapath.specs.declared.operands.Given.{Given}
 use Rattle.block_datapath.specs.declared.ending.Finish.{Finish}

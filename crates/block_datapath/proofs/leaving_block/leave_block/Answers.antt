@@ -1,5 +1,5 @@
 use Rattle.block_datapath.proofs.Kept.{block_leaves}
-use Rattle.block_datapath.proofs.Linking.{kept_block_wired}
+use Rattle.block_datapath.proofs.LinkWires.{kept_block_wired}
 use Rattle.block_datapath.proofs.leaving_block.leave_block.Goals as goal
 
 pub returns-clause-shows : goal.returns-clause-shows

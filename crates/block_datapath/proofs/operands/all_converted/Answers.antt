@@ -3,8 +3,8 @@ use Rattle.std.proofs.lemmas.List.{take_more, take_all}
 use Rattle.hls_ints.specs.Types.{IntegerType}
 use Rattle.block_datapath.specs.Seen.{Converts}
 use Rattle.block_datapath.specs.Wired.{AreConverted}
-use Rattle.block_datapath.proofs.Seeing.{converts_none, converts_more}
-use Rattle.block_datapath.proofs.Wiring.{converted_none, converted_more}
+use Rattle.block_datapath.proofs.OperandWords.{converts_none, converts_more}
+use Rattle.block_datapath.proofs.BlockWires.{converted_none, converted_more}
 use Rattle.block_datapath.proofs.operands.all_converted.Goals as goal
 
 pub loop-ty-preserved : goal.loop-ty-preserved

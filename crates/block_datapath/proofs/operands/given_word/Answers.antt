@@ -1,4 +1,4 @@
-use Rattle.block_datapath.proofs.Wiring.{given_own}
+use Rattle.block_datapath.proofs.BlockWires.{given_own}
 use Rattle.block_datapath.proofs.operands.given_word.Goals as goal
 
 pub returns-then-given-state-clause-wired : goal.returns-then-given-state-clause-wired

@@ -1,6 +1,6 @@
 use Rattle.std.proofs.lemmas.Grind.{common_steps}
 use Rattle.std.proofs.Common.{sym, ◌∙◌, arith}
-use Rattle.block_datapath.proofs.Wiring.{kept_wired, zero_wired}
+use Rattle.block_datapath.proofs.BlockWires.{kept_wired, zero_wired}
 use Rattle.block_datapath.proofs.operands.kept_word.Goals as goal
 
 pub returns-in-Some-clause-wired : goal.returns-in-Some-clause-wired

@@ -1,5 +1,5 @@
 use Rattle.std.proofs.Common.{refl}
-use Rattle.block_datapath.proofs.Wiring.{narrow_wired}
+use Rattle.block_datapath.proofs.BlockWires.{narrow_wired}
 use Rattle.block_datapath.proofs.operands.narrowed.Goals as goal
 
 pub returns-clause-wired : goal.returns-clause-wired

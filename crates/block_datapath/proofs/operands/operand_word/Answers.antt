@@ -3,8 +3,8 @@ use Rattle.std.specs.Prelude.{IfOk}
 use Rattle.hls_ints.specs.Types.{IntegerType}
 use Rattle.block_datapath.specs.Seen.{Converts}
 use Rattle.block_datapath.specs.Wired.{AreConverted}
-use Rattle.block_datapath.proofs.Seeing.{operand_shown}
-use Rattle.block_datapath.proofs.Wiring.{operand_wired}
+use Rattle.block_datapath.proofs.OperandWords.{operand_shown}
+use Rattle.block_datapath.proofs.BlockWires.{operand_wired}
 use Rattle.block_datapath.proofs.operands.operand_word.Goals as goal
 
 pub returns-clause-shows : goal.returns-clause-shows

@@ -1,8 +1,8 @@
 use Rattle.std.proofs.Common.{to_z, of_z}
 use mir.Syntax.{w128}
 use Rattle.std.proofs.lemmas.Int.{to_z-of_z}
-use Rattle.block_datapath.proofs.Seeing.{constant_source, fits_typed}
-use Rattle.block_datapath.proofs.Wiring.{constant_sourced, variable_sourced, value_sourced}
+use Rattle.block_datapath.proofs.OperandWords.{constant_source, fits_typed}
+use Rattle.block_datapath.proofs.BlockWires.{constant_sourced, variable_sourced, value_sourced}
 use Rattle.block_ir.specs.declared.operand.Source.TheVariants.{Constant, Variable, Value}
 use Rattle.block_datapath.proofs.operands.source_word.Goals as goal
 

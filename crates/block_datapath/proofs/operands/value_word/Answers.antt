@@ -1,6 +1,6 @@
 use Rattle.std.proofs.Common.{◌∙◌, sym}
-use Rattle.block_datapath.proofs.Seeing.{value_shown}
-use Rattle.block_datapath.proofs.Wiring.{value_wired, missing_value}
+use Rattle.block_datapath.proofs.OperandWords.{value_shown}
+use Rattle.block_datapath.proofs.BlockWires.{value_wired, missing_value}
 use Rattle.block_datapath.proofs.operands.value_word.Goals as goal
 
 pub returns-clause-shows : goal.returns-clause-shows

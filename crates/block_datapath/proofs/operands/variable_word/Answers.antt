@@ -1,6 +1,6 @@
 use Rattle.std.proofs.Common.{◌≡◌, ◌∙◌, sym, slice_get, Some}
-use Rattle.block_datapath.proofs.Seeing.{variable_shown}
-use Rattle.block_datapath.proofs.Wiring.{variable_wired, missing_variable}
+use Rattle.block_datapath.proofs.OperandWords.{variable_shown}
+use Rattle.block_datapath.proofs.BlockWires.{variable_wired, missing_variable}
 use Rattle.block_datapath.proofs.operands.variable_word.Goals as goal
 
 pub returns-clause-shows : goal.returns-clause-shows

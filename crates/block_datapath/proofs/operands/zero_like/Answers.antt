@@ -1,5 +1,5 @@
 use Rattle.std.proofs.Common.{refl}
-use Rattle.block_datapath.proofs.Wiring.{zero_like_wired}
+use Rattle.block_datapath.proofs.BlockWires.{zero_like_wired}
 use Rattle.block_datapath.proofs.operands.zero_like.Goals as goal
 
 pub returns-clause-wired : goal.returns-clause-wired

@@ -1,6 +1,6 @@
 use Rattle.std.proofs.Common.{◌<◌, ◌^◌, arith}
-use Rattle.block_datapath.proofs.Working.{address_kept, address_widened}
-use Rattle.block_datapath.proofs.Wiring.{address_own, address_resized}
+use Rattle.block_datapath.proofs.OperationWords.{address_kept, address_widened}
+use Rattle.block_datapath.proofs.BlockWires.{address_own, address_resized}
 use Rattle.block_datapath.proofs.operations.address.Goals as goal
 
 pub returns-then-is_wide_enough-clause-shows : goal.returns-then-is_wide_enough-clause-shows

@@ -2,9 +2,9 @@ use Rattle.std.proofs.Common.{◌+◌, ◌∙◌, List, sym, subst}
 use Rattle.block_datapath.specs.declared.operands.Given.{Given}
 use Rattle.block_datapath.specs.Operations.{ShowsFirst}
 use Rattle.block_datapath.specs.Wired.{AreGiven, IsOperationWord}
-use Rattle.block_datapath.proofs.Walking.{first_none, first_more, next_same, item_is}
+use Rattle.block_datapath.proofs.OperationValues.{first_none, first_more, next_same, item_is}
 use Rattle.thread_promise.specs.Types.{value_type}
-use Rattle.block_datapath.proofs.Wiring.{given_none, given_more}
+use Rattle.block_datapath.proofs.BlockWires.{given_none, given_more}
 use Rattle.block_datapath.proofs.operations.all_values.Goals as goal
 
 pub loop-operation-preserved : goal.loop-operation-preserved

@@ -2,8 +2,8 @@ use Rattle.std.proofs.Common.{List, subst}
 use Rattle.hls_ints.specs.Types.{IntegerType}
 use Rattle.block_datapath.specs.Seen.{ShowsOperand}
 use Rattle.block_datapath.specs.Wired.{IsSourced}
-use Rattle.block_datapath.proofs.Working.{binary_given}
-use Rattle.block_datapath.proofs.Wiring.{binary_wired}
+use Rattle.block_datapath.proofs.OperationWords.{binary_given}
+use Rattle.block_datapath.proofs.BlockWires.{binary_wired}
 use Rattle.operator_wires.specs.Shown.{binary_result}
 use Rattle.thread_promise.specs.Types.{operand_type}
 use Rattle.block_datapath.proofs.operations.binary_value.Goals as goal

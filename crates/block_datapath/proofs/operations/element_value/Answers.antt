@@ -2,8 +2,8 @@ use Rattle.std.proofs.Common.{List, subst}
 use Rattle.hls_ints.specs.Types.{IntegerType}
 use Rattle.block_datapath.specs.Seen.{ShowsOperand}
 use Rattle.block_datapath.specs.Wired.{IsSourced}
-use Rattle.block_datapath.proofs.Working.{element_given}
-use Rattle.block_datapath.proofs.Wiring.{element_wired}
+use Rattle.block_datapath.proofs.OperationWords.{element_given}
+use Rattle.block_datapath.proofs.BlockWires.{element_wired}
 use Rattle.thread_promise.specs.Types.{operand_type}
 use Rattle.block_datapath.proofs.operations.element_value.Goals as goal
 

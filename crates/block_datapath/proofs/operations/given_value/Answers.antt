@@ -1,6 +1,6 @@
 use Rattle.std.proofs.Common.{◌∙◌, ap, arith}
-use Rattle.block_datapath.proofs.Working.{operation_kept}
-use Rattle.block_datapath.proofs.Wiring.{given_wired}
+use Rattle.block_datapath.proofs.OperationWords.{operation_kept}
+use Rattle.block_datapath.proofs.BlockWires.{given_wired}
 use Rattle.hls_ints.specs.Types.{IntegerType, width_of}
 use Rattle.thread_promise.specs.Types.{value_type}
 use Rattle.block_datapath.proofs.operations.given_value.Goals as goal

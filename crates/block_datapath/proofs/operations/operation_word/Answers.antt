@@ -1,8 +1,8 @@
 use Rattle.std.proofs.Common.{refl, sym, ap, slice_get}
 use Rattle.block_ir.specs.declared.block.Operation.TheVariants.{Unary, Binary, ReadGlobal, WriteGlobal, ReadArray, WriteArray}
 use Rattle.thread_promise.specs.Types.{value_type, or_int, element_type}
-use Rattle.block_datapath.proofs.Working.{of_start, of_shared, of_end, of_read, zero_given}
-use Rattle.block_datapath.proofs.Wiring.{operation_wired, read_wired, constant_wired}
+use Rattle.block_datapath.proofs.OperationWords.{of_start, of_shared, of_end, of_read, zero_given}
+use Rattle.block_datapath.proofs.BlockWires.{operation_wired, read_wired, constant_wired}
 use Rattle.operator_wires.specs.Shown.{truth_type, unary_result, binary_result}
 use Rattle.block_datapath.proofs.operations.operation_word.Goals as goal
 

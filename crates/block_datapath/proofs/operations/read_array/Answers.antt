@@ -1,6 +1,6 @@
 use Rattle.std.proofs.Common.{◌≡◌, ◌∙◌, slice_get, Some, None}
-use Rattle.block_datapath.proofs.Working.{array_read}
-use Rattle.block_datapath.proofs.Wiring.{no_element, element_read}
+use Rattle.block_datapath.proofs.OperationWords.{array_read}
+use Rattle.block_datapath.proofs.BlockWires.{no_element, element_read}
 use Rattle.block_datapath.proofs.operations.read_array.Goals as goal
 
 pub returns-clause-shows : goal.returns-clause-shows

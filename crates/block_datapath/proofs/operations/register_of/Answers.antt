@@ -1,6 +1,6 @@
 use Rattle.std.proofs.Common.{ap, ◌∙◌}
 use Rattle.std.specs.Option.{option_flatten}
-use Rattle.block_datapath.proofs.Working.{register_flat}
+use Rattle.block_datapath.proofs.OperationWords.{register_flat}
 use Rattle.block_datapath.proofs.operations.register_of.Goals as goal
 
 pub returns : goal.returns

@@ -1,8 +1,8 @@
 use Rattle.std.proofs.Common.{◌≡◌, Some, None}
 use Rattle.block_datapath.specs.Units.{shared_place}
-use Rattle.block_datapath.proofs.Working.{shared_given, on_unit}
-use Rattle.block_datapath.proofs.Wiring.{unit_wired}
-use Rattle.block_datapath.proofs.Sharing.{shared_at}
+use Rattle.block_datapath.proofs.OperationWords.{shared_given, on_unit}
+use Rattle.block_datapath.proofs.BlockWires.{unit_wired}
+use Rattle.block_datapath.proofs.SharedResults.{shared_at}
 use Rattle.block_datapath.proofs.operations.shared_value.Goals as goal
 
 pub returns-in-Some-clause-shows : goal.returns-in-Some-clause-shows

@@ -2,8 +2,8 @@ use Rattle.std.proofs.Common.{List, subst}
 use Rattle.hls_ints.specs.Types.{IntegerType}
 use Rattle.block_datapath.specs.Seen.{ShowsOperand}
 use Rattle.block_datapath.specs.Wired.{IsSourced}
-use Rattle.block_datapath.proofs.Working.{unary_given}
-use Rattle.block_datapath.proofs.Wiring.{unary_wired}
+use Rattle.block_datapath.proofs.OperationWords.{unary_given}
+use Rattle.block_datapath.proofs.BlockWires.{unary_wired}
 use Rattle.operator_wires.specs.Shown.{unary_result}
 use Rattle.thread_promise.specs.Types.{operand_type}
 use Rattle.block_datapath.proofs.operations.unary_value.Goals as goal

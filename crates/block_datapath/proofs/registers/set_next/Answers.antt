@@ -1,7 +1,7 @@
 use Rattle.std.proofs.Common.{◌≡◌, slice_get, Some, None}
 use Rattle.std.proofs.lemmas.Option.{slice_get_within}
-use Rattle.block_datapath.proofs.Chaining.{set_none}
-use Rattle.block_datapath.proofs.Linking.{link_none, link_set}
+use Rattle.block_datapath.proofs.ConditionalChains.{set_none}
+use Rattle.block_datapath.proofs.LinkWires.{link_none, link_set}
 use Rattle.block_datapath.proofs.registers.set_next.Goals as goal
 
 pub returns-in_default-clause-shows : goal.returns-in_default-clause-shows

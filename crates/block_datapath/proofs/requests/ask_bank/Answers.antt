@@ -1,5 +1,5 @@
 use Rattle.std.proofs.Common.{◌≡◌, ◌<◌, arith}
-use Rattle.block_datapath.proofs.Requesting.{some_none, some_more, some_all, asks_none_wired, asks_more_wired}
+use Rattle.block_datapath.proofs.BankRequests.{some_none, some_more, some_all, asks_none_wired, asks_more_wired}
 use Rattle.block_datapath.proofs.requests.ask_bank.Goals as goal
 
 pub loop-number-preserved : goal.loop-number-preserved

@@ -2,7 +2,7 @@ use Rattle.std.proofs.lemmas.Result.{on_ok_weaker}
 use Rattle.block_datapath.specs.declared.requests.BankRequests.{BankRequests}
 use Rattle.block_datapath.specs.Chains.{SetsNext}
 use Rattle.block_datapath.specs.Wired.{IsLinked}
-use Rattle.block_datapath.proofs.Requesting.{one_asked, one_wired}
+use Rattle.block_datapath.proofs.BankRequests.{one_asked, one_wired}
 use Rattle.block_datapath.proofs.requests.ask_one.Goals as goal
 
 pub returns-clause-shows : goal.returns-clause-shows

@@ -1,5 +1,5 @@
 use Rattle.std.proofs.Common.{arith}
-use Rattle.block_datapath.proofs.Requesting.{whole_wired, bank_addressed, address_wired}
+use Rattle.block_datapath.proofs.BankRequests.{whole_wired, bank_addressed, address_wired}
 use Rattle.block_datapath.proofs.requests.bank_address.Goals as goal
 
 pub returns-then-bits-eq0-clause-wired : goal.returns-then-bits-eq0-clause-wired

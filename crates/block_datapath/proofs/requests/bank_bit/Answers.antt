@@ -1,5 +1,5 @@
 use Rattle.std.proofs.Common.{arith}
-use Rattle.block_datapath.proofs.Requesting.{bank_told, told_wired}
+use Rattle.block_datapath.proofs.BankRequests.{bank_told, told_wired}
 use Rattle.block_datapath.proofs.requests.bank_bit.Goals as goal
 
 pub returns-in_ok-last-clause-shows : goal.returns-in_ok-last-clause-shows

@@ -2,7 +2,7 @@ use Rattle.std.proofs.Common.{◌≡◌, ℕ, length, ap, subst, ◌∙◌, arit
 use Rattle.std.specs.Prelude.{slice_get}
 use Rattle.std.proofs.lemmas.Option.{slice_get-get_or}
 use Rattle.block_datapath.specs.Requests.{ShowsZeros}
-use Rattle.block_datapath.proofs.Zeroing.{zeros_none, zeros_more, first_none, first_more, first_all}
+use Rattle.block_datapath.proofs.ZeroChains.{zeros_none, zeros_more, first_none, first_more, first_all}
 use Rattle.block_datapath.proofs.requests.zeros.Goals as goal
 
 pub loop-width-preserved : goal.loop-width-preserved

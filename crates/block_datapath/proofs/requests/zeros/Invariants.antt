@@ -1,5 +1,5 @@
 use Rattle.block_datapath.specs.Requests.{ShowsZeros}
-use Rattle.block_datapath.proofs.Zeroing.{AreFirstZeros}
+use Rattle.block_datapath.proofs.ZeroChains.{AreFirstZeros}
 use Rattle.block_datapath.proofs.requests.zeros.Given as goal
 
 abbrev pub invariant-loop-width : goal.invariant-loop-width

@@ -1,4 +1,4 @@
-use Rattle.block_datapath.proofs.Chaining.{stage_answer}
+use Rattle.block_datapath.proofs.ConditionalChains.{stage_answer}
 use Rattle.block_datapath.proofs.states.at_stage.Goals as goal
 
 pub returns-clause-shows : goal.returns-clause-shows

@@ -1,5 +1,5 @@
-use Rattle.block_datapath.proofs.Chaining.{state_single, state_answer}
-use Rattle.block_datapath.proofs.Linking.{single_state, known_state, state_wired, unknown_state}
+use Rattle.block_datapath.proofs.ConditionalChains.{state_single, state_answer}
+use Rattle.block_datapath.proofs.LinkWires.{single_state, known_state, state_wired, unknown_state}
 use Rattle.block_datapath.proofs.states.in_state.Goals as goal
 
 pub returns-then-moment-le1-clause-shows : goal.returns-then-moment-le1-clause-shows

@@ -1,4 +1,4 @@
-use Rattle.block_datapath.proofs.Working.{others_at_once}
+use Rattle.block_datapath.proofs.OperationWords.{others_at_once}
 use Rattle.block_datapath.proofs.timing.further_states.Goals as goal
 
 pub returns-in_default-clause-value : goal.returns-in_default-clause-value

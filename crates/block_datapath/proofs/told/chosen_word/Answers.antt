@@ -1,5 +1,5 @@
 use Rattle.std.proofs.Common.{◌<◌, arith}
-use Rattle.block_datapath.proofs.Telling.{choice_first, choice_more, choice_all, choice_begun, choice_wired, some_count}
+use Rattle.block_datapath.proofs.ToldWords.{choice_first, choice_more, choice_all, choice_begun, choice_wired, some_count}
 use Rattle.block_datapath.proofs.told.chosen_word.Goals as goal
 
 pub loop-number-preserved : goal.loop-number-preserved

@@ -3,7 +3,7 @@ use Rattle.hls_ints.specs.Types.{IntegerType}
 use Rattle.thread_promise.specs.Types.{operand_type}
 use Rattle.block_datapath.specs.Seen.{ShowsOperand}
 use Rattle.block_datapath.specs.Wired.{IsSourced}
-use Rattle.block_datapath.proofs.Telling.{word_taken, word_wired}
+use Rattle.block_datapath.proofs.ToldWords.{word_taken, word_wired}
 use Rattle.block_datapath.proofs.told.spread_value.Goals as goal
 
 pub returns-clause-shows : goal.returns-clause-shows

@@ -2,8 +2,8 @@ use Rattle.std.proofs.Common.{◌≡◌, Some, None, slice_get, subst}
 use Rattle.std.specs.Prelude.{IfOk}
 use Rattle.hls_ints.specs.Types.{IntegerType}
 use Rattle.block_datapath.specs.Wired.{IsOperationWord}
-use Rattle.block_datapath.proofs.Telling.{read_told, read_missing}
-use Rattle.block_datapath.proofs.Wiring.{missing_read}
+use Rattle.block_datapath.proofs.ToldWords.{read_told, read_missing}
+use Rattle.block_datapath.proofs.BlockWires.{missing_read}
 use Rattle.block_datapath.proofs.told.told_value.Goals as goal
 
 pub returns-in-Some-clause-shows : goal.returns-in-Some-clause-shows

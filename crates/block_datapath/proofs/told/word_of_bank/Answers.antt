@@ -1,5 +1,5 @@
 use Rattle.std.proofs.Common.{◌≡◌, Some, None, slice_get}
-use Rattle.block_datapath.proofs.Telling.{number_told, number_missing, number_wired, missing_wired}
+use Rattle.block_datapath.proofs.ToldWords.{number_told, number_missing, number_wired, missing_wired}
 use Rattle.block_datapath.proofs.told.word_of_bank.Goals as goal
 
 pub returns-in-Some-clause-shows : goal.returns-in-Some-clause-shows

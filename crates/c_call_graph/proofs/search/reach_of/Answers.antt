@@ -1,7 +1,7 @@
 use Rattle.std.proofs.Common.{◌≡◌, arith}
 use Rattle.std.proofs.lemmas.Grind.{common_steps}
 use Rattle.c_call_graph.specs.Graphs.{all_marks, table}
-use Rattle.c_call_graph.proofs.Searching.{of_marks}
+use Rattle.c_call_graph.proofs.SearchResult.{of_marks}
 use Rattle.c_call_graph.proofs.search.reach_of.Goals as goal
 
 pub returns : goal.returns

@@ -1,7 +1,7 @@
 use Rattle.std.proofs.Common.{arith}
 use Rattle.std.proofs.lemmas.Result.{IfOk-weaker}
 use Rattle.c_evaluation.specs.View.{loop_of, work_of}
-use Rattle.c_evaluation.proofs.Settling.{settled_next}
+use Rattle.c_evaluation.proofs.SettledOrder.{settled_next}
 use Rattle.c_evaluation.proofs.work.turn.Goals as goal
 
 pub returns-in-Some-clause-same : goal.returns-in-Some-clause-same

@@ -2,7 +2,7 @@ use Rattle.std.proofs.Common.{arith}
 use Rattle.std.proofs.lemmas.Result.{IfOk-weaker}
 use Rattle.c_program.specs.Plain.{condition_of, statement_of}
 use Rattle.c_evaluation.specs.View.{work_of}
-use Rattle.c_evaluation.proofs.Settling.{settled_sequence, settled_do_while, settled_for}
+use Rattle.c_evaluation.proofs.SettledOrder.{settled_sequence, settled_do_while, settled_for}
 use Rattle.c_evaluation.proofs.work.unfold.Goals as goal
 
 pub returns-in-Sequence-clause-same : goal.returns-in-Sequence-clause-same

@@ -1,7 +1,7 @@
 use Rattle.std.proofs.Common.{add-one, ap, sym, refl}
 use Rattle.c_program.specs.Plain.{program_of}
 use Rattle.c_state.specs.View.{state_of}
-use Rattle.c_interpreter.proofs.Walking.{takes_more}
+use Rattle.c_interpreter.proofs.LongerWalks.{takes_more}
 use Rattle.c_interpreter.proofs.walk.take_step.Goals as goal
 
 pub returns-then-s : goal.returns-then-s

@@ -6,7 +6,7 @@ use Rattle.turns.specs.Turns.{threads_of}
 use Rattle.thread_semantics.specs.State.{State}
 use Rattle.c_state.specs.View.{state_of}
 use Rattle.c_interpreter.specs.Walk.{IsAt, Lists}
-use Rattle.c_interpreter.proofs.Walking.{start_at, lists_at, threads_more}
+use Rattle.c_interpreter.proofs.LongerWalks.{start_at, lists_at, threads_more}
 use Rattle.c_interpreter.proofs.walk.walk.Goals as goal
 
 pub loop-turn-init : goal.loop-turn-init

@@ -1,7 +1,7 @@
 use Rattle.std.proofs.Common.{sym, ◌∙◌}
 use Rattle.c_program.specs.Plain.{program_of}
-use Rattle.c_profile.proofs.Accepting.{accepted, of_ok}
-use Rattle.c_profile.proofs.Refusing.{refused_by_limit, refused_for_tree, of_err}
+use Rattle.c_profile.proofs.WithinLimits.{accepted, of_ok}
+use Rattle.c_profile.proofs.AboveLimits.{refused_by_limit, refused_for_tree, of_err}
 use Rattle.c_profile.proofs.text.program_or_refusal.Goals as goal
 
 pub returns-in-Ok-clause-refused : goal.returns-in-Ok-clause-refused

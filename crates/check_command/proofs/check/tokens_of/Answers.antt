@@ -1,5 +1,5 @@
 use Rattle.std.proofs.Common.{◌∙◌, sym, Ok}
-use Rattle.check_command.proofs.Telling.{faultless}
+use Rattle.check_command.proofs.ToldVerdict.{faultless}
 use Rattle.check_command.proofs.check.tokens_of.Goals as goal
 
 pub unreachable-requires : goal.unreachable-requires

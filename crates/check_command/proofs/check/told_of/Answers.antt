@@ -1,7 +1,7 @@
 use Rattle.std.proofs.Common.{◌∙◌, ap, sym}
 use Rattle.c_program.specs.Plain.{program_of}
 use Rattle.lockset_check.specs.Verdicts.{verdict_of}
-use Rattle.check_command.proofs.Telling.{tells_discipline}
+use Rattle.check_command.proofs.ToldVerdict.{tells_discipline}
 use Rattle.check_command.proofs.check.told_of.Goals as goal
 
 pub returns-in-Disciplined : goal.returns-in-Disciplined

@@ -3,7 +3,7 @@ use Rattle.std.proofs.lemmas.Result.{IfErr-weaker, IfOk-weaker, err_from_is_err_
 use Rattle.c_program.specs.Plain.{expression_of, place_of}
 use Rattle.code_blocks.proofs.Room.{right_needs, place_needs, found_needs, step_needs}
 use Rattle.code_blocks.proofs.Steps.{assignment_at, assignment_steps}
-use Rattle.code_blocks.proofs.Working.{assignment_works}
+use Rattle.code_blocks.proofs.TypedAssignments.{assignment_works}
 use Rattle.code_blocks.proofs.assignments.lower_assignment.Goals as goal
 
 pub returns : goal.returns

@@ -3,7 +3,7 @@ use Rattle.c_program.specs.Plain.{expression_of, place_of}
 use Rattle.std.proofs.Common.{arith}
 use Rattle.code_blocks.proofs.Room.{right_needs, place_needs, found_needs, read_needs, update_needs, step_needs}
 use Rattle.code_blocks.proofs.Steps.{update_at, update_steps}
-use Rattle.code_blocks.proofs.Working.{update_works}
+use Rattle.code_blocks.proofs.TypedAssignments.{update_works}
 use Rattle.code_blocks.proofs.assignments.lower_update.Goals as goal
 
 pub returns : goal.returns

@@ -2,7 +2,7 @@ use Rattle.std.proofs.Common.{refl}
 use Rattle.std.proofs.lemmas.Result.{err_from_is_err_and}
 use Rattle.c_program.specs.Plain.{expressions_of}
 use Rattle.code_blocks.proofs.Puts.{types_none, arguments_none, values_more}
-use Rattle.code_blocks.proofs.Working.{values_done, values_works}
+use Rattle.code_blocks.proofs.TypedAssignments.{values_done, values_works}
 use Rattle.code_blocks.proofs.printing.+lower_values.Goals as goal
 
 pub returns-in_default : goal.returns-in_default

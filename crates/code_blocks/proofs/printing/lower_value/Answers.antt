@@ -1,6 +1,6 @@
 use Rattle.c_program.specs.Plain.{expression_of}
 use Rattle.code_blocks.proofs.Puts.{puts_value}
-use Rattle.code_blocks.proofs.Working.{value_works}
+use Rattle.code_blocks.proofs.TypedAssignments.{value_works}
 use Rattle.code_blocks.proofs.printing.lower_value.Goals as goal
 
 pub returns : goal.returns

@@ -8,7 +8,7 @@ use Rattle.c_program.specs.Plain.{expression_of}
 use Rattle.c_program.specs.Weight.{expression_weight}
 use Rattle.code_blocks.specs.Needs.{plain}
 use Rattle.code_blocks.proofs.Room.{full_more}
-use Rattle.code_calls.proofs.Preparing.{element_evaluates}
+use Rattle.code_calls.proofs.ReadyOperands.{element_evaluates}
 use Rattle.code_calls.proofs.acts.element_number.Goals as goal
 
 pub returns-clause-value : goal.returns-clause-value

@@ -3,7 +3,7 @@ use Rattle.std.proofs.lemmas.Result.{err_from_is_err_and}
 use Rattle.c_program.specs.Plain.{object_place_of, thread_call_of}
 use Rattle.c_program.specs.Weight.{object_place_weight, thread_call_weight}
 use Rattle.code_blocks.proofs.Room.{full_more}
-use Rattle.code_calls.proofs.Preparing.{call_prepares, call_works, call_act}
+use Rattle.code_calls.proofs.ReadyOperands.{call_prepares, call_works, call_act}
 use Rattle.code_calls.proofs.Typed.{weight_is, number_count}
 use Rattle.code_calls.proofs.acts.lower_call.Goals as goal
 

@@ -5,7 +5,7 @@ use Rattle.c_program.specs.Tree.{ObjectPlace}
 use Rattle.c_program.specs.Weight.{expression_weight, object_place_weight}
 use Rattle.code_blocks.proofs.Room.{full_more}
 use Rattle.code_calls.specs.Acts.{number_expression}
-use Rattle.code_calls.proofs.Preparing.{number_none, number_put, puts_word}
+use Rattle.code_calls.proofs.ReadyOperands.{number_none, number_put, puts_word}
 use Rattle.code_calls.proofs.acts.lower_object.Goals as goal
 
 pub returns-in-Single-clause-puts : goal.returns-in-Single-clause-puts

@@ -2,14 +2,14 @@ use Rattle.std.proofs.Common.{◌≡◌, ◌+◌, ◌*◌, length, sym, ap, ◌�
 use Rattle.std.proofs.lemmas.List.{length-map}
 use Rattle.std.proofs.lemmas.Result.{err_from_is_err_and}
 use Rattle.code_places.specs.declared.lowering.Lowering.{Lowering}
-use Rattle.code_places.proofs.Proceeding.{acts_proceed}
+use Rattle.code_places.proofs.OpenParts.{acts_proceed}
 use Rattle.c_program.specs.Plain.{expression_of, expressions_of, pieces_of}
 use Rattle.c_program.specs.Weight.{expressions_weight}
 use Rattle.code_blocks.specs.declared.open_block.OpenBlock.{OpenBlock}
 use Rattle.code_blocks.specs.Printing.{word_operands, PutsValues}
 use Rattle.code_blocks.specs.Typing.{WorksOnValues}
 use Rattle.code_blocks.proofs.Room.{full_more}
-use Rattle.code_calls.proofs.Acting.{print_leads}
+use Rattle.code_calls.proofs.PrintCode.{print_leads}
 use Rattle.code_calls.proofs.acts.lower_print.Goals as goal
 
 pub returns-clause-lowers : goal.returns-clause-lowers

@@ -4,9 +4,9 @@ use Rattle.c_program.specs.Plain.{thread_call_of}
 use Rattle.c_program.specs.Weight.{thread_call_weight}
 use Rattle.code_blocks.proofs.Room.{full_more}
 use Rattle.code_blocks.specs.declared.open_block.OpenBlock.{OpenBlock}
-use Rattle.code_places.proofs.Proceeding.{acts_proceed}
+use Rattle.code_places.proofs.OpenParts.{acts_proceed}
 use Rattle.code_calls.specs.Acts.{PreparesCall, WorksOnCall}
-use Rattle.code_calls.proofs.Performing.{thread_leads}
+use Rattle.code_calls.proofs.PthreadCode.{thread_leads}
 use Rattle.code_calls.proofs.acts.lower_thread_call.Goals as goal
 
 pub returns-clause-labels : goal.returns-clause-labels

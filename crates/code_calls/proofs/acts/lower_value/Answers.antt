@@ -5,7 +5,7 @@ use Rattle.c_program.specs.Plain.{expression_of, thread_call_of}
 use Rattle.c_program.specs.Weight.{expression_weight, expressions_weight, thread_call_weight}
 use Rattle.code_blocks.proofs.Room.{full_more}
 use Rattle.code_calls.specs.Acts.{values_of}
-use Rattle.code_calls.proofs.Preparing.{none_put, value_put, puts_word}
+use Rattle.code_calls.proofs.ReadyOperands.{none_put, value_put, puts_word}
 use Rattle.code_calls.proofs.Typed.{weight_is}
 use Rattle.code_calls.proofs.acts.lower_value.Goals as goal
 

@@ -3,7 +3,7 @@ use Rattle.std.proofs.lemmas.Result.{err_from_is_err_and}
 use Rattle.code_places.specs.declared.lowering.Lowering.{Lowering}
 use Rattle.code_places.specs.Control.{Begins}
 use Rattle.code_places.specs.Labels.{IsOpen}
-use Rattle.code_calls.proofs.Proceeding.{closes_all}
+use Rattle.code_calls.proofs.OpenCalls.{closes_all}
 use Rattle.code_calls.proofs.calling.close_call.Goals as goal
 
 pub return_reached-requires : goal.return_reached-requires

@@ -10,7 +10,7 @@ use Rattle.code_blocks.specs.Evaluating.{current_operand}
 use Rattle.code_blocks.proofs.Room.{full_more}
 use Rattle.code_blocks.proofs.Steps.{located}
 use Rattle.code_blocks.proofs.Stores.{store_steps}
-use Rattle.code_blocks.proofs.Working.{place_count}
+use Rattle.code_blocks.proofs.TypedAssignments.{place_count}
 use Rattle.code_calls.proofs.calling.lower_delivery.Goals as goal
 
 pub returns : goal.returns

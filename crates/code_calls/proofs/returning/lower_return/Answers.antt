@@ -5,9 +5,9 @@ use Rattle.c_program.specs.Weight.{expression_weight}
 use Rattle.code_blocks.specs.declared.open_block.OpenBlock.{OpenBlock}
 use Rattle.code_blocks.proofs.Room.{full_more}
 use Rattle.code_places.specs.Doing.{IsBackTarget}
-use Rattle.code_calls.proofs.Backing.{end_return_at, return_at}
-use Rattle.code_places.proofs.Proceeding.{call_proceeds}
-use Rattle.code_calls.proofs.Proceeding.{returns_proceed}
+use Rattle.code_calls.proofs.ReturnCode.{end_return_at, return_at}
+use Rattle.code_places.proofs.OpenParts.{call_proceeds}
+use Rattle.code_calls.proofs.OpenCalls.{returns_proceed}
 use Rattle.code_calls.proofs.returning.lower_return.Goals as goal
 
 pub return_value-requires : goal.return_value-requires

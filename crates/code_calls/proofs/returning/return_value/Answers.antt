@@ -3,7 +3,7 @@ use Rattle.std.proofs.lemmas.Result.{err_from_is_err_and}
 use Rattle.code_blocks.specs.declared.open_block.OpenBlock.{OpenBlock}
 use Rattle.code_blocks.proofs.Room.{full_more}
 use Rattle.code_calls.specs.Calling.{PutsReturned}
-use Rattle.code_calls.proofs.Answering.{is_returned}
+use Rattle.code_calls.proofs.ReturnTargets.{is_returned}
 use Rattle.code_calls.proofs.returning.return_value.Goals as goal
 
 pub jump-requires : goal.jump-requires

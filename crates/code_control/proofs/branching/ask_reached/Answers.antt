@@ -1,7 +1,7 @@
 use Rattle.std.proofs.Common.{sym, ◌∙◌}
 use Rattle.std.proofs.lemmas.Result.{MatchResult-weaker}
 use Rattle.c_program.specs.Plain.{condition_of}
-use Rattle.code_control.proofs.Growing.{asks_not, asks_there}
+use Rattle.code_control.proofs.ControlGrowth.{asks_not, asks_there}
 use Rattle.code_control.proofs.branching.ask_reached.Goals as goal
 
 pub returns-then-not-is_reached : goal.returns-then-not-is_reached

@@ -1,8 +1,8 @@
 use Rattle.std.proofs.lemmas.Result.{err_from_is_err_and}
 use Rattle.c_program.specs.Plain.{condition_of}
-use Rattle.code_control.proofs.Filling.{bound_at}
-use Rattle.code_control.proofs.Growing.{closes_do}
-use Rattle.code_control.proofs.Binding.{leaving_open}
+use Rattle.code_control.proofs.ControlSize.{bound_at}
+use Rattle.code_control.proofs.ControlGrowth.{closes_do}
+use Rattle.code_control.proofs.BoundLabels.{leaving_open}
 use Rattle.code_control.proofs.branching.close_do.Goals as goal
 
 pub bind-requires : goal.bind-requires

@@ -1,6 +1,6 @@
 use Rattle.std.proofs.lemmas.Result.{on_ok_weaker}
-use Rattle.code_control.proofs.Growing.{closes_for}
-use Rattle.code_control.proofs.Binding.{site_open, site_target}
+use Rattle.code_control.proofs.ControlGrowth.{closes_for}
+use Rattle.code_control.proofs.BoundLabels.{site_open, site_target}
 use Rattle.code_control.proofs.branching.close_for.Goals as goal
 
 pub close_turn-requires : goal.close_turn-requires

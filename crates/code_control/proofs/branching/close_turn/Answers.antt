@@ -1,6 +1,6 @@
 use Rattle.std.proofs.lemmas.Result.{on_ok_weaker, err_from_is_err_and}
-use Rattle.code_control.proofs.Growing.{closes_turn}
-use Rattle.code_control.proofs.Binding.{leaps_open}
+use Rattle.code_control.proofs.ControlGrowth.{closes_turn}
+use Rattle.code_control.proofs.BoundLabels.{leaps_open}
 use Rattle.code_control.proofs.branching.close_turn.Goals as goal
 
 pub leap-requires : goal.leap-requires

@@ -1,9 +1,9 @@
 use Rattle.std.proofs.lemmas.Result.{err_from_is_err_and}
 use Rattle.c_program.specs.Plain.{condition_of}
 use Rattle.code_control.specs.declared.branching.ChoiceLabels.{ChoiceLabels}
-use Rattle.code_control.proofs.Filling.{shifted_at}
-use Rattle.code_control.proofs.Growing.{opens_choice, three_labels}
-use Rattle.code_control.proofs.Binding.{choice_new, choice_open}
+use Rattle.code_control.proofs.ControlSize.{shifted_at}
+use Rattle.code_control.proofs.ControlGrowth.{opens_choice, three_labels}
+use Rattle.code_control.proofs.BoundLabels.{choice_new, choice_open}
 use Rattle.code_control.proofs.branching.open_choice.Goals as goal
 
 pub bind-requires : goal.bind-requires

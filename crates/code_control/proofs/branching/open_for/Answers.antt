@@ -3,8 +3,8 @@ use Rattle.std.proofs.lemmas.Result.{MatchResult-weaker, err_from_is_err_and}
 use Rattle.c_program.specs.Limits.{print_count}
 use Rattle.c_program.specs.Plain.{condition_of, statement_of}
 use Rattle.code_places.specs.Doing.{at_site}
-use Rattle.code_control.proofs.Filling.{sited_at}
-use Rattle.code_control.proofs.Growing.{opens_for}
+use Rattle.code_control.proofs.ControlSize.{sited_at}
+use Rattle.code_control.proofs.ControlGrowth.{opens_for}
 use Rattle.code_control.proofs.branching.open_for.Goals as goal
 
 pub returns : goal.returns

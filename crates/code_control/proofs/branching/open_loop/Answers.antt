@@ -1,7 +1,7 @@
 use Rattle.std.proofs.lemmas.Result.{err_from_is_err_and}
-use Rattle.code_places.proofs.Growing.{relabels_both}
-use Rattle.code_control.proofs.Growing.{opens_loop}
-use Rattle.code_control.proofs.Binding.{loop_new}
+use Rattle.code_places.proofs.CodeGrowth.{relabels_both}
+use Rattle.code_control.proofs.ControlGrowth.{opens_loop}
+use Rattle.code_control.proofs.BoundLabels.{loop_new}
 use Rattle.code_control.proofs.branching.open_loop.Goals as goal
 
 pub begin-requires : goal.begin-requires

@@ -1,8 +1,8 @@
 use Rattle.std.proofs.lemmas.Result.{err_from_is_err_and}
 use Rattle.c_program.specs.Plain.{condition_of}
-use Rattle.code_control.proofs.Filling.{turn_at}
-use Rattle.code_control.proofs.Growing.{opens_turn}
-use Rattle.code_control.proofs.Binding.{body_open}
+use Rattle.code_control.proofs.ControlSize.{turn_at}
+use Rattle.code_control.proofs.ControlGrowth.{opens_turn}
+use Rattle.code_control.proofs.BoundLabels.{body_open}
 use Rattle.code_control.proofs.branching.open_turn.Goals as goal
 
 pub bind-requires : goal.bind-requires

@@ -1,6 +1,6 @@
 use Rattle.std.proofs.lemmas.Result.{on_ok_weaker, err_from_is_err_and}
-use Rattle.code_control.proofs.Growing.{turns_choice}
-use Rattle.code_control.proofs.Binding.{leaps_open, open_target}
+use Rattle.code_control.proofs.ControlGrowth.{turns_choice}
+use Rattle.code_control.proofs.BoundLabels.{leaps_open, open_target}
 use Rattle.code_control.proofs.branching.turn_choice.Goals as goal
 
 pub leap-requires : goal.leap-requires

@@ -1,6 +1,6 @@
 use Rattle.std.proofs.lemmas.Result.{on_ok_weaker}
-use Rattle.code_control.proofs.Growing.{turns_for}
-use Rattle.code_control.proofs.Binding.{site_open}
+use Rattle.code_control.proofs.ControlGrowth.{turns_for}
+use Rattle.code_control.proofs.BoundLabels.{site_open}
 use Rattle.code_control.proofs.branching.turn_for.Goals as goal
 
 pub bind-requires : goal.bind-requires

@@ -1,6 +1,6 @@
 use Rattle.std.proofs.lemmas.Result.{err_from_is_err_and}
-use Rattle.code_control.proofs.Growing.{two_labels}
-use Rattle.code_control.proofs.Binding.{two_new}
+use Rattle.code_control.proofs.ControlGrowth.{two_labels}
+use Rattle.code_control.proofs.BoundLabels.{two_new}
 use Rattle.code_control.proofs.branching.two_labels.Goals as goal
 
 pub returns : goal.returns

@@ -4,9 +4,9 @@ use Rattle.c_program.specs.Plain.{condition_of, expression_of}
 use Rattle.c_program.specs.Tree.{Condition}
 use Rattle.c_program.specs.Weight.{condition_weight}
 use Rattle.c_program.specs.Resolved.{IsCondition}
-use Rattle.code_places.proofs.Opening.{label_open}
-use Rattle.code_control.proofs.Deciding.{operand_decides, opposite_decides, both_decides, either_decides}
-use Rattle.code_control.proofs.Filling.{operand_at, opposite_at, first_at, second_at}
+use Rattle.code_places.proofs.OpenLabels.{label_open}
+use Rattle.code_control.proofs.Decisions.{operand_decides, opposite_decides, both_decides, either_decides}
+use Rattle.code_control.proofs.ControlSize.{operand_at, opposite_at, first_at, second_at}
 use Rattle.code_control.proofs.conditions.+lower_condition.Goals as goal
 
 pub returns-in_ok-begin-in-Both : goal.returns-in_ok-begin-in-Both

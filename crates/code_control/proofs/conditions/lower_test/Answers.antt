@@ -2,7 +2,7 @@ use Rattle.std.proofs.Common.{ap, subst}
 use Rattle.c_program.specs.Plain.{expression_of}
 use Rattle.code_blocks.specs.declared.open_block.OpenBlock.{OpenBlock}
 use Rattle.code_blocks.specs.Evaluating.{Evaluates}
-use Rattle.code_control.proofs.Deciding.{tests_branch}
+use Rattle.code_control.proofs.Decisions.{tests_branch}
 use Rattle.code_control.proofs.conditions.lower_test.Goals as goal
 
 pub returns : goal.returns

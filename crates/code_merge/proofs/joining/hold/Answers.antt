@@ -1,6 +1,6 @@
 use Rattle.std.proofs.Common.{◌∙◌, ap, length}
 use Rattle.std.proofs.lemmas.List.{length-set}
-use Rattle.code_merge.proofs.Merging.{left_next, left_all}
+use Rattle.code_merge.proofs.MergedCode.{left_next, left_all}
 use Rattle.code_merge.proofs.joining.hold.Goals as goal
 
 pub loop-last-preserved : goal.loop-last-preserved

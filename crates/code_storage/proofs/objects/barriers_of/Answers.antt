@@ -1,5 +1,5 @@
 use Rattle.c_program.specs.declared.tree.BarrierObject.{BarrierObject}
-use Rattle.code_storage.proofs.Counting.{one_counted}
+use Rattle.code_storage.proofs.ObjectCount.{one_counted}
 use Rattle.code_storage.proofs.objects.barriers_of.Goals as goal
 
 pub loop-object-preserved : goal.loop-object-preserved

@@ -1,5 +1,5 @@
 use Rattle.c_program.specs.declared.tree.MutexObject.{MutexObject}
-use Rattle.code_storage.proofs.Counting.{AreCounted}
+use Rattle.code_storage.proofs.ObjectCount.{AreCounted}
 use Rattle.code_storage.proofs.objects.mutexes_of.Given as goal
 
 abbrev pub invariant-loop-object : goal.invariant-loop-object

@@ -1,4 +1,4 @@
-use Rattle.core_family.proofs.Waiting as waiting
+use Rattle.core_family.proofs.OffersToAskers as waiting
 use Rattle.core_family.proofs.law.each_waits.Goals as goal
 
 pub returns : goal.returns

@@ -1,4 +1,4 @@
-use Rattle.core_family.proofs.Printing.{each_fits}
+use Rattle.core_family.proofs.OnePrinter.{each_fits}
 use Rattle.core_family.proofs.law.ports_fit.Goals as goal
 
 pub returns : goal.returns

@@ -1,4 +1,4 @@
-use Rattle.core_family.proofs.Printing.{last_prints, others_silent}
+use Rattle.core_family.proofs.OnePrinter.{last_prints, others_silent}
 use Rattle.core_family.proofs.law.printer_alone.Goals as goal
 
 pub returns-clause-machines : goal.returns-clause-machines

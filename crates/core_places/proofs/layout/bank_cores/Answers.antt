@@ -3,7 +3,7 @@ use Rattle.std.proofs.lemmas.Option.{slice_get-get_or}
 use Rattle.top_parts.specs.declared.layout.Core.{Core}
 use Rattle.top_wiring.specs.Parts.{each_from}
 use Rattle.core_places.specs.Laying.{bank_core}
-use Rattle.core_places.proofs.Placing.{each_next}
+use Rattle.core_places.proofs.CoresPlaced.{each_next}
 use Rattle.core_places.proofs.layout.bank_cores.Goals as goal
 
 pub loop-bank-preserved : goal.loop-bank-preserved

@@ -1,4 +1,4 @@
-use Rattle.core_places.proofs.Laying.{all_laid}
+use Rattle.core_places.proofs.CoresLaid.{all_laid}
 use Rattle.core_places.proofs.layout.laid_cores.Goals as goal
 
 pub returns : goal.returns

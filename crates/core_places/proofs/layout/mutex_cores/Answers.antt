@@ -4,7 +4,7 @@ use Rattle.mutex_cores.specs.declared.mutex.Shape.{Shape as MutexShape}
 use Rattle.top_parts.specs.declared.layout.Core.{Core}
 use Rattle.top_wiring.specs.Parts.{each_from}
 use Rattle.core_places.specs.Laying.{either_mutex, mutex_core}
-use Rattle.core_places.proofs.Placing.{each_next}
+use Rattle.core_places.proofs.CoresPlaced.{each_next}
 use Rattle.core_places.proofs.layout.mutex_cores.Goals as goal
 
 pub loop-mutex-preserved : goal.loop-mutex-preserved

@@ -1,4 +1,4 @@
-use Rattle.cycle_sim.proofs.Standing.{settles_alike, cycle_once, cycle_alike, runs_once, shows_once}
+use Rattle.cycle_sim.proofs.FlatLaws.{settles_alike, cycle_once, cycle_alike, runs_once, shows_once}
 use Rattle.cycle_sim.proofs.law.cycle_once.Goals as goal
 
 pub returns-clause-settles : goal.returns-clause-settles

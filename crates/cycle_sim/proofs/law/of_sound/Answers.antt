@@ -1,7 +1,7 @@
-use Rattle.cycle_sim.proofs.Printing.{one_printer}
+use Rattle.cycle_sim.proofs.PrinterInstance.{one_printer}
 use Rattle.cycle_sim.proofs.Right.{right_of_sound}
 use Rattle.cycle_sim.proofs.Enables.{threads_of_sound}
-use Rattle.cycle_sim.proofs.Taking.{openable_of_sound}
+use Rattle.cycle_sim.proofs.TakenChoices.{openable_of_sound}
 use Rattle.cycle_sim.proofs.law.of_sound.Goals as goal
 
 pub returns-clause-right : goal.returns-clause-right

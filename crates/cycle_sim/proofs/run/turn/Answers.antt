@@ -1,6 +1,6 @@
 use Rattle.std.proofs.Common.{subst, arith}
 use Rattle.cycle_sim.specs.Lockstep.{IsLockstep}
-use Rattle.cycle_sim.proofs.Rounding.{round_done, round_all}
+use Rattle.cycle_sim.proofs.InitialRun.{round_done, round_all}
 use Rattle.cycle_sim.proofs.run.turn.Goals as goal
 
 pub returns-then-ran-cycles : goal.returns-then-ran-cycles

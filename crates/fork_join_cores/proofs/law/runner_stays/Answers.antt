@@ -1,4 +1,4 @@
-use Rattle.fork_join_cores.proofs.Keeping.{stays_told}
+use Rattle.fork_join_cores.proofs.RunnersKept.{stays_told}
 use Rattle.fork_join_cores.proofs.law.runner_stays.Goals as goal
 
 pub returns-clause-told : goal.returns-clause-told

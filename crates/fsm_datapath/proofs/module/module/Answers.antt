@@ -1,16 +1,16 @@
-use Rattle.operator_wires.proofs.Making.{of_ok}
+use Rattle.operator_wires.proofs.MadeWords.{of_ok}
 use Rattle.thread_layout.specs.Modules.{IsModule}
 use Rattle.fsm_datapath.specs.Runs.{ServesCode}
-use Rattle.fsm_datapath.proofs.Serving.{serves_code}
+use Rattle.fsm_datapath.proofs.ServedCode.{serves_code}
 use Rattle.fsm_datapath.specs.Routine.{IsRoutineOfServedCode}
 use Rattle.fsm_datapath.specs.SoundLeaf.{IsLeafOfServedCode}
-use Rattle.fsm_datapath.proofs.Standing.{routine_is}
-use Rattle.fsm_datapath.proofs.Forming.{checked_is}
-use Rattle.fsm_datapath.proofs.Leafing.{leaf_is}
+use Rattle.fsm_datapath.proofs.ModuleStands.{routine_is}
+use Rattle.fsm_datapath.proofs.ModuleForm.{checked_is}
+use Rattle.fsm_datapath.proofs.CheckedLeaf.{leaf_is}
 use Rattle.fsm_datapath.specs.Naming.{NamesServedVariables}
-use Rattle.fsm_datapath.proofs.Naming.{variables_named}
+use Rattle.fsm_datapath.proofs.VariableNames.{variables_named}
 use Rattle.fsm_datapath.specs.Steady.{IsSteadyServedCode}
-use Rattle.fsm_datapath.proofs.Steadying.{steady_is}
+use Rattle.fsm_datapath.proofs.SteadyModule.{steady_is}
 use Rattle.fsm_datapath.proofs.module.module.Goals as goal
 
 pub returns-clause-serves : goal.returns-clause-serves

@@ -5,7 +5,7 @@ use Rattle.unit_binding.specs.Units.{AreUnits}
 use Rattle.register_binding.specs.Used.{is_used_at_end}
 use Rattle.register_binding.specs.Registers.{AreRegisters, AreCrowded}
 use Rattle.fsm_plan.proofs.Bridge.{length-nodes}
-use Rattle.fsm_plan.proofs.Starting.{done_fits}
+use Rattle.fsm_plan.proofs.LeastStarts.{done_fits}
 use Rattle.fsm_plan.proofs.Whole.{bindings}
 use Rattle.fsm_plan.proofs.blocks.bind.Goals as goal
 

@@ -1,7 +1,7 @@
 use Rattle.std.proofs.Common.{length, ◌+◌}
 use Rattle.schedule_sdc.specs.Solution.{IsLeast, IsPositiveCycle, IsUnsolvable}
 use Rattle.op_graph.specs.Graph.{time_before}
-use Rattle.fsm_plan.proofs.Starting.{solved, fits, least_starts, soon}
+use Rattle.fsm_plan.proofs.LeastStarts.{solved, fits, least_starts, soon}
 use Rattle.fsm_plan.proofs.starts.least_starts.Goals as goal
 
 pub solve-requires-clause-places : goal.solve-requires-clause-places

@@ -1,4 +1,4 @@
-use Rattle.hardware_threads.proofs.Ending.{ran_at}
+use Rattle.hardware_threads.proofs.RunEnd.{ran_at}
 use Rattle.hardware_threads.proofs.run.alone.Goals as goal
 
 pub returns-in-Some : goal.returns-in-Some

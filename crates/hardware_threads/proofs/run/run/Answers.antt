@@ -1,8 +1,8 @@
 use Rattle.std.proofs.Common.{List, IfOk, subst}
 use Rattle.netlist.specs.declared.netlist.Module.{Module}
-use Rattle.cycle_sim.proofs.Turning.{net_refl}
+use Rattle.cycle_sim.proofs.LockstepTurns.{net_refl}
 use Rattle.hardware_threads.specs.Run.{IsRan}
-use Rattle.hardware_threads.proofs.Starting.{frame_of, opened_first}
+use Rattle.hardware_threads.proofs.RunStart.{frame_of, opened_first}
 use Rattle.hardware_threads.proofs.run.run.Goals as goal
 
 pub run_as-requires-clause-frame : goal.run_as-requires-clause-frame

@@ -1,4 +1,4 @@
-use Rattle.grant_journal.proofs.Turning.{runs_on}
+use Rattle.grant_journal.proofs.LoneTurns.{runs_on}
 use Rattle.hardware_threads.proofs.run.work.Goals as goal
 
 pub commit-requires-clause-thread : goal.commit-requires-clause-thread

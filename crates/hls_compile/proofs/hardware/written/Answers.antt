@@ -4,7 +4,7 @@ use Rattle.c_program.specs.Plain.{program_of}
 use Rattle.bank_partition.specs.declared.banks.Spread.{Spread}
 use Rattle.program_cores.specs.Cores.{AreCoresOf}
 use Rattle.net_emitter.specs.Written.{FitsTable, IsTextOf}
-use Rattle.hls_compile.proofs.Making.{IsMade, fits, is_good, run_planned}
+use Rattle.hls_compile.proofs.MadeText.{IsMade, fits, is_good, run_planned}
 use Rattle.hls_compile.proofs.hardware.written.Goals as goal
 
 pub wanted-requires : goal.wanted-requires

@@ -1,11 +1,11 @@
 -- The laws stand in the files of proofs.
 use Rattle.interleaving.proofs.AnyOrder.{comes_first}
-use Rattle.interleaving.proofs.Commuting.{runs_commute}
-use Rattle.interleaving.proofs.Following.{runs_follow_one}
+use Rattle.interleaving.proofs.Commutation.{runs_commute}
+use Rattle.interleaving.proofs.FollowedRuns.{runs_follow_one}
 use Rattle.interleaving.proofs.Headline.{done_where_ended, runs_as_one}
-use Rattle.interleaving.proofs.Lagging.{keeps_lag, flights_apart}
+use Rattle.interleaving.proofs.KeptLag.{keeps_lag, flights_apart}
 use Rattle.interleaving.proofs.Order.{order_in_cycle}
-use Rattle.interleaving.proofs.Paying.{pays_for_moves}
+use Rattle.interleaving.proofs.PaidMoves.{pays_for_moves}
 use Rattle.interleaving.proofs.Races.{first_conflict}
 use Rattle.interleaving.proofs.laws.interleavings.Goals as goal
 

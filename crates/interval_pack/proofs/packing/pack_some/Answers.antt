@@ -1,7 +1,7 @@
 use Rattle.std.proofs.Common.{◌≡◌, length, replicate, rules, arith}
 use Rattle.interval_pack.specs.Packing.{IsPacking}
 use Rattle.interval_pack.specs.Chosen.{IsSpread}
-use Rattle.interval_pack.proofs.Choosing.{AreChosen, choose_next, none_chosen}
+use Rattle.interval_pack.proofs.ChosenIntervals.{AreChosen, choose_next, none_chosen}
 use Rattle.interval_pack.proofs.SparsePacked.{solid_ones, rising_below, packed}
 use Rattle.interval_pack.proofs.packing.pack_some.Goals as goal
 

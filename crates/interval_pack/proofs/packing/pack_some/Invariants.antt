@@ -1,4 +1,4 @@
-use Rattle.interval_pack.proofs.Choosing.{AreChosen}
+use Rattle.interval_pack.proofs.ChosenIntervals.{AreChosen}
 use Rattle.interval_pack.proofs.packing.pack_some.Given as goal
 
 abbrev pub invariant-loop-i : goal.invariant-loop-i

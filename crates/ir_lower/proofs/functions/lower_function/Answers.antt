@@ -5,7 +5,7 @@ use Rattle.c_program.specs.Plain.{function_of, program_of}
 use Rattle.code_places.specs.Doing.{IsNew, IsFinished}
 use Rattle.code_storage.specs.Values.{all_values}
 use Rattle.ir_lower.proofs.Ample.{body_full, counted_function, function_ample, variables_few, no_function}
-use Rattle.ir_lower.proofs.Proceeding.{taken_body, start_back, ended_fit, ended_first}
+use Rattle.ir_lower.proofs.OpenProgram.{taken_body, start_back, ended_fit, ended_first}
 use Rattle.ir_lower.proofs.Untaken.{all_taken}
 use Rattle.ir_lower.proofs.Whole.{code_is}
 use Rattle.ir_lower.proofs.functions.lower_function.Goals as goal

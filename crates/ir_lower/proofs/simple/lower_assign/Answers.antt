@@ -4,8 +4,8 @@ use Rattle.c_program.specs.Plain.{expression_of, place_of, right_side_of}
 use Rattle.c_program.specs.Tree.{RightSide}
 use Rattle.c_program.specs.Weight.{expression_weight, place_weight, right_side_weight}
 use Rattle.code_blocks.proofs.Room.{full_more}
-use Rattle.code_places.proofs.Proceeding.{proceeds_same}
-use Rattle.ir_lower.proofs.Stepping.{assign_at, on_ok_both}
+use Rattle.code_places.proofs.OpenParts.{proceeds_same}
+use Rattle.ir_lower.proofs.StatementSteps.{assign_at, on_ok_both}
 use Rattle.ir_lower.proofs.simple.lower_assign.Goals as goal
 
 pub returns : goal.returns

@@ -4,9 +4,9 @@ use Rattle.c_program.specs.Plain.{expression_of, returned_of, right_side_of}
 use Rattle.c_program.specs.Tree.{RightSide, Statement}
 use Rattle.c_program.specs.Weight.{expression_weight, returned_weight}
 use Rattle.code_blocks.proofs.Room.{full_more}
-use Rattle.code_calls.proofs.Backing.{empty_return_at}
-use Rattle.code_calls.proofs.Proceeding.{nothing_proceeds}
-use Rattle.ir_lower.proofs.Stepping.{lowers_is}
+use Rattle.code_calls.proofs.ReturnCode.{empty_return_at}
+use Rattle.code_calls.proofs.OpenCalls.{nothing_proceeds}
+use Rattle.ir_lower.proofs.StatementSteps.{lowers_is}
 use Rattle.ir_lower.proofs.simple.lower_returned.Goals as goal
 
 pub returns-in-None : goal.returns-in-None

@@ -6,9 +6,9 @@ use Rattle.c_program.specs.Plain.{expression_of, expressions_of, pieces_of, plac
 use Rattle.c_program.specs.Tree.{Statement}
 use Rattle.c_program.specs.Weight.{expression_weight, place_weight, returned_weight, right_side_weight, thread_call_weight, function_weight}
 use Rattle.code_places.specs.Doing.{AreTargets}
-use Rattle.code_places.proofs.Proceeding.{proceeds_refl, proceeds_same, break_proceeds, continue_proceeds}
-use Rattle.ir_lower.proofs.Filling.{simple_for, print_for, right_weighs, returned_weighs}
-use Rattle.ir_lower.proofs.Stepping.{done_at, empty_at, lowers_is, declare_at, update_at, break_at, continue_at, on_ok_both}
+use Rattle.code_places.proofs.OpenParts.{proceeds_refl, proceeds_same, break_proceeds, continue_proceeds}
+use Rattle.ir_lower.proofs.StatementSize.{simple_for, print_for, right_weighs, returned_weighs}
+use Rattle.ir_lower.proofs.StatementSteps.{done_at, empty_at, lowers_is, declare_at, update_at, break_at, continue_at, on_ok_both}
 use Rattle.ir_lower.proofs.simple.lower_simple.Goals as goal
 
 pub returns-in-Done : goal.returns-in-Done

@@ -9,24 +9,24 @@ use Rattle.code_places.specs.Doing.{at_site}
 use Rattle.code_control.specs.Branching.{OpensTurn}
 use Rattle.code_places.specs.declared.lowering.Lowering.{Lowering}
 use Rattle.ir_lower.specs.Taken.{is_taken}
-use Rattle.code_places.proofs.Advancing.{None_, advances_both}
-use Rattle.code_places.proofs.Proceeding.{proceeds_both, proceeds_same, targets_after, back_after}
-use Rattle.code_control.proofs.Proceeding.{choice_advance, choice_proceeds}
-use Rattle.code_control.proofs.Proceeding.{choice_targets, choice_back_first, choice_back_target, choice_apart, join_open, false_open, join_open_after}
-use Rattle.code_control.proofs.Proceeding.{while_proceeds, while_targets, while_head, while_leaving, do_proceeds, do_targets}
-use Rattle.code_control.proofs.Proceeding.{do_turning, do_leaving, do_apart, for_proceeds, for_targets, for_turning, for_head, for_leaving}
-use Rattle.code_control.proofs.Proceeding.{turn_back_target, do_back_target, for_back_target}
-use Rattle.ir_lower.proofs.Proceeding.{taken_body}
-use Rattle.code_calls.proofs.Proceeding.{call_back_target}
-use Rattle.code_calls.proofs.Proceeding.{done_open, done_back, calls_proceed, delivers_proceed, hands_proceed, closed_reached}
-use Rattle.code_calls.proofs.Continuing.{call_lowers, call_assigned, call_returned}
+use Rattle.code_places.proofs.LabelSteps.{None_, advances_both}
+use Rattle.code_places.proofs.OpenParts.{proceeds_both, proceeds_same, targets_after, back_after}
+use Rattle.code_control.proofs.OpenControl.{choice_advance, choice_proceeds}
+use Rattle.code_control.proofs.OpenControl.{choice_targets, choice_back_first, choice_back_target, choice_apart, join_open, false_open, join_open_after}
+use Rattle.code_control.proofs.OpenControl.{while_proceeds, while_targets, while_head, while_leaving, do_proceeds, do_targets}
+use Rattle.code_control.proofs.OpenControl.{do_turning, do_leaving, do_apart, for_proceeds, for_targets, for_turning, for_head, for_leaving}
+use Rattle.code_control.proofs.OpenControl.{turn_back_target, do_back_target, for_back_target}
+use Rattle.ir_lower.proofs.OpenProgram.{taken_body}
+use Rattle.code_calls.proofs.OpenCalls.{call_back_target}
+use Rattle.code_calls.proofs.OpenCalls.{done_open, done_back, calls_proceed, delivers_proceed, hands_proceed, closed_reached}
+use Rattle.code_calls.proofs.BehindCall.{call_lowers, call_assigned, call_returned}
 use Rattle.ir_lower.proofs.Sizes.{nested_size, measure_falls}
-use Rattle.code_control.proofs.Filling.{skipped_for, block_for, choice_condition, one_for, other_for, while_condition, while_body, do_body, do_condition, for_first}
-use Rattle.code_control.proofs.Filling.{for_condition, for_body, for_last}
-use Rattle.code_control.proofs.Filling.{behind_more, behind_first}
+use Rattle.code_control.proofs.ControlSize.{skipped_for, block_for, choice_condition, one_for, other_for, while_condition, while_body, do_body, do_condition, for_first}
+use Rattle.code_control.proofs.ControlSize.{for_condition, for_body, for_last}
+use Rattle.code_control.proofs.ControlSize.{behind_more, behind_first}
 use Rattle.code_calls.proofs.Overfull.{call_too_deep, call_unknown, call_body, call_closing, call_for, assigned_for, returned_for, delivery_for, handing_for}
-use Rattle.code_control.proofs.Nesting.{skips, simple_lowers, block_lowers, choice_lowers, while_lowers, do_lowers, for_lowers, via_more, via_last}
-use Rattle.ir_lower.proofs.Stepping.{match_ok, match_err}
+use Rattle.code_control.proofs.NestedStatements.{skips, simple_lowers, block_lowers, choice_lowers, while_lowers, do_lowers, for_lowers, via_more, via_last}
+use Rattle.ir_lower.proofs.StatementSteps.{match_ok, match_err}
 use Rattle.ir_lower.proofs.Whole.{get_none}
 use Rattle.ir_lower.proofs.statements.+statements.Goals as goal
 use Rattle.lists.proofs.Places.{get_mapped}

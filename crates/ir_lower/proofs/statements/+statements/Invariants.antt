@@ -3,8 +3,8 @@ use Rattle.std.specs.Prelude.{is_some}
 use Rattle.c_program.specs.Plain.{program_of, statement_of}
 use Rattle.ir_lower.specs.Taken.{is_taken}
 use Rattle.code_places.specs.Doing.{Proceeds}
-use Rattle.code_control.proofs.Nesting.{IsVia}
-use Rattle.code_control.proofs.Filling.{IsBehind}
+use Rattle.code_control.proofs.NestedStatements.{IsVia}
+use Rattle.code_control.proofs.ControlSize.{IsBehind}
 use Rattle.ir_lower.proofs.Sizes.{nested_size, all_sizes}
 use Rattle.ir_lower.proofs.statements.+statements.Given as goal
 

@@ -1,6 +1,6 @@
 use Rattle.std.proofs.Common.{arith}
-use Rattle.slot_sim.proofs.Turning.{net_refl, net_trans}
-use Rattle.journal_laws.proofs.Passing.{none_passed, passed_more, stopped, ran_all}
+use Rattle.slot_sim.proofs.LockstepTurns.{net_refl, net_trans}
+use Rattle.journal_laws.proofs.ClosedCycles.{none_passed, passed_more, stopped, ran_all}
 use Rattle.journal_laws.proofs.copy_run.run_closed.Goals as goal
 
 pub loop-done-init : goal.loop-done-init

@@ -1,5 +1,5 @@
 use Rattle.sim_layout.specs.Running.{IsSameNet}
-use Rattle.journal_laws.proofs.Passing.{ArePassed}
+use Rattle.journal_laws.proofs.ClosedCycles.{ArePassed}
 use Rattle.journal_laws.proofs.copy_run.run_closed.Given as goal
 
 abbrev pub invariant-loop-done : goal.invariant-loop-done

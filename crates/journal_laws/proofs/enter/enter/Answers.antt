@@ -2,7 +2,7 @@ use Rattle.std.specs.Prelude.{ℕ, ◌<◌, List, length}
 use Rattle.sim_layout.proofs.Calls.{on_err}
 use Rattle.sim_layout.specs.Running.{state_of}
 use Rattle.journal_laws.specs.Steps.{OfTop, OpensTo}
-use Rattle.journal_laws.proofs.Entering.{entered, waited, wanting}
+use Rattle.journal_laws.proofs.EntrySlots.{entered, waited, wanting}
 use Rattle.journal_laws.proofs.enter.enter.Goals as goal
 
 pub returns-then-not-has_cycle-clause-entered : goal.returns-then-not-has_cycle-clause-entered

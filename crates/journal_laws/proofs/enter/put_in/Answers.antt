@@ -2,7 +2,7 @@ use Rattle.std.proofs.Common.{List, sym, subst}
 use Rattle.netlist.specs.declared.netlist.Module.{Module}
 use Rattle.sim_layout.specs.Rounds.{threads_of}
 use Rattle.slot_sim.specs.Slots.{IsThreadedIn}
-use Rattle.journal_laws.proofs.Entering.{cycle_back, prints_back, taken_back}
+use Rattle.journal_laws.proofs.EntrySlots.{cycle_back, prints_back, taken_back}
 use Rattle.journal_laws.proofs.enter.put_in.Goals as goal
 
 pub opens-requires-clause-threaded : goal.opens-requires-clause-threaded

@@ -1,7 +1,7 @@
 use Rattle.std.proofs.Common.{List, sym, subst, arith}
 use Rattle.netlist.specs.declared.netlist.Module.{Module}
 use Rattle.sim_layout.specs.Rounds.{threads_of}
-use Rattle.slot_sim.proofs.Turning.{net_trans}
+use Rattle.slot_sim.proofs.LockstepTurns.{net_trans}
 use Rattle.slot_sim.specs.Slots.{IsThreadedIn}
 use Rattle.journal_laws.proofs.Alike.{state_trans, none_more, first_found}
 use Rattle.journal_laws.proofs.judge.first_mover.Goals as goal

@@ -3,10 +3,10 @@ use Rattle.std.proofs.lemmas.List.{take_all}
 use Rattle.netlist.specs.declared.netlist.Module.{Module}
 use Rattle.sim_layout.specs.Rounds.{threads_of}
 use Rattle.journal_text.specs.declared.entry.Entry.{Entry}
-use Rattle.cycle_sim.proofs.Turning.{net_trans}
+use Rattle.cycle_sim.proofs.LockstepTurns.{net_trans}
 use Rattle.slot_sim.specs.Slots.{IsThreadedIn}
 use Rattle.journal_replay.proofs.Entries.{none_said, some_said, few_cycles}
-use Rattle.journal_replay.proofs.Replaying.{AreSoFar, more_so_far, bad_entry, replayed}
+use Rattle.journal_replay.proofs.Replayed.{AreSoFar, more_so_far, bad_entry, replayed}
 use Rattle.journal_replay.proofs.replay.replay_on.Goals as goal
 
 pub redo-requires : goal.redo-requires

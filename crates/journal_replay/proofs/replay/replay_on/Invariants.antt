@@ -1,6 +1,6 @@
 use Rattle.std.proofs.Common.{◌≤◌, ◌*◌, take}
 use Rattle.sim_layout.specs.Running.{IsSameNet}
-use Rattle.journal_replay.proofs.Replaying.{AreSoFar}
+use Rattle.journal_replay.proofs.Replayed.{AreSoFar}
 use Rattle.journal_replay.proofs.replay.replay_on.Given as goal
 
 abbrev pub invariant-loop-number : goal.invariant-loop-number

@@ -1,10 +1,10 @@
 use Rattle.std.proofs.Common.{Bool, List, ◌∙◌, sym, subst}
 use Rattle.netlist.specs.declared.netlist.Module.{Module}
 use Rattle.sim_layout.specs.Rounds.{threads_of}
-use Rattle.cycle_sim.proofs.Turning.{net_trans}
+use Rattle.cycle_sim.proofs.LockstepTurns.{net_trans}
 use Rattle.slot_sim.specs.Slots.{IsThreadedIn, TellsNeed}
 use Rattle.journal_laws.proofs.Alike.{state_trans}
-use Rattle.journal_replay.proofs.Redoing.{other_bit, same_bit, need_differs, done_shown, may_told}
+use Rattle.journal_replay.proofs.RedoneEntries.{other_bit, same_bit, need_differs, done_shown, may_told}
 use Rattle.journal_replay.proofs.steps.may_step.Goals as goal
 
 pub returns-then-need-is_open-clause-may : goal.returns-then-need-is_open-clause-may

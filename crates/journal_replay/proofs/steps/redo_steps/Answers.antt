@@ -1,9 +1,9 @@
 use Rattle.std.proofs.Common.{List, sym, subst}
 use Rattle.netlist.specs.declared.netlist.Module.{Module}
 use Rattle.sim_layout.specs.Rounds.{threads_of}
-use Rattle.cycle_sim.proofs.Turning.{net_trans}
+use Rattle.cycle_sim.proofs.LockstepTurns.{net_trans}
 use Rattle.slot_sim.specs.Slots.{IsThreadedIn}
-use Rattle.journal_replay.proofs.Redoing.{done_more, cannot_more}
+use Rattle.journal_replay.proofs.RedoneEntries.{done_more, cannot_more}
 use Rattle.journal_replay.proofs.steps.redo_steps.Goals as goal
 
 pub may_step-requires-clause-threaded : goal.may_step-requires-clause-threaded

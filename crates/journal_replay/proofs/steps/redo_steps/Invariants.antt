@@ -1,5 +1,5 @@
 use Rattle.sim_layout.specs.Running.{IsSameNet}
-use Rattle.journal_replay.proofs.Redoing.{AreDone}
+use Rattle.journal_replay.proofs.RedoneEntries.{AreDone}
 use Rattle.journal_replay.proofs.steps.redo_steps.Given as goal
 
 abbrev pub invariant-loop-turn : goal.invariant-loop-turn

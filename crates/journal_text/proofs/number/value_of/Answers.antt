@@ -1,6 +1,6 @@
 use Rattle.std.proofs.Common.{arith, refl}
 use Rattle.std.proofs.lemmas.Grind.{common_steps}
-use Rattle.journal_text.proofs.Reading.{too_large}
+use Rattle.journal_text.proofs.ReadNumbers.{too_large}
 use Rattle.journal_text.proofs.number.value_of.Goals as goal
 
 pub returns-in-None : goal.returns-in-None

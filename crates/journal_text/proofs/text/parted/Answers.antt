@@ -1,5 +1,5 @@
 use Rattle.std.proofs.Common.{None, ◌+◌, refl, sym, ◌∙◌}
-use Rattle.journal_text.proofs.Parting.{so_far_none, so_far_more}
+use Rattle.journal_text.proofs.JournalLines.{so_far_none, so_far_more}
 use Rattle.journal_text.proofs.text.parted.Goals as goal
 
 pub loop-turn-init : goal.loop-turn-init

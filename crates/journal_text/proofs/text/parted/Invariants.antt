@@ -1,4 +1,4 @@
-use Rattle.journal_text.proofs.Parting.{IsSoFar}
+use Rattle.journal_text.proofs.JournalLines.{IsSoFar}
 use Rattle.journal_text.proofs.text.parted.Given as goal
 
 abbrev pub invariant-loop-turn : goal.invariant-loop-turn

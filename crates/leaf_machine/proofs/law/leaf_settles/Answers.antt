@@ -1,4 +1,4 @@
-use Rattle.leaf_machine.proofs.Settling.{same_early, settled_obeys, settled_agrees}
+use Rattle.leaf_machine.proofs.SettledLeaf.{same_early, settled_obeys, settled_agrees}
 use Rattle.leaf_machine.proofs.law.leaf_settles.Goals as goal
 
 pub returns : goal.returns

@@ -1,4 +1,4 @@
-use Rattle.module_sound.proofs.Sounding.{placed_is_sound}
+use Rattle.module_sound.proofs.SoundModule.{placed_is_sound}
 use Rattle.module_sound.proofs.law.placed_is_sound.Goals as goal
 
 pub returns : goal.returns

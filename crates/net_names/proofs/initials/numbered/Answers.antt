@@ -1,5 +1,5 @@
 use Rattle.std.proofs.Common.{◌∙◌, refl, arith}
-use Rattle.net_names.proofs.Numbering.{no_constant, next_constant}
+use Rattle.net_names.proofs.NumberTables.{no_constant, next_constant}
 use Rattle.net_names.proofs.initials.numbered.Goals as goal
 
 pub loop-number-init : goal.loop-number-init

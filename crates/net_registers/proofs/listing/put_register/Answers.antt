@@ -1,5 +1,5 @@
 use Rattle.std.proofs.Common.{arith}
-use Rattle.net_registers.proofs.Heading.{register_line_is}
+use Rattle.net_registers.proofs.HeadLines.{register_line_is}
 use Rattle.net_registers.proofs.listing.put_register.Goals as goal
 
 pub returns-clause-line : goal.returns-clause-line

@@ -1,5 +1,5 @@
 use Rattle.std.proofs.Common.{◌≡◌, ◌∙◌, ap, ℕ, List, [], ◌∷◌, ◌++◌, append_assoc, codes}
-use Rattle.net_registers.proofs.Heading.{scope_is}
+use Rattle.net_registers.proofs.HeadLines.{scope_is}
 use Rattle.net_registers.proofs.listing.put_scope.Goals as goal
 
 joined : (h a n b z : List ℕ) → ((h ++ a) ++ n) ++ (b ++ z) ≡ h ++ (((a ++ n) ++ b) ++ z)

@@ -1,7 +1,7 @@
 use Rattle.std.proofs.Common.{◌≡◌, ◌∙◌, ap, sym, subst, slice_get}
 use Rattle.sim_values.specs.Stands.{kind_of}
 use Rattle.net_registers.specs.Walks.{Enters}
-use Rattle.net_registers.proofs.Walking.{begun}
+use Rattle.net_registers.proofs.InstanceWalk.{begun}
 use Rattle.net_registers.proofs.walk.begin.Goals as goal
 
 pub returns-in_ok-enter-in-Some : goal.returns-in_ok-enter-in-Some

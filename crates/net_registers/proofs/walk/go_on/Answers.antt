@@ -2,7 +2,7 @@ use Rattle.std.proofs.Common.{◌≡◌, ◌∙◌, ◌+◌, ap, sym, subst, sli
 use Rattle.sim_values.specs.Stands.{kind_of, children_of}
 use Rattle.sim_values.specs.Tree.{instances_of}
 use Rattle.net_registers.specs.Walks.{EntersSome}
-use Rattle.net_registers.proofs.Walking.{popped, kind_is, left, went}
+use Rattle.net_registers.proofs.InstanceWalk.{popped, kind_is, left, went}
 use Rattle.net_registers.proofs.walk.go_on.Goals as goal
 
 pub returns-in_ok-leave-in-None : goal.returns-in_ok-leave-in-None

@@ -1,5 +1,5 @@
 use Rattle.std.proofs.Common.{◌≡◌, length, add-one, arith}
-use Rattle.op_graph.proofs.Appending.{one_step}
+use Rattle.op_graph.proofs.AppendedRows.{one_step}
 use Rattle.op_graph.proofs.reduced.put_arrays.Goals as goal
 
 pub loop-j-preserved : goal.loop-j-preserved

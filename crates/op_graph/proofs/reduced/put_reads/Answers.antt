@@ -1,5 +1,5 @@
 use Rattle.std.proofs.Common.{◌≡◌, length, add-one, arith}
-use Rattle.op_graph.proofs.Appending.{one_step}
+use Rattle.op_graph.proofs.AppendedRows.{one_step}
 use Rattle.op_graph.proofs.reduced.put_reads.Goals as goal
 
 pub loop-behind-preserved : goal.loop-behind-preserved

@@ -1,7 +1,7 @@
 use Rattle.std.proofs.Common.{◌≡◌, ◌++◌, ℕ, Option, suc, ap, ◌∙◌, add-one}
 use Rattle.op_graph.specs.Listed.{order_rows, gap_rows, order_gap}
 use Rattle.op_graph.specs.Graph.{kind_at}
-use Rattle.op_graph.proofs.Appending.{one_step}
+use Rattle.op_graph.proofs.AppendedRows.{one_step}
 use Rattle.op_graph.proofs.table.put_orders_into.Goals as goal
 
 pub loop-i-preserved : goal.loop-i-preserved

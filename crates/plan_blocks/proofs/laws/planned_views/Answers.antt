@@ -1,6 +1,6 @@
 -- The laws stand in proofs/Running and proofs/Ordering.
-use Rattle.plan_blocks.proofs.Ordering.{view_ordered}
-use Rattle.plan_blocks.proofs.Running.{runs_alike, size-view}
+use Rattle.plan_blocks.proofs.OrderedView.{view_ordered}
+use Rattle.plan_blocks.proofs.ViewRuns.{runs_alike, size-view}
 use Rattle.plan_blocks.proofs.laws.planned_views.Goals as goal
 
 pub returns-clause-view_runs : goal.returns-clause-view_runs

@@ -1,5 +1,5 @@
 use Rattle.plan_conditions.proofs.Stages.{right_plans_are_there}
-use Rattle.plan_conditions.proofs.Waiting.{works_from_registers}
+use Rattle.plan_conditions.proofs.RegisterOperands.{works_from_registers}
 use Rattle.plan_conditions.proofs.law.right_plans.Goals as goal
 
 pub returns-clause-works_from_registers : goal.returns-clause-works_from_registers

@@ -4,7 +4,7 @@ use Rattle.planned_block.proofs.Tables.{keeps_orders, packed, sequential_meets, 
 use Rattle.planned_block.proofs.Total.{advance_is, is_closed_alone}
 use Rattle.planned_block.proofs.Examples.{run_reads_and_writes, stalls_twice, sequential_rows}
 use Rattle.planned_block.proofs.Budget.{followers_are_lowered}
-use Rattle.planned_block.proofs.Chaining.{are_planned, is_chain, somebody_moves, moves_change, planned_runs}
+use Rattle.planned_block.proofs.CycleChain.{are_planned, is_chain, somebody_moves, moves_change, planned_runs}
 use Rattle.planned_block.proofs.laws.planned_blocks.Goals as goal
 
 pub returns-clause-block_cycles : goal.returns-clause-block_cycles

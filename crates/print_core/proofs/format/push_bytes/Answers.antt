@@ -1,5 +1,5 @@
 use Rattle.std.proofs.lemmas.Option.{slice_get-get_or}
-use Rattle.print_core.proofs.Spelling.{bytes_grow, printable_at}
+use Rattle.print_core.proofs.SiteStrings.{bytes_grow, printable_at}
 use Rattle.print_core.proofs.format.push_bytes.Goals as goal
 
 pub push_byte-requires : goal.push_byte-requires

@@ -1,6 +1,6 @@
 use Rattle.std.proofs.Common.{Some, sym, ap, ◌∙◌}
 use Rattle.std.proofs.lemmas.Option.{slice_get-get_or}
-use Rattle.print_core.proofs.Spelling.{parts_grow, all-quoted}
+use Rattle.print_core.proofs.SiteStrings.{parts_grow, all-quoted}
 use Rattle.print_core.proofs.format.string.Goals as goal
 
 pub loop-i-preserved : goal.loop-i-preserved

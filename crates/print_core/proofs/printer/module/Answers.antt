@@ -4,8 +4,8 @@ use Rattle.circuit.specs.Machines.{IsCore}
 use Rattle.circuit.proofs.Growth.{of_ok}
 use Rattle.print_core.specs.Printer.{IsPrinter}
 use Rattle.print_core.specs.Machine.{printer_machine, printer_places, inputs, input_widths, output_widths, is_late}
-use Rattle.print_core.proofs.Printing.{printer_core, printer_leaf}
-use Rattle.print_core.proofs.Standing.{printer_stands}
+use Rattle.print_core.proofs.PrinterTable.{printer_core, printer_leaf}
+use Rattle.print_core.proofs.PrinterStands.{printer_stands}
 use Rattle.print_core.proofs.printer.module.Goals as goal
 
 pub returns : goal.returns

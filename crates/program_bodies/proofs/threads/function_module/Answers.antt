@@ -3,7 +3,7 @@ use Rattle.c_program.specs.Plain.{program_of}
 use Rattle.program_modules.specs.Numbers.{module_name}
 use Rattle.program_plans.specs.Plans.{routine_of}
 use Rattle.program_bodies.specs.Bodies.{shape_of}
-use Rattle.program_bodies.proofs.Laying.{laid_for}
+use Rattle.program_bodies.proofs.LaidModules.{laid_for}
 use Rattle.program_bodies.proofs.threads.function_module.Goals as goal
 
 pub returns : goal.returns

@@ -4,7 +4,7 @@ use Rattle.c_program.specs.Plain.{program_of}
 use Rattle.netlist.specs.declared.netlist.Module.{Module}
 use Rattle.program_plans.specs.Plans.{routine_of}
 use Rattle.program_bodies.specs.Modules.{AreLaid}
-use Rattle.program_bodies.proofs.Laying.{none_laid, one_more, function_named, laid_at_place}
+use Rattle.program_bodies.proofs.LaidModules.{none_laid, one_more, function_named, laid_at_place}
 use Rattle.program_bodies.proofs.threads.function_modules.Goals as goal
 
 pub loop-k-init : goal.loop-k-init

@@ -2,7 +2,7 @@ use Rattle.std.proofs.Common.{false, codes, subst}
 use Rattle.c_program.specs.Plain.{program_of}
 use Rattle.block_refine.specs.Routines.{RoutineCode}
 use Rattle.program_bodies.specs.Bodies.{shape_of, IsLaid}
-use Rattle.program_bodies.proofs.Laying.{code_of, empty_code, laid_for}
+use Rattle.program_bodies.proofs.LaidModules.{code_of, empty_code, laid_for}
 use Rattle.program_bodies.proofs.threads.idle_module.Goals as goal
 
 pub returns : goal.returns

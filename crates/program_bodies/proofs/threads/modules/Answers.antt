@@ -6,7 +6,7 @@ use Rattle.netlist.specs.declared.netlist.Module.{Module}
 use Rattle.program_modules.specs.Numbers.{has_idle}
 use Rattle.program_plans.specs.Plans.{routine_of}
 use Rattle.program_bodies.specs.Modules.{AreLaid}
-use Rattle.program_bodies.proofs.Laying.{as_many, without_idle, with_idle, finished}
+use Rattle.program_bodies.proofs.LaidModules.{as_many, without_idle, with_idle, finished}
 use Rattle.program_bodies.proofs.threads.modules.Goals as goal
 
 pub returns-then-not-has_idle-clause-laid : goal.returns-then-not-has_idle-clause-laid

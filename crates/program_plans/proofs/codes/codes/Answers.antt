@@ -4,7 +4,7 @@ use Rattle.std.proofs.lemmas.List.Elements.{Contains-get_or}
 use Rattle.c_program.specs.Plain.{program_of}
 use Rattle.code_merge.specs.Maximal.{IsMaximal}
 use Rattle.program_plans.specs.Steps.{AreCodes}
-use Rattle.program_plans.proofs.Following.{codes_next, codes_whole}
+use Rattle.program_plans.proofs.CodesInOrder.{codes_next, codes_whole}
 use Rattle.program_plans.proofs.codes.codes.Goals as goal
 
 pub loop-function-init : goal.loop-function-init

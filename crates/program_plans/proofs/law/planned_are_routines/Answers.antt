@@ -1,4 +1,4 @@
-use Rattle.program_plans.proofs.Planning.{planned_are_routines}
+use Rattle.program_plans.proofs.PlansInOrder.{planned_are_routines}
 use Rattle.program_plans.proofs.law.planned_are_routines.Goals as goal
 
 pub returns : goal.returns

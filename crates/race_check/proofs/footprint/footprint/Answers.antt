@@ -5,7 +5,7 @@ use Rattle.c_state.specs.View.{state_of}
 use Rattle.c_step_parts.specs.Planned.{IsPlan}
 use Rattle.race_check.specs.Access.{touches_of}
 use Rattle.race_check.specs.Reads.{MoveAdds}
-use Rattle.race_check.proofs.Touching.{footprint_idle, footprint_taken}
+use Rattle.race_check.proofs.StepTouches.{footprint_idle, footprint_taken}
 use Rattle.race_check.proofs.footprint.footprint.Goals as goal
 
 pub returns-then-not-may_touch : goal.returns-then-not-may_touch

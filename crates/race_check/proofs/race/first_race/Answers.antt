@@ -1,6 +1,6 @@
 use Rattle.std.proofs.Common.{◌≤◌, length, arith, subst}
 use Rattle.race_check.specs.First.{row, FirstWith}
-use Rattle.race_check.proofs.Racing.{first_found, none_below_more, none_below_all}
+use Rattle.race_check.proofs.FirstRace.{first_found, none_below_more, none_below_all}
 use Rattle.race_check.proofs.race.first_race.Goals as goal
 
 pub returns-in-Some : goal.returns-in-Some

@@ -4,7 +4,7 @@ use Rattle.c_program.specs.Plain.{program_of}
 use Rattle.thread_semantics.specs.Races.{footprint}
 use Rattle.c_state.specs.View.{state_of}
 use Rattle.race_check.specs.First.{row}
-use Rattle.race_check.proofs.Racing.{footprints_more, footprints_all}
+use Rattle.race_check.proofs.FirstRace.{footprints_more, footprints_all}
 use Rattle.race_check.proofs.race.footprints.Goals as goal
 
 pub loop-thread-preserved : goal.loop-thread-preserved

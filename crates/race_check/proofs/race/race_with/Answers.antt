@@ -2,7 +2,7 @@ use Rattle.std.proofs.Common.{◌≤◌, length, arith}
 use Rattle.race_check.specs.Access.{touches_of}
 use Rattle.race_check.specs.First.{row}
 use Rattle.race_check.proofs.Least.{none_here}
-use Rattle.race_check.proofs.Racing.{none_with_more, none_with_all}
+use Rattle.race_check.proofs.FirstRace.{none_with_more, none_with_all}
 use Rattle.race_check.proofs.race.race_with.Goals as goal
 
 pub loop-second-preserved : goal.loop-second-preserved

@@ -2,7 +2,7 @@ use Rattle.std.proofs.Common.{sym, subst}
 use Rattle.c_program.specs.Plain.{program_of}
 use Rattle.c_state.specs.View.{state_of}
 use Rattle.race_check.specs.First.{row, AreFootprints}
-use Rattle.race_check.proofs.Racing.{first_race_is}
+use Rattle.race_check.proofs.FirstRace.{first_race_is}
 use Rattle.race_check.proofs.race.races.Goals as goal
 
 pub returns : goal.returns

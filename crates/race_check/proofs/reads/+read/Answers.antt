@@ -6,7 +6,7 @@ use Rattle.thread_semantics.specs.Value.{value}
 use Rattle.c_evaluation.specs.Outcome.{memory_of}
 use Rattle.race_check.specs.Access.{touches_of}
 use Rattle.race_check.specs.Reads.{Adds}
-use Rattle.race_check.proofs.Adding.{adds_same}
+use Rattle.race_check.proofs.AddedReads.{adds_same}
 use Rattle.race_check.proofs.reads.+read.Goals as goal
 
 pub returns-in_ok-read-in-Element : goal.returns-in_ok-read-in-Element

@@ -5,7 +5,7 @@ use Rattle.c_evaluation.specs.Outcome.{memory_of}
 use Rattle.c_evaluation.proofs.Outcomes.{drop-item}
 use Rattle.race_check.specs.Access.{touches_of}
 use Rattle.race_check.specs.Reads.{Adds}
-use Rattle.race_check.proofs.Adding.{values_adds}
+use Rattle.race_check.proofs.AddedReads.{values_adds}
 use Rattle.race_check.proofs.reads.read_all.Goals as goal
 
 pub loop-expression-preserved : goal.loop-expression-preserved

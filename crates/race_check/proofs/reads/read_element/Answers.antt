@@ -3,7 +3,7 @@ use Rattle.std.proofs.lemmas.Result.{IfOk-weaker}
 use Rattle.c_program.specs.Plain.{expression_of}
 use Rattle.c_evaluation.specs.Outcome.{memory_of}
 use Rattle.race_check.specs.Access.{touches_of}
-use Rattle.race_check.proofs.Adding.{indexed_ok, indexed_err}
+use Rattle.race_check.proofs.AddedReads.{indexed_ok, indexed_err}
 use Rattle.race_check.proofs.reads.read_element.Goals as goal
 
 pub returns-in-Ok : goal.returns-in-Ok

@@ -2,7 +2,7 @@ use Rattle.std.proofs.Common.{◌≡◌, length, arith, sym, ◌∙◌}
 use Rattle.interval_pack.specs.Sparse.{IsSparsePacking}
 use Rattle.register_binding.specs.Used.{is_used_at_end}
 use Rattle.register_binding.specs.Steps.{AreLives, AreRows}
-use Rattle.register_binding.proofs.Binding.{lives_alike, are_registers, registers_below, are_crowded}
+use Rattle.register_binding.proofs.BoundLives.{lives_alike, are_registers, registers_below, are_crowded}
 use Rattle.register_binding.proofs.bind.bind_registers.Goals as goal
 
 pub lives_of-requires-clause-at_end : goal.lives_of-requires-clause-at_end

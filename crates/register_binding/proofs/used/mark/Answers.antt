@@ -1,7 +1,7 @@
 use Rattle.std.proofs.Common.{◌<◌, ◌≤◌, ap, arith, refl, length}
 use Rattle.block_ir.specs.declared.operand.Source.{Source}
 use Rattle.register_binding.specs.Used.{is_value}
-use Rattle.register_binding.proofs.Marking.{nothing_used, mark_one, past_marked}
+use Rattle.register_binding.proofs.ListMarks.{nothing_used, mark_one, past_marked}
 use Rattle.register_binding.proofs.used.mark.Goals as goal
 
 pub returns-in-Constant : goal.returns-in-Constant

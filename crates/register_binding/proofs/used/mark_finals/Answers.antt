@@ -1,6 +1,6 @@
 use Rattle.std.proofs.Common.{arith, length, refl}
 use Rattle.std.proofs.lemmas.Option.{slice_get_read}
-use Rattle.register_binding.proofs.Marking.{finals_marked, all_finals, nothing_used}
+use Rattle.register_binding.proofs.ListMarks.{finals_marked, all_finals, nothing_used}
 use Rattle.register_binding.proofs.used.mark_finals.Goals as goal
 
 pub loop-finish-init : goal.loop-finish-init

@@ -1,6 +1,6 @@
 use Rattle.std.proofs.Common.{◌≡◌, false, replicate, rules}
 use Rattle.register_binding.specs.Used.{IsMarked, any_final}
-use Rattle.register_binding.proofs.Marking.{used_at_end}
+use Rattle.register_binding.proofs.ListMarks.{used_at_end}
 use Rattle.register_binding.proofs.used.used_at_end.Goals as goal
 
 pub returns : goal.returns

@@ -1,4 +1,4 @@
-use Rattle.run_command.proofs.Counting.{are_its_choices}
+use Rattle.run_command.proofs.CycleCount.{are_its_choices}
 use Rattle.run_command.proofs.count.counts_choices.Goals as goal
 
 pub returns : goal.returns

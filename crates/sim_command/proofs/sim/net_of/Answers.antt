@@ -1,6 +1,6 @@
 use Rattle.std.proofs.Common.{sym, subst}
 use Rattle.sim_command.specs.Simulated.{Fails}
-use Rattle.sim_command.proofs.Running.{fails}
+use Rattle.sim_command.proofs.TextRun.{fails}
 use Rattle.sim_command.proofs.sim.net_of.Goals as goal
 
 pub returns-in-Err-clause-fails : goal.returns-in-Err-clause-fails

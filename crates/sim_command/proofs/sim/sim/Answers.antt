@@ -1,8 +1,8 @@
 use Rattle.std.proofs.Common.{ap, sym, ◌∙◌, subst}
 use Rattle.netlist.specs.declared.netlist.Netlist.{Netlist}
 use Rattle.cycle_sim.specs.Opened.{IsOpenable}
-use Rattle.sim_command.proofs.Opening.{openable}
-use Rattle.sim_command.proofs.Running.{runs}
+use Rattle.sim_command.proofs.OpenedNet.{openable}
+use Rattle.sim_command.proofs.TextRun.{runs}
 use Rattle.sim_command.proofs.sim.sim.Goals as goal
 
 pub run_net-requires : goal.run_net-requires

@@ -1,5 +1,5 @@
 use Rattle.std.proofs.Common.{arith}
-use Rattle.sim_events.proofs.Settling.{keeping_put}
+use Rattle.sim_events.proofs.PendingSteps.{keeping_put}
 use Rattle.sim_events.proofs.pending.put.Goals as goal
 
 pub returns-then-place-numbers-clause-keeping : goal.returns-then-place-numbers-clause-keeping

@@ -1,7 +1,7 @@
 use Rattle.std.proofs.Common.{◌≡◌, ◌∙◌, Bool, List, false, ap, sym, arith}
 use Rattle.std.specs.Prelude.{slice_index_or}
 use Rattle.sim_layout.specs.Running.{choice_of}
-use Rattle.sim_events.proofs.Settling.{settling_none, settling_skip, settling_all}
+use Rattle.sim_events.proofs.PendingSteps.{settling_none, settling_skip, settling_all}
 use Rattle.sim_events.proofs.pending.settle_again.Goals as goal
 use Rattle.sim_events.proofs.pending.settle_again.Goals.{then-is_due, else-is_due}
 

@@ -3,7 +3,7 @@ use Rattle.std.proofs.Math.ListN.{length-set}
 use Rattle.sim_values.specs.declared.settle.Step.{Step}
 use Rattle.sim_layout.specs.Running.{choice_of}
 use Rattle.sim_events.specs.Events.{IsSettling}
-use Rattle.sim_events.proofs.Settling.{each_at, settling_same, settling_changed}
+use Rattle.sim_events.proofs.PendingSteps.{each_at, settling_same, settling_changed}
 use Rattle.sim_events.proofs.pending.take.Goals as goal
 
 pub returns-then-changes-clause-settling : goal.returns-then-changes-clause-settling

@@ -2,7 +2,7 @@ use Rattle.std.proofs.Common.{◌∙◌, ap, length, arith}
 use Rattle.std.specs.Prelude.{slice_index}
 use Rattle.std.proofs.lemmas.List.{ext_get_or}
 use Rattle.std.proofs.Math.ListN.{length-set}
-use Rattle.sim_events.proofs.Taking.{same_next, same_still}
+use Rattle.sim_events.proofs.TakenNumbers.{same_next, same_still}
 use Rattle.sim_events.proofs.pending.take_over.Goals as goal
 use Rattle.sim_events.proofs.pending.take_over.Goals.{then-is_other, else-is_other}
 

@@ -3,7 +3,7 @@ use Rattle.std.proofs.lemmas.Option.{slice_get-get_or}
 use Rattle.sim_values.specs.declared.settle.Step.{Step}
 use Rattle.sim_values.specs.declared.settle.Feed.TheVariants.{Zero}
 use Rattle.sim_layout.specs.Leads.{Leads, AreInRoom}
-use Rattle.sim_layout.proofs.Leading.{found_step, apart_more}
+use Rattle.sim_layout.proofs.LeadSearch.{found_step, apart_more}
 use Rattle.sim_layout.proofs.loops.is_found.Goals as goal
 
 pub returns-then-is_back-clause-found : goal.returns-then-is_back-clause-found

@@ -4,7 +4,7 @@ use Rattle.std.proofs.lemmas.Option.{slice_get-get_or}
 use Rattle.sim_values.specs.declared.settle.Step.{Step}
 use Rattle.sim_values.specs.declared.settle.Feed.TheVariants.{Zero}
 use Rattle.sim_layout.specs.Leads.{AreInRoom}
-use Rattle.sim_layout.proofs.Leading.{search_more}
+use Rattle.sim_layout.proofs.LeadSearch.{search_more}
 use Rattle.sim_layout.proofs.loops.look.Goals as goal
 
 pub returns-clause-search : goal.returns-clause-search

@@ -1,5 +1,5 @@
 use Rattle.std.proofs.Common.{arith}
-use Rattle.sim_layout.proofs.Growing.{grown_held}
+use Rattle.sim_layout.proofs.OrderGrowth.{grown_held}
 use Rattle.sim_layout.proofs.order.grow.Goals as goal
 
 pub returns-then-place-len-clause-held : goal.returns-then-place-len-clause-held

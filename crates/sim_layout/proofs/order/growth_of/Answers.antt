@@ -1,4 +1,4 @@
-use Rattle.sim_layout.proofs.Growing.{grown_none}
+use Rattle.sim_layout.proofs.OrderGrowth.{grown_none}
 use Rattle.sim_layout.proofs.order.growth_of.Goals as goal
 
 pub returns : goal.returns

@@ -6,7 +6,7 @@ use Rattle.sim_layout.specs.declared.order.Growth.{Growth}
 use Rattle.sim_values.specs.Flat.{EachOf}
 use Rattle.sim_values.specs.Order.{reads, IsMarked}
 use Rattle.sim_layout.specs.Growing.{IsUnmet}
-use Rattle.sim_layout.proofs.Growing.{grown_blocked, grown_taken}
+use Rattle.sim_layout.proofs.OrderGrowth.{grown_blocked, grown_taken}
 use Rattle.sim_layout.proofs.order.look.Goals as goal
 
 pub returns-in_ok-wait_for-in-Some : goal.returns-in_ok-wait_for-in-Some

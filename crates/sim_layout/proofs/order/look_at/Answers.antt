@@ -1,6 +1,6 @@
 use Rattle.std.proofs.Common.{◌≡◌, ℕ, Some, slice_get, sym, ap, ◌∙◌, arith}
 use Rattle.std.proofs.lemmas.Option.{slice_get-get_or}
-use Rattle.sim_layout.proofs.Growing.{grown_past}
+use Rattle.sim_layout.proofs.OrderGrowth.{grown_past}
 use Rattle.sim_layout.proofs.order.look_at.Goals as goal
 
 pub look-requires-clause-growing : goal.look-requires-clause-growing

@@ -1,5 +1,5 @@
 use Rattle.std.proofs.Common.{sym, ◌∙◌, arith}
-use Rattle.sim_layout.proofs.Growing.{unmet_index}
+use Rattle.sim_layout.proofs.OrderGrowth.{unmet_index}
 use Rattle.sim_layout.proofs.order.unmet_among.Goals as goal
 
 pub returns-then-not-is_marked : goal.returns-then-not-is_marked

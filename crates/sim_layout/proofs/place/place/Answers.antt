@@ -2,7 +2,7 @@ use Rattle.std.proofs.Common.{◌≡◌, ℕ, List, Bool, Some, ◌++◌, ◌∷
 use Rattle.std.proofs.lemmas.Option.{slice_get-get_or}
 use Rattle.sim_values.specs.declared.edge.Part.{Part}
 use Rattle.sim_layout.specs.Placed.{numbers_of, frees_of, starts_of, words_of, IsPlaced}
-use Rattle.sim_layout.proofs.Placing.{placed_more}
+use Rattle.sim_layout.proofs.PlacedInstances.{placed_more}
 use Rattle.sim_layout.proofs.place.place.Goals as goal
 
 pub loop-number-preserved : goal.loop-number-preserved

@@ -2,7 +2,7 @@ use Rattle.std.proofs.Common.{refl, arith, slice_index_or}
 use Rattle.std.proofs.lemmas.Option.{slice_get-get_or}
 use Rattle.sim_values.specs.declared.settle.Step.{Step}
 use Rattle.sim_values.specs.declared.settle.Feed.TheVariants.{Zero}
-use Rattle.sim_layout.proofs.Ranking.{ranked_more}
+use Rattle.sim_layout.proofs.WordRanks.{ranked_more}
 use Rattle.sim_layout.proofs.suspects.all_suspects.Goals as goal
 
 pub loop-number-preserved : goal.loop-number-preserved

@@ -1,6 +1,6 @@
 use Rattle.std.proofs.Common.{sym, ◌∙◌}
 use Rattle.sim_values.specs.Order.{reads}
-use Rattle.sim_layout.proofs.Ranking.{up_to_all}
+use Rattle.sim_layout.proofs.WordRanks.{up_to_all}
 use Rattle.sim_layout.proofs.suspects.highest.Goals as goal
 
 pub returns-in-None : goal.returns-in-None

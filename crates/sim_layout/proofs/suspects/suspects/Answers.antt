@@ -2,7 +2,7 @@ use Rattle.std.proofs.Common.{sym, subst, refl, arith}
 use Rattle.std.specs.Prelude.{drop, length}
 use Rattle.std.proofs.lemmas.List.{take_at}
 use Rattle.sim_layout.specs.Ranks.{AreSuspects}
-use Rattle.sim_layout.proofs.Ranking.{suspects_ranked}
+use Rattle.sim_layout.proofs.WordRanks.{suspects_ranked}
 use Rattle.sim_layout.proofs.suspects.suspects.Goals as goal
 
 pub returns-then-all_suspects-clause-marked : goal.returns-then-all_suspects-clause-marked

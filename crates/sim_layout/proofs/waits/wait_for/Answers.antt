@@ -1,6 +1,6 @@
 use Rattle.std.proofs.Common.{◌≡◌, Some, None, ap, ◌∙◌, arith, length, slice_set, slice_index_or}
 use Rattle.sim_layout.specs.declared.waits.Wait.{Wait}
-use Rattle.sim_layout.proofs.Waiting.{waits_more, waits_keep}
+use Rattle.sim_layout.proofs.WaitChains.{waits_more, waits_keep}
 use Rattle.sim_layout.proofs.waits.wait_for.Goals as goal
 
 pub returns-in_ok-push-clause-waits : goal.returns-in_ok-push-clause-waits

@@ -1,7 +1,7 @@
 use Rattle.std.proofs.Common.{◌≡◌, None, Some, ◌∷◌, ◌++◌, [], ap, sym, ◌∙◌, subst, arith, length, option_and_then, slice_get, slice_index_or}
 use Rattle.std.proofs.lemmas.List.{length-append}
 use Rattle.sim_values.proofs.Orders.{get_more}
-use Rattle.sim_layout.proofs.Waiting.{passed_more, passed_all, kept_more}
+use Rattle.sim_layout.proofs.WaitChains.{passed_more, passed_all, kept_more}
 use Rattle.sim_layout.proofs.waits.wake.Goals as goal
 
 pub returns-in-None-clause-woken : goal.returns-in-None-clause-woken

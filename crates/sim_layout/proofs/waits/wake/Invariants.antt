@@ -1,6 +1,6 @@
 use Rattle.std.proofs.Common.{◌≡◌, ◌≤◌, ℕ, Some, None, length, slice_get, slice_index_or}
 use Rattle.sim_layout.specs.Waits.{IsListed}
-use Rattle.sim_layout.proofs.Waiting.{IsPassed}
+use Rattle.sim_layout.proofs.WaitChains.{IsPassed}
 use Rattle.sim_layout.proofs.waits.wake.Given as goal
 
 abbrev pub invariant-loop-turn : goal.invariant-loop-turn

@@ -1,6 +1,6 @@
 use Rattle.std.proofs.Common.{◌-◌, length, refl, arith}
 use Rattle.std.specs.Prelude.{slice_get, string_bytes}
-use Rattle.sim_loops.proofs.Putting.{put_none, put_next, put_all}
+use Rattle.sim_loops.proofs.PathText.{put_none, put_next, put_all}
 use Rattle.sim_loops.proofs.dotted.put_path.Goals as goal
 
 pub loop-done-init : goal.loop-done-init

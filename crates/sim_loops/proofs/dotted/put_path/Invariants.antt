@@ -1,6 +1,6 @@
 use Rattle.std.specs.Prelude.{◌≡◌, Some, slice_get, string_bytes}
 use Rattle.netlist.specs.declared.netlist.Module.{Module}
-use Rattle.sim_loops.proofs.Putting.{IsPut, last}
+use Rattle.sim_loops.proofs.PathText.{IsPut, last}
 use Rattle.sim_loops.proofs.dotted.put_path.Given as goal
 
 abbrev pub invariant-loop-done : goal.invariant-loop-done

@@ -8,7 +8,7 @@ use Rattle.sim_layout.specs.Wires.{signals_of, AreWires}
 use Rattle.verilog_meaning.specs.Cycles.{Path}
 use Rattle.sim_values.specs.Tree.{place_in}
 use Rattle.sim_loops.specs.Search.{IsNested}
-use Rattle.sim_loops.proofs.Looking.{room, within, looped, no_loops}
+use Rattle.sim_loops.proofs.FirstLoop.{room, within, looped, no_loops}
 use Rattle.sim_loops.proofs.find.first_looped.Goals as goal
 
 pub first_site-requires-clause-room : goal.first_site-requires-clause-room

@@ -1,6 +1,6 @@
 use Rattle.std.proofs.Common.{◌≡◌, ℕ, ◌+◌, ◌-◌, List, sym, subst, arith}
 use Rattle.std.specs.Prelude.{slice_index}
-use Rattle.sim_loops.proofs.Nesting.{AreLeft, left_none, left_more}
+use Rattle.sim_loops.proofs.InstancePath.{AreLeft, left_none, left_more}
 use Rattle.sim_loops.proofs.find.path_of.Goals as goal
 
 pub returns-in-None : goal.returns-in-None

@@ -1,6 +1,6 @@
 use Rattle.std.proofs.Common.{◌≤◌, length}
 use Rattle.sim_loops.specs.Search.{AreBehind}
-use Rattle.sim_loops.proofs.Nesting.{AreLeft}
+use Rattle.sim_loops.proofs.InstancePath.{AreLeft}
 use Rattle.sim_loops.proofs.find.path_of.Given as goal
 
 abbrev pub invariant-loop-turn : goal.invariant-loop-turn

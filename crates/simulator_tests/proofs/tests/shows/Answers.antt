@@ -1,5 +1,5 @@
 use Rattle.std.proofs.Common.{arith}
-use Rattle.cycle_sim.proofs.Turning.{net_refl, fits_all, fits_round}
+use Rattle.cycle_sim.proofs.LockstepTurns.{net_refl, fits_all, fits_round}
 use Rattle.simulator_tests.proofs.tests.shows.Goals as goal
 
 pub cycle-requires : goal.cycle-requires

@@ -1,5 +1,5 @@
 use Rattle.std.proofs.Common.{List, ℕ, ◌++◌, ◌∷◌, [], ap, ◌∙◌, arith}
-use Rattle.slot_sim.proofs.Collecting.{collected_one, collected_more}
+use Rattle.slot_sim.proofs.CollectedParts.{collected_one, collected_more}
 use Rattle.slot_sim.proofs.members.collected.Goals as goal
 
 pub loop-number-init : goal.loop-number-init

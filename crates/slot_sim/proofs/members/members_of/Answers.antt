@@ -2,7 +2,7 @@ use Rattle.std.proofs.Common.{List, length, subst}
 use Rattle.netlist.specs.declared.netlist.Module.{Module}
 use Rattle.sim_values.specs.declared.edge.Part.{Part}
 use Rattle.slot_sim.specs.Members.{AreCollected}
-use Rattle.slot_sim.proofs.Collecting.{members_are, if_ok_of}
+use Rattle.slot_sim.proofs.CollectedParts.{members_are, if_ok_of}
 use Rattle.slot_sim.proofs.members.members_of.Goals as goal
 
 pub returns : goal.returns

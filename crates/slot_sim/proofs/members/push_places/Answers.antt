@@ -1,4 +1,4 @@
-use Rattle.slot_sim.proofs.Collecting.{pushed}
+use Rattle.slot_sim.proofs.CollectedParts.{pushed}
 use Rattle.slot_sim.proofs.members.push_places.Goals as goal
 
 pub loop-number-preserved : goal.loop-number-preserved

@@ -1,6 +1,6 @@
 use Rattle.std.proofs.Common.{◌≡◌, ◌∷◌, [], length, slice_get, Some, ap, sym, ◌∙◌, arith, length-append}
 use Rattle.std.proofs.lemmas.Option.{slice_get-get_or}
-use Rattle.slot_sim.proofs.Keeping.{copies_more}
+use Rattle.slot_sim.proofs.ThreadsStand.{copies_more}
 use Rattle.slot_sim.proofs.running.copied_slots.Goals as goal
 
 pub loop-number-preserved : goal.loop-number-preserved

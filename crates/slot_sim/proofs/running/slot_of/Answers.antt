@@ -1,6 +1,6 @@
 use Rattle.std.proofs.Common.{Some, ap, sym, ◌∙◌, arith}
 use Rattle.std.proofs.lemmas.Option.{slice_get-get_or}
-use Rattle.slot_sim.proofs.Keeping.{slot_here, slot_fits}
+use Rattle.slot_sim.proofs.ThreadsStand.{slot_here, slot_fits}
 use Rattle.slot_sim.proofs.running.slot_of.Goals as goal
 
 pub returns-clause-fits : goal.returns-clause-fits

@@ -1,6 +1,6 @@
 use Rattle.std.proofs.Common.{◌≡◌, List, ◌∷◌, [], length, slice_get, Some, ap, sym, ◌∙◌, arith, length-append}
 use Rattle.slot_sim.specs.declared.slot.Slot.{Slot}
-use Rattle.slot_sim.proofs.Keeping.{slots_more, thread_of}
+use Rattle.slot_sim.proofs.ThreadsStand.{slots_more, thread_of}
 use Rattle.slot_sim.proofs.running.slots_of.Goals as goal
 
 pub open-requires-clause-has : goal.open-requires-clause-has

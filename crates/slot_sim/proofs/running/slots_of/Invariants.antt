@@ -1,5 +1,5 @@
 use Rattle.std.proofs.Common.{◌≡◌, length}
-use Rattle.slot_sim.proofs.Keeping.{AreFirst}
+use Rattle.slot_sim.proofs.ThreadsStand.{AreFirst}
 use Rattle.slot_sim.proofs.running.slots_of.Given as goal
 
 abbrev pub invariant-loop-thread : goal.invariant-loop-thread

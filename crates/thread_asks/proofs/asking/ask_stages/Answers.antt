@@ -1,7 +1,7 @@
 use Rattle.std.proofs.Common.{◌≡◌, ℕ, length, ap, subst, arith}
-use Rattle.operator_wires.proofs.Making.{of_two}
+use Rattle.operator_wires.proofs.MadeWords.{of_two}
 use Rattle.block_datapath.specs.Chains.{TellsStage}
-use Rattle.block_datapath.proofs.Walking.{item_is}
+use Rattle.block_datapath.proofs.OperationValues.{item_is}
 use Rattle.thread_asks.specs.Asking.{AsksFirst, AsksAllWired}
 use Rattle.thread_asks.proofs.Asks.{asks_none, asks_more, asks_all}
 use Rattle.thread_slots.proofs.Taken.{Told}

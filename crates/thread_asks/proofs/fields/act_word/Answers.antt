@@ -1,13 +1,13 @@
 use Rattle.std.proofs.Common.{List, sym, subst, to_z, of_z}
 use Rattle.hls_ints.specs.Types.{IntegerType}
 use Rattle.operator_wires.specs.Built.{Base, AddsWord}
-use Rattle.operator_wires.proofs.Making.{of_ok}
+use Rattle.operator_wires.proofs.MadeWords.{of_ok}
 use Rattle.block_datapath.specs.Wired.{AreRegisters}
 use Rattle.thread_slots.specs.Wired.{AreSlots}
 use Rattle.thread_slots.proofs.Between.{registers_of}
 use mir.Syntax.{w128}
 use Rattle.std.proofs.lemmas.Int.{to_z-of_z}
-use Rattle.block_datapath.proofs.Seeing.{fits_typed}
+use Rattle.block_datapath.proofs.OperandWords.{fits_typed}
 use Rattle.thread_asks.proofs.FieldValues.{constant_act, variable_act}
 use Rattle.thread_asks.proofs.fields.act_word.Goals as goal
 

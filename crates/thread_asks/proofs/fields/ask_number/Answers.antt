@@ -1,5 +1,5 @@
 use Rattle.std.proofs.Common.{◌<◌, ◌^◌, ℕ, sym, subst}
-use Rattle.operator_wires.proofs.Making.{on_two}
+use Rattle.operator_wires.proofs.MadeWords.{on_two}
 use Rattle.block_datapath.specs.Chains.{SetsNext}
 use Rattle.thread_asks.specs.Fields.{AsksNumber}
 use Rattle.thread_asks.proofs.FieldValues.{number_asked}

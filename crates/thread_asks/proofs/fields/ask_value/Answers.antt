@@ -1,5 +1,5 @@
 use Rattle.std.proofs.Common.{◌+◌, add-one}
-use Rattle.operator_wires.proofs.Making.{on_two}
+use Rattle.operator_wires.proofs.MadeWords.{on_two}
 use Rattle.block_datapath.specs.Chains.{SetsNext}
 use Rattle.thread_asks.specs.Fields.{act_type, AsksValue}
 use Rattle.thread_asks.proofs.FieldValues.{value_asked}

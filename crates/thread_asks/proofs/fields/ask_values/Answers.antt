@@ -1,5 +1,5 @@
 use Rattle.std.proofs.Common.{refl}
-use Rattle.block_datapath.proofs.Walking.{item_is}
+use Rattle.block_datapath.proofs.OperationValues.{item_is}
 use Rattle.thread_asks.proofs.FieldValues.{values_none, values_more}
 use Rattle.thread_asks.proofs.fields.ask_values.Goals as goal
 

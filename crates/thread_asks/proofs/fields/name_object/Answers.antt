@@ -1,6 +1,6 @@
 use Rattle.operator_wires.specs.Gives.{Gives}
 use Rattle.operator_wires.specs.Added.{ChoiceAdds}
-use Rattle.operator_wires.proofs.Making.{of_two}
+use Rattle.operator_wires.proofs.MadeWords.{of_two}
 use Rattle.std.proofs.Common.{nat_eq, if◌then◌else◌}
 use Rattle.thread_asks.specs.Fields.{NamesObject}
 use Rattle.thread_asks.proofs.FieldValues.{object_named}

@@ -1,7 +1,7 @@
 use Rattle.std.proofs.Common.{◌≡◌, ℕ, length, ap, subst, arith}
-use Rattle.block_datapath.proofs.Walking.{item_is}
+use Rattle.block_datapath.proofs.OperationValues.{item_is}
 use Rattle.thread_asks.specs.Met.{NamesMet}
-use Rattle.thread_asks.proofs.Naming.{met_none, met_more}
+use Rattle.thread_asks.proofs.MeetingBarrier.{met_none, met_more}
 use Rattle.thread_asks.proofs.met.name_met.Goals as goal
 
 pub loop-number-init : goal.loop-number-init

@@ -1,11 +1,11 @@
 use Rattle.std.proofs.Common.{sym, subst}
-use Rattle.operator_wires.proofs.Making.{of_ok}
+use Rattle.operator_wires.proofs.MadeWords.{of_ok}
 use Rattle.block_ir.specs.declared.code.Act.{Act}
 use Rattle.block_ir.specs.declared.code.Stage.{Stage}
 use Rattle.block_ir.specs.declared.code.Stage.TheVariants as stage
 use Rattle.thread_asks.specs.Fields.{NamesObject}
 use Rattle.thread_asks.specs.Met.{NamesStage}
-use Rattle.thread_asks.proofs.Naming.{meeting_named, stage_passed}
+use Rattle.thread_asks.proofs.MeetingBarrier.{meeting_named, stage_passed}
 use Rattle.thread_asks.proofs.met.name_stage.Goals as goal
 
 pub returns-in-Run : goal.returns-in-Run

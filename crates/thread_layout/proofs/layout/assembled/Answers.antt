@@ -1,5 +1,5 @@
 use Rattle.std.proofs.Common.{List, [], subst, sym}
-use Rattle.operator_wires.proofs.Making.{of_ok}
+use Rattle.operator_wires.proofs.MadeWords.{of_ok}
 use Rattle.block_ir.specs.declared.plan.Planned.{Planned}
 use Rattle.netlist.specs.declared.netlist.Signal.{Signal}
 use Rattle.thread_layout.specs.declared.layout.Inside.{Inside}

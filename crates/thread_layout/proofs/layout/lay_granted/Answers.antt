@@ -3,7 +3,7 @@ use Rattle.std.specs.Prelude.{replicate, slice_get}
 use Rattle.std.proofs.lemmas.List.{length-replicate}
 use Rattle.netlist.specs.declared.netlist.Source.TheVariants.{Register}
 use Rattle.block_datapath.specs.declared.registers.Held.{Held}
-use Rattle.operator_wires.proofs.Making.{of_ok}
+use Rattle.operator_wires.proofs.MadeWords.{of_ok}
 use Rattle.thread_slots.specs.Slots.{LaysAll}
 use Rattle.thread_slots.specs.Wired.{AreFit, Behind, IsSlotRegister}
 use Rattle.thread_layout.proofs.layout.lay_granted.Goals as goal

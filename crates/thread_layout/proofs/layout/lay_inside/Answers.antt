@@ -1,6 +1,6 @@
 use Rattle.std.proofs.Common.{◌≡◌, List, ℕ, map, subst, sym}
 use Rattle.block_datapath.specs.declared.registers.Held.{Held}
-use Rattle.operator_wires.proofs.Making.{of_ok}
+use Rattle.operator_wires.proofs.MadeWords.{of_ok}
 use Rattle.thread_requests.specs.declared.early.Early.{Early}
 use Rattle.thread_requests.specs.Early.{LaysEarlyWired}
 use Rattle.thread_layout.specs.declared.layout.Inside.{Inside}

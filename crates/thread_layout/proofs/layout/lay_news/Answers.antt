@@ -2,7 +2,7 @@ use Rattle.std.proofs.Common.{◌≡◌, ℕ, zero, suc, Bool, true, false, List
 use Rattle.std.specs.Prelude.{IfOk, replicate}
 use Rattle.netlist.specs.declared.netlist.Source.TheVariants.{Input}
 use Rattle.block_datapath.specs.declared.registers.Held.{Held}
-use Rattle.operator_wires.proofs.Making.{of_ok}
+use Rattle.operator_wires.proofs.MadeWords.{of_ok}
 use Rattle.thread_slots.specs.Services.{if_ids, news_widths}
 use Rattle.thread_slots.specs.Slots.{LaysAll}
 use Rattle.thread_slots.specs.Wired.{AreFit, Behind, IsInnerInput}

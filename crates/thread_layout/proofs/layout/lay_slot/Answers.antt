@@ -5,7 +5,7 @@ use Rattle.block_datapath.specs.declared.registers.Registers.{Registers}
 use Rattle.thread_slots.specs.Slots.{LaysSlot, AreKeptWidths}
 use Rattle.thread_slots.specs.Wired.{AreFit, Behind, IsSlotRegister}
 use Rattle.thread_layout.specs.Parts.{LaysSlotOf}
-use Rattle.thread_layout.proofs.Slotting.{of_four}
+use Rattle.thread_layout.proofs.FourFacts.{of_four}
 use Rattle.thread_layout.proofs.layout.lay_slot.Goals as goal
 
 pub returns : goal.returns

@@ -1,7 +1,7 @@
 use Rattle.std.proofs.Common.{refl, arith}
 use Rattle.std.proofs.lemmas.List.{length-take-le}
-use Rattle.block_datapath.proofs.Walking.{item_is}
-use Rattle.thread_layout.proofs.Remembering.{memories_more}
+use Rattle.block_datapath.proofs.OperationValues.{item_is}
+use Rattle.thread_layout.proofs.ModuleMemories.{memories_more}
 use Rattle.thread_layout.proofs.layout.memories.Goals as goal
 
 pub loop-number-preserved : goal.loop-number-preserved

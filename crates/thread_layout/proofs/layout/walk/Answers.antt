@@ -1,13 +1,13 @@
 use Rattle.std.proofs.Common.{List, length, subst}
-use Rattle.operator_wires.proofs.Giving.{grows_then}
+use Rattle.operator_wires.proofs.PutSignals.{grows_then}
 use Rattle.thread_slots.specs.declared.stores.Store.{Store}
 use Rattle.hls_ints.specs.Types.{IntegerType}
 use Rattle.thread_states.specs.Cells.{StoresFirst}
 use Rattle.thread_states.specs.Stages.{WalksFirst}
 use Rattle.thread_states.specs.Stores.{StagesKeepStores}
 use Rattle.thread_states.proofs.Blocks.{stages_later}
-use Rattle.thread_states.proofs.Storing.{walk_ended}
-use Rattle.thread_states.proofs.Stepping.{walked}
+use Rattle.thread_states.proofs.StateStores.{walk_ended}
+use Rattle.thread_states.proofs.StageByStage.{walked}
 use Rattle.thread_layout.proofs.layout.walk.Goals as goal
 
 pub returns : goal.returns

@@ -1,6 +1,6 @@
 use Rattle.std.proofs.Common.{subst, ◌∙◌, ap, ◌≡◌, List, ℕ, length}
 use Rattle.std.specs.Prelude.{slice_index, if◌then◌else◌}
-use Rattle.thread_slots.proofs.Gating.{both_as, adds_both_as, any_as, adds_any_as}
+use Rattle.thread_slots.proofs.BitLists.{both_as, adds_both_as, any_as, adds_any_as}
 use Rattle.thread_layout.specs.Telling.{TakesFirst}
 use Rattle.thread_layout.proofs.Tellings.{told_laid}
 use Rattle.thread_layout.proofs.telling.lay_told.Goals as goal

@@ -1,5 +1,5 @@
 use Rattle.std.proofs.lemmas.Option.{slice_get-get_or}
-use Rattle.thread_requests.proofs.Banking.{addresses_none, addresses_more}
+use Rattle.thread_requests.proofs.BankAsks.{addresses_none, addresses_more}
 use Rattle.thread_requests.proofs.banks.bank_addresses.Goals as goal
 
 pub loop-number-preserved : goal.loop-number-preserved

@@ -1,5 +1,5 @@
 use Rattle.std.proofs.lemmas.Option.{slice_get-get_or}
-use Rattle.thread_requests.proofs.Banking.{wants_none, wants_more}
+use Rattle.thread_requests.proofs.BankAsks.{wants_none, wants_more}
 use Rattle.thread_requests.proofs.banks.bank_wants.Goals as goal
 
 pub loop-number-preserved : goal.loop-number-preserved

@@ -1,6 +1,6 @@
-use Rattle.operator_wires.proofs.Making.{of_ok}
+use Rattle.operator_wires.proofs.MadeWords.{of_ok}
 use Rattle.thread_requests.specs.Banks.{AreChosen, AreOwnWants}
-use Rattle.thread_requests.proofs.Banking.{banks_chosen}
+use Rattle.thread_requests.proofs.BankAsks.{banks_chosen}
 use Rattle.thread_requests.proofs.banks.choose_banks.Goals as goal
 
 pub returns : goal.returns

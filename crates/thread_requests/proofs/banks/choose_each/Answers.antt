@@ -1,4 +1,4 @@
-use Rattle.thread_requests.proofs.Banking.{chosen_none, chosen_more}
+use Rattle.thread_requests.proofs.BankAsks.{chosen_none, chosen_more}
 use Rattle.thread_requests.proofs.banks.choose_each.Goals as goal
 
 pub loop-number-preserved : goal.loop-number-preserved

@@ -1,5 +1,5 @@
 use Rattle.std.proofs.Common.{refl}
-use Rattle.thread_requests.proofs.Banking.{one_none, one_more}
+use Rattle.thread_requests.proofs.BankAsks.{one_none, one_more}
 use Rattle.thread_requests.proofs.banks.one_bank_each.Goals as goal
 
 pub loop-number-preserved : goal.loop-number-preserved

@@ -1,8 +1,8 @@
 use Rattle.std.proofs.Common.{◌≡◌, List, ℕ, refl}
 use Rattle.std.specs.Prelude.{replicate}
-use Rattle.operator_wires.proofs.Making.{of_ok}
+use Rattle.operator_wires.proofs.MadeWords.{of_ok}
 use Rattle.thread_requests.specs.Banks.{AreOwnWants}
-use Rattle.thread_requests.proofs.Banking.{one_wanted, never_wanted}
+use Rattle.thread_requests.proofs.BankAsks.{one_wanted, never_wanted}
 use Rattle.thread_requests.proofs.banks.own_wants.Goals as goal
 
 pub returns-then-bits-eq0 : goal.returns-then-bits-eq0

@@ -1,5 +1,5 @@
 use Rattle.std.proofs.lemmas.Option.{slice_get-get_or}
-use Rattle.thread_requests.proofs.Spreading.{spread_more}
+use Rattle.thread_requests.proofs.SpreadBanks.{spread_more}
 use Rattle.thread_requests.proofs.banks.spread_places.Goals as goal
 
 pub loop-number-preserved : goal.loop-number-preserved

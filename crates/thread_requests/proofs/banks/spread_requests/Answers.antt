@@ -1,7 +1,7 @@
 use Rattle.std.proofs.Common.{List, ℕ, length, ap, subst, ◌∙◌}
 use Rattle.thread_requests.specs.Banks.{AreAddresses, AreWants}
 use Rattle.thread_requests.specs.Early.{spread_out}
-use Rattle.thread_requests.proofs.Banking.{requests_spread}
+use Rattle.thread_requests.proofs.BankAsks.{requests_spread}
 use Rattle.thread_requests.proofs.banks.spread_requests.Goals as goal
 
 pub returns : goal.returns

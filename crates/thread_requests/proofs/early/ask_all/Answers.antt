@@ -1,5 +1,5 @@
 use Rattle.std.proofs.Common.{◌≡◌, subst, sym}
-use Rattle.operator_wires.proofs.Making.{of_ok}
+use Rattle.operator_wires.proofs.MadeWords.{of_ok}
 use Rattle.thread_requests.specs.declared.early.Asked.{Asked}
 use Rattle.thread_requests.specs.Early.{AsksBanks}
 use Rattle.thread_requests.proofs.early.ask_all.Goals as goal

@@ -3,7 +3,7 @@ use Rattle.bank_partition.specs.declared.banks.Spread.{Spread}
 use Rattle.thread_asks.specs.Asking.{AsksAllWired}
 use Rattle.thread_requests.specs.Banks.{SpreadsRequests}
 use Rattle.thread_requests.specs.Early.{with_banks}
-use Rattle.thread_requests.proofs.Asking.{banks_asked}
+use Rattle.thread_requests.proofs.AllAsks.{banks_asked}
 use Rattle.thread_requests.proofs.early.ask_banks.Goals as goal
 
 pub returns : goal.returns

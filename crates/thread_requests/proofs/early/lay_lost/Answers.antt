@@ -2,9 +2,9 @@ use Rattle.hls_ints.specs.Words.{word_and}
 use Rattle.verilog_meaning.specs.Readings.{width}
 use Rattle.operator_wires.specs.Gives.{Gives}
 use Rattle.operator_wires.specs.Added.{BothAdds}
-use Rattle.operator_wires.proofs.Making.{of_two}
+use Rattle.operator_wires.proofs.MadeWords.{of_two}
 use Rattle.thread_requests.specs.Early.{IsLost}
-use Rattle.thread_requests.proofs.Opening.{lost_made}
+use Rattle.thread_requests.proofs.OpenCores.{lost_made}
 use Rattle.thread_requests.proofs.early.lay_lost.Goals as goal
 
 pub returns : goal.returns

@@ -1,7 +1,7 @@
 use Rattle.std.proofs.Common.{refl, ap, ◌∙◌}
 use Rattle.std.specs.Prelude.{List, ℕ, [], ◌∷◌, ◌++◌}
 use Rattle.thread_slots.specs.Services.{if_ids}
-use Rattle.thread_requests.proofs.Opening.{acts_opened}
+use Rattle.thread_requests.proofs.OpenCores.{acts_opened}
 use Rattle.thread_requests.proofs.early.open_acts.Goals as goal
 
 pub returns : goal.returns

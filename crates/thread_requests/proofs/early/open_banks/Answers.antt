@@ -1,9 +1,9 @@
 use Rattle.std.proofs.Common.{◌≡◌, ◌∙◌}
-use Rattle.operator_wires.proofs.Making.{of_two}
+use Rattle.operator_wires.proofs.MadeWords.{of_two}
 use Rattle.thread_slots.specs.Bits.{BothOf, MakesBits, AddsBoths}
 use Rattle.std.proofs.Common.{length}
 use Rattle.thread_requests.specs.Early.{spread_out, OpensBanks}
-use Rattle.thread_slots.proofs.Gating.{both_as, adds_both_as, not_as, adds_not_as}
+use Rattle.thread_slots.proofs.BitLists.{both_as, adds_both_as, not_as, adds_not_as}
 use Rattle.std.proofs.Common.{refl}
 use Rattle.thread_requests.proofs.early.open_banks.Goals as goal
 

@@ -2,7 +2,7 @@ use Rattle.std.proofs.Common.{map, ap, sym, ◌∙◌}
 use Rattle.std.specs.Prelude.{option_map}
 use Rattle.std.proofs.lemmas.Option.{slice_get-map, slice_get-get_or}
 use Rattle.hls_ints.specs.Types.{width_of}
-use Rattle.thread_requests.proofs.Spreading.{spread_more}
+use Rattle.thread_requests.proofs.SpreadBanks.{spread_more}
 use Rattle.thread_requests.proofs.early.word_widths.Goals as goal
 
 pub loop-number-preserved : goal.loop-number-preserved

@@ -1,5 +1,5 @@
 use Rattle.std.proofs.Common.{ℕ, Some, length}
-use Rattle.operator_wires.proofs.Making.{of_ok}
+use Rattle.operator_wires.proofs.MadeWords.{of_ok}
 use Rattle.block_ir.specs.declared.code.Stage.TheVariants as stage
 use Rattle.block_ir.specs.declared.plan.StagePlan.TheVariants as planned
 use Rattle.thread_requests.specs.Needing.{NeedsMore, HasStates, AreTaken, FitsStage, IsNeedOf}

@@ -1,5 +1,5 @@
 use Rattle.std.proofs.Common.{sym, ◌∙◌}
-use Rattle.operator_wires.proofs.Making.{of_ok}
+use Rattle.operator_wires.proofs.MadeWords.{of_ok}
 use Rattle.thread_requests.specs.Needing.{NeedsMore, HasStates, IsBehind, IsTaken}
 use Rattle.thread_requests.proofs.Needs.{needs_read, needs_other}
 use Rattle.thread_requests.proofs.needing.need_read.Goals as goal

@@ -1,5 +1,5 @@
 use Rattle.std.proofs.Common.{◌≡◌, ℕ, length, ap, subst, arith}
-use Rattle.block_datapath.proofs.Walking.{item_is}
+use Rattle.block_datapath.proofs.OperationValues.{item_is}
 use Rattle.thread_requests.specs.Needing.{NeedsMore, FitStages, IsNeedOfFirst}
 use Rattle.thread_requests.proofs.Needs.{stages_none, stages_more}
 use Rattle.thread_requests.proofs.needing.need_stages.Goals as goal

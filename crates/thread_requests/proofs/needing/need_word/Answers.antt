@@ -2,7 +2,7 @@ use Rattle.hls_ints.specs.Words.{word_inclusive_or}
 use Rattle.verilog_meaning.specs.Readings.{width}
 use Rattle.operator_wires.specs.Gives.{Gives}
 use Rattle.operator_wires.specs.Added.{BothAdds}
-use Rattle.operator_wires.proofs.Making.{of_two}
+use Rattle.operator_wires.proofs.MadeWords.{of_two}
 use Rattle.thread_requests.specs.Needing.{NeedsMore, HasStates, IsBehind}
 use Rattle.thread_requests.proofs.Needs.{needs_word}
 use Rattle.thread_requests.proofs.needing.need_word.Goals as goal

@@ -1,5 +1,5 @@
 use Rattle.operator_wires.specs.declared.wires.Role.TheVariants.{Done}
-use Rattle.thread_requests.proofs.Wiring.{output_behind, done_tells}
+use Rattle.thread_requests.proofs.RequestWires.{output_behind, done_tells}
 use Rattle.thread_requests.proofs.outputs.lay_done.Goals as goal
 
 pub returns-clause-named : goal.returns-clause-named

@@ -1,11 +1,11 @@
 use Rattle.std.proofs.Common.{List, ◌+◌, length, sym, subst, ◌∙◌}
 use Rattle.std.proofs.lemmas.Result.{on_ok_weaker}
-use Rattle.operator_wires.proofs.Making.{on_two}
+use Rattle.operator_wires.proofs.MadeWords.{on_two}
 use Rattle.thread_requests.specs.declared.outputs.Row.{Row}
 use Rattle.thread_requests.specs.Outputs.{LaysRows, LaysDone, AreNumbered}
 use Rattle.thread_slots.specs.Wired.{Behind, IsNamedOutput}
 use Rattle.thread_requests.proofs.OutputPorts.{outputs_laid, rows_numbered}
-use Rattle.thread_requests.proofs.Wiring.{outputs_named}
+use Rattle.thread_requests.proofs.RequestWires.{outputs_named}
 use Rattle.thread_requests.proofs.outputs.lay_outputs.Goals as goal
 
 pub returns-clause-lays : goal.returns-clause-lays

@@ -1,8 +1,8 @@
 use Rattle.std.proofs.lemmas.Option.{slice_get-get_or}
 use Rattle.thread_slots.specs.Wired.{IsNamedOutput}
 use Rattle.thread_requests.proofs.OutputPorts.{rows_none, rows_more}
-use Rattle.thread_slots.proofs.Wiring.{laid_grows, behind_none, behind_then}
-use Rattle.thread_requests.proofs.Wiring.{output_numbered}
+use Rattle.thread_slots.proofs.SlotWires.{laid_grows, behind_none, behind_then}
+use Rattle.thread_requests.proofs.RequestWires.{output_numbered}
 use Rattle.thread_requests.proofs.outputs.lay_rows.Goals as goal
 
 pub loop-row-preserved : goal.loop-row-preserved

@@ -1,7 +1,7 @@
 use Rattle.std.proofs.Common.{true}
 use Rattle.std.proofs.lemmas.Option.{slice_get-get_or}
-use Rattle.operator_wires.proofs.Building.{wires_none}
-use Rattle.thread_slots.proofs.Gating.{any_none, any_more, either_all, adds_any}
+use Rattle.operator_wires.proofs.BuiltWires.{wires_none}
+use Rattle.thread_slots.proofs.BitLists.{any_none, any_more, either_all, adds_any}
 use Rattle.thread_slots.proofs.bits.any_of.Goals as goal
 
 pub loop-bit-preserved : goal.loop-bit-preserved

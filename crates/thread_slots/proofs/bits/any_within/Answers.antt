@@ -1,8 +1,8 @@
 use Rattle.std.proofs.Common.{◌≡◌, length, subst, arith}
 use Rattle.std.proofs.lemmas.Option.{slice_get-get_or}
-use Rattle.operator_wires.proofs.Building.{wires_none}
+use Rattle.operator_wires.proofs.BuiltWires.{wires_none}
 use Rattle.thread_slots.specs.Bits.{MakesAny, is_in}
-use Rattle.thread_slots.proofs.Gating.{any_none, any_more, adds_any}
+use Rattle.thread_slots.proofs.BitLists.{any_none, any_more, adds_any}
 use Rattle.thread_slots.proofs.bits.any_within.Goals as goal
 
 pub loop-number-preserved : goal.loop-number-preserved

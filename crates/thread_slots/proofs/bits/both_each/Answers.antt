@@ -1,9 +1,9 @@
 use Rattle.std.proofs.Common.{rules, ◌≡◌, ◌<◌, length, slice_index, subst, sym}
 use Rattle.std.proofs.lemmas.Option.{slice_get_within, slice_get-get_or}
-use Rattle.operator_wires.proofs.Building.{stands_after}
+use Rattle.operator_wires.proofs.BuiltWires.{stands_after}
 use Rattle.operator_wires.specs.Built.{IsEarlier}
 use Rattle.thread_slots.specs.Bits.{BothOf}
-use Rattle.thread_slots.proofs.Gating.{bits_none, both_more, adds_none, adds_more}
+use Rattle.thread_slots.proofs.BitLists.{bits_none, both_more, adds_none, adds_more}
 use Rattle.thread_slots.proofs.bits.both_each.Goals as goal
 
 pub loop-number-preserved : goal.loop-number-preserved

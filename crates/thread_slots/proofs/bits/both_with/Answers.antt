@@ -1,7 +1,7 @@
 use Rattle.std.proofs.lemmas.Option.{slice_get-get_or}
-use Rattle.operator_wires.proofs.Building.{stands_after}
+use Rattle.operator_wires.proofs.BuiltWires.{stands_after}
 use Rattle.thread_slots.specs.Bits.{WithOf}
-use Rattle.thread_slots.proofs.Gating.{bits_none, with_more, laid_none, laid_more, adds_none, adds_more}
+use Rattle.thread_slots.proofs.BitLists.{bits_none, with_more, laid_none, laid_more, adds_none, adds_more}
 use Rattle.thread_slots.proofs.bits.both_with.Goals as goal
 
 pub loop-bit-preserved : goal.loop-bit-preserved

@@ -2,10 +2,10 @@ use Rattle.std.proofs.Common.{sym, ◌∙◌}
 use Rattle.hls_ints.specs.Words.{word_inclusive_or}
 use Rattle.verilog_meaning.specs.Readings.{width}
 use Rattle.operator_wires.specs.Gives.{Gives}
-use Rattle.operator_wires.proofs.Making.{of_ok}
-use Rattle.operator_wires.proofs.Building.{wires_none}
+use Rattle.operator_wires.proofs.MadeWords.{of_ok}
+use Rattle.operator_wires.proofs.BuiltWires.{wires_none}
 use Rattle.thread_slots.specs.Bits.{EitherIf, is_in}
-use Rattle.thread_slots.proofs.Gating.{either_some, either_other}
+use Rattle.thread_slots.proofs.BitLists.{either_some, either_other}
 use Rattle.thread_slots.proofs.bits.either_within.Goals as goal
 
 pub returns-then-is_within-clause-shows : goal.returns-then-is_within-clause-shows

@@ -1,7 +1,7 @@
 use Rattle.std.proofs.Common.{◌<◌, ◌^◌, arith}
-use Rattle.operator_wires.proofs.Building.{stands_after}
+use Rattle.operator_wires.proofs.BuiltWires.{stands_after}
 use Rattle.thread_slots.specs.Bits.{NumberOf}
-use Rattle.thread_slots.proofs.Gating.{bits_none, number_more, adds_none, adds_more}
+use Rattle.thread_slots.proofs.BitLists.{bits_none, number_more, adds_none, adds_more}
 use Rattle.thread_slots.proofs.bits.is_each.Goals as goal
 
 pub loop-number-preserved : goal.loop-number-preserved

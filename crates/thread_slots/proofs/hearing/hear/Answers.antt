@@ -1,5 +1,5 @@
 use Rattle.std.proofs.lemmas.Option.{slice_get-get_or}
-use Rattle.operator_wires.proofs.Building.{stands_after}
+use Rattle.operator_wires.proofs.BuiltWires.{stands_after}
 use Rattle.thread_slots.proofs.Heard.{word_heard, heard_none, heard_more, behind_none, behind_more}
 use Rattle.thread_slots.proofs.hearing.hear.Goals as goal
 

@@ -4,8 +4,8 @@ use Rattle.std.proofs.lemmas.List.{replicate-append-replicate}
 use Rattle.operator_wires.specs.declared.wires.Role.TheVariants.{Clock, Enable}
 use Rattle.thread_slots.specs.Wired.{IsInnerInput, AreFit}
 use Rattle.thread_slots.proofs.InputPorts.{inputs_laid}
-use Rattle.thread_slots.proofs.Laying.{stands_grow, stands_long}
-use Rattle.thread_slots.proofs.Wiring.{behind_then, input_behind}
+use Rattle.thread_slots.proofs.LaidRegisters.{stands_grow, stands_long}
+use Rattle.thread_slots.proofs.SlotWires.{behind_then, input_behind}
 use Rattle.thread_slots.proofs.inputs.lay_inputs.Goals as goal
 
 ones_fit : (n x w : ℕ) → slice_get (replicate n 1) x ≡ Some w → (1 ≤ w) × (w ≤ 64)

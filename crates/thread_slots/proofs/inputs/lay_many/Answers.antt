@@ -2,8 +2,8 @@ use Rattle.std.proofs.Common.{refl}
 use Rattle.std.proofs.lemmas.Option.{slice_get-get_or}
 use Rattle.netlist.specs.declared.netlist.Source.TheVariants.{Input}
 use Rattle.thread_slots.specs.Wired.{IsInnerInput}
-use Rattle.thread_slots.proofs.Laying.{lays_none, lays_more, stands_grow}
-use Rattle.thread_slots.proofs.Wiring.{behind_none, behind_then, input_numbered}
+use Rattle.thread_slots.proofs.LaidRegisters.{lays_none, lays_more, stands_grow}
+use Rattle.thread_slots.proofs.SlotWires.{behind_none, behind_then, input_numbered}
 use Rattle.thread_slots.proofs.inputs.lay_many.Goals as goal
 
 pub loop-width-preserved : goal.loop-width-preserved

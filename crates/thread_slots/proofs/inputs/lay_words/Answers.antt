@@ -1,6 +1,6 @@
 use Rattle.std.proofs.Common.{◌≡◌, false, List, refl}
 use Rattle.block_datapath.specs.declared.registers.Held.{Held}
-use Rattle.operator_wires.proofs.Making.{of_ok}
+use Rattle.operator_wires.proofs.MadeWords.{of_ok}
 use Rattle.thread_slots.specs.Wired.{AreFit, Behind, IsInnerInput}
 use Rattle.thread_slots.proofs.inputs.lay_words.Goals as goal
 

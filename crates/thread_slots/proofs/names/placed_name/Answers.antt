@@ -1,6 +1,6 @@
 use Rattle.std.proofs.Common.{◌++◌, List, ℕ, ap, ◌∙◌}
 use Rattle.std.specs.Prelude.{string_bytes}
-use Rattle.thread_slots.proofs.Naming.{is_name-placed}
+use Rattle.thread_slots.proofs.RegisterNames.{is_name-placed}
 use Rattle.thread_slots.proofs.names.placed_name.Goals as goal
 
 pub from_string-requires : goal.from_string-requires

@@ -1,10 +1,10 @@
 use Rattle.std.proofs.Common.{◌≡◌, ◌∙◌, [], slice_get, map, Some, None, sym, ap}
 use Rattle.std.specs.Option.{option_copied}
 use Rattle.std.specs.Prelude.{string_bytes}
-use Rattle.operator_wires.proofs.Making.{of_ok}
+use Rattle.operator_wires.proofs.MadeWords.{of_ok}
 use Rattle.verilog_meaning.specs.Names.{numbered}
 use Rattle.thread_slots.specs.Naming.{stem_for, register_name}
-use Rattle.thread_slots.proofs.Naming.{name_of_some, name_of_none}
+use Rattle.thread_slots.proofs.RegisterNames.{name_of_some, name_of_none}
 use Rattle.thread_slots.proofs.names.register_name.Goals as goal
 
 pub returns-in-Some : goal.returns-in-Some

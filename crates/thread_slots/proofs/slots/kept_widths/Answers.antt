@@ -1,5 +1,5 @@
-use Rattle.block_datapath.proofs.Walking.{item_is}
-use Rattle.thread_slots.proofs.Laying.{stages_more}
+use Rattle.block_datapath.proofs.OperationValues.{item_is}
+use Rattle.thread_slots.proofs.LaidRegisters.{stages_more}
 use Rattle.thread_slots.proofs.slots.kept_widths.Goals as goal
 
 pub loop-number-preserved : goal.loop-number-preserved

@@ -2,8 +2,8 @@ use Rattle.std.proofs.lemmas.Option.{slice_get-get_or}
 use Rattle.std.proofs.lemmas.Nat.{pow_pos}
 use Rattle.netlist.specs.declared.netlist.Source.TheVariants as source
 use Rattle.thread_slots.specs.Wired.{IsSlotRegister}
-use Rattle.thread_slots.proofs.Laying.{lays_none, lays_more, stands_grow}
-use Rattle.thread_slots.proofs.Wiring.{behind_none, behind_then}
+use Rattle.thread_slots.proofs.LaidRegisters.{lays_none, lays_more, stands_grow}
+use Rattle.thread_slots.proofs.SlotWires.{behind_none, behind_then}
 use Rattle.thread_slots.proofs.slots.lay_all.Goals as goal
 
 pub loop-width-preserved : goal.loop-width-preserved

@@ -1,4 +1,4 @@
-use Rattle.thread_slots.proofs.Wiring.{register_behind}
+use Rattle.thread_slots.proofs.SlotWires.{register_behind}
 use Rattle.thread_slots.proofs.slots.lay_register.Goals as goal
 
 pub returns-clause-wired : goal.returns-clause-wired

@@ -4,8 +4,8 @@ use Rattle.std.proofs.lemmas.List.{length-map}
 use Rattle.std.proofs.lemmas.Nat.{pow_pos}
 use Rattle.hls_ints.specs.Types.{width_of}
 use Rattle.thread_slots.specs.Slots.{LaysSlot}
-use Rattle.thread_slots.proofs.Laying.{slot_laid, stands_long, stands_grow}
-use Rattle.thread_slots.proofs.Wiring.{first_fits, types_fit, slots_behind}
+use Rattle.thread_slots.proofs.LaidRegisters.{slot_laid, stands_long, stands_grow}
+use Rattle.thread_slots.proofs.SlotWires.{first_fits, types_fit, slots_behind}
 use Rattle.thread_slots.proofs.slots.lay_registers.Goals as goal
 
 twice : (sum : Option ℕ) (most end : ℕ) → SomeIff sum (end + end < 2 ^ 64) (end + end) → sum ≡ Some most → most ≡ end + end

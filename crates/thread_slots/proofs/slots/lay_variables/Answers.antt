@@ -4,8 +4,8 @@ use Rattle.std.proofs.lemmas.Option.{slice_get-get_or}
 use Rattle.netlist.specs.declared.netlist.Source.TheVariants as source
 use Rattle.thread_slots.specs.Naming.{register_name}
 use Rattle.thread_slots.specs.Wired.{IsSlotRegister}
-use Rattle.thread_slots.proofs.Laying.{lays_none, lays_more, stands_grow, named_stands, named_none, named_more}
-use Rattle.thread_slots.proofs.Wiring.{behind_none, behind_then, named_behind}
+use Rattle.thread_slots.proofs.LaidRegisters.{lays_none, lays_more, stands_grow, named_stands, named_none, named_more}
+use Rattle.thread_slots.proofs.SlotWires.{behind_none, behind_then, named_behind}
 use Rattle.thread_slots.proofs.slots.lay_variables.Goals as goal
 
 pub loop-number-preserved : goal.loop-number-preserved

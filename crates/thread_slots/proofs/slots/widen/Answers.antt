@@ -1,7 +1,7 @@
 use Rattle.std.proofs.Common.{◌∙◌, ap, arith}
 use Rattle.hls_ints.specs.Types.{IntegerType, width_of}
-use Rattle.block_datapath.proofs.Walking.{item_is}
-use Rattle.thread_slots.proofs.Laying.{operations_more}
+use Rattle.block_datapath.proofs.OperationValues.{item_is}
+use Rattle.thread_slots.proofs.LaidRegisters.{operations_more}
 use Rattle.thread_slots.proofs.slots.widen.Goals as goal
 
 pub loop-number-preserved : goal.loop-number-preserved

@@ -1,7 +1,7 @@
 use Rattle.std.proofs.Common.{refl, arith}
 use Rattle.std.proofs.lemmas.Grind.{common_steps}
-use Rattle.thread_slots.proofs.Storing.{put_answered}
-use Rattle.thread_slots.proofs.Putting.{word_answered}
+use Rattle.thread_slots.proofs.StandingStores.{put_answered}
+use Rattle.thread_slots.proofs.PutStores.{word_answered}
 use Rattle.thread_slots.proofs.stores.put.Goals as goal
 
 pub returns-clause-wired : goal.returns-clause-wired

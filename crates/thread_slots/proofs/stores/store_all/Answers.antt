@@ -1,7 +1,7 @@
-use Rattle.operator_wires.proofs.Giving.{grows_refl, grows_then}
-use Rattle.block_datapath.proofs.Walking.{item_is}
-use Rattle.thread_slots.proofs.Storing.{stores_none, stores_then}
-use Rattle.thread_slots.proofs.Putting.{first_none, first_more}
+use Rattle.operator_wires.proofs.PutSignals.{grows_refl, grows_then}
+use Rattle.block_datapath.proofs.OperationValues.{item_is}
+use Rattle.thread_slots.proofs.StandingStores.{stores_none, stores_then}
+use Rattle.thread_slots.proofs.PutStores.{first_none, first_more}
 use Rattle.thread_slots.proofs.stores.store_all.Goals as goal
 
 pub loop-number-preserved : goal.loop-number-preserved

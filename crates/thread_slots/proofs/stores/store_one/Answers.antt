@@ -1,6 +1,6 @@
-use Rattle.operator_wires.proofs.Giving.{grows_refl}
-use Rattle.thread_slots.proofs.Storing.{stores_none}
-use Rattle.thread_slots.proofs.Putting.{puts_others}
+use Rattle.operator_wires.proofs.PutSignals.{grows_refl}
+use Rattle.thread_slots.proofs.StandingStores.{stores_none}
+use Rattle.thread_slots.proofs.PutStores.{puts_others}
 use Rattle.thread_slots.proofs.stores.store_one.Goals as goal
 
 pub returns-in_default : goal.returns-in_default

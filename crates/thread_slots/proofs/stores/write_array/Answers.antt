@@ -1,13 +1,13 @@
 use Rattle.std.proofs.Common.{◌≡◌, ◌∙◌, List, Some, None, sym, ap, subst}
 use Rattle.std.specs.Option.{option_copied}
 use Rattle.hls_ints.specs.Types.{IntegerType}
-use Rattle.operator_wires.proofs.Giving.{grows_then}
+use Rattle.operator_wires.proofs.PutSignals.{grows_then}
 use Rattle.block_datapath.specs.Seen.{ShowsOperand}
-use Rattle.thread_slots.proofs.Putting.{puts_write, puts_missing}
+use Rattle.thread_slots.proofs.PutStores.{puts_write, puts_missing}
 use Rattle.std.specs.Prelude.{slice_get}
 use Rattle.std.proofs.lemmas.Result.{on_ok_weaker}
 use Rattle.thread_slots.proofs.Between.{operands_wired}
-use Rattle.thread_slots.proofs.Storing.{stores_kept, written_wired}
+use Rattle.thread_slots.proofs.StandingStores.{stores_kept, written_wired}
 use Rattle.thread_slots.proofs.stores.write_array.Goals as goal
 
 pub returns-in-Some-clause-wired : goal.returns-in-Some-clause-wired

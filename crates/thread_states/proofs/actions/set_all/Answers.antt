@@ -1,7 +1,7 @@
 use Rattle.std.proofs.Common.{Some, None, sym, ◌∙◌, append-nil}
 use Rattle.std.proofs.lemmas.Option.{slice_get-get_or}
 use Rattle.block_datapath.specs.declared.registers.Held.{Held}
-use Rattle.thread_states.proofs.Closing.{sets_more}
+use Rattle.thread_states.proofs.LeftStates.{sets_more}
 use Rattle.thread_states.proofs.actions.set_all.Goals as goal
 use Rattle.thread_states.proofs.actions.set_all.Goals.{in-Some+in_ok-set_if, in_default}
 

@@ -1,7 +1,7 @@
-use Rattle.operator_wires.proofs.Making.{on_two}
+use Rattle.operator_wires.proofs.MadeWords.{on_two}
 use Rattle.thread_slots.specs.Links.{WaitsAt}
 use Rattle.thread_states.specs.Acts.{Idles}
-use Rattle.thread_states.proofs.Acting.{idle_made}
+use Rattle.thread_states.proofs.ActLinks.{idle_made}
 use Rattle.thread_states.proofs.Taken.{Keeps}
 use Rattle.thread_states.proofs.acts.idle.Goals as goal
 

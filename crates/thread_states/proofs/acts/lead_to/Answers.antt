@@ -1,7 +1,7 @@
-use Rattle.operator_wires.proofs.Making.{on_two}
+use Rattle.operator_wires.proofs.MadeWords.{on_two}
 use Rattle.thread_slots.specs.Links.{LeadsTo}
 use Rattle.thread_states.specs.Acts.{LeadsFrom}
-use Rattle.thread_states.proofs.Acting.{lead_made}
+use Rattle.thread_states.proofs.ActLinks.{lead_made}
 use Rattle.thread_states.proofs.Taken.{Leads}
 use Rattle.thread_states.proofs.acts.lead_to.Goals as goal
 

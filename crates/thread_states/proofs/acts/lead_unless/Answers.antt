@@ -1,7 +1,7 @@
-use Rattle.operator_wires.proofs.Making.{on_two}
+use Rattle.operator_wires.proofs.MadeWords.{on_two}
 use Rattle.thread_slots.specs.Links.{WaitsAt}
 use Rattle.thread_states.specs.Acts.{LeadsUnless}
-use Rattle.thread_states.proofs.Acting.{unless_made}
+use Rattle.thread_states.proofs.ActLinks.{unless_made}
 use Rattle.thread_states.proofs.Taken.{Keeps}
 use Rattle.thread_states.proofs.acts.lead_unless.Goals as goal
 

@@ -3,7 +3,7 @@ use Rattle.std.proofs.lemmas.Result.{on_ok_weaker}
 use Rattle.block_ir.specs.declared.code.Act.{Act}
 use Rattle.thread_promise.specs.Moves.{stage_after}
 use Rattle.thread_states.specs.Acts.{LeadsFrom, LeadsUnless}
-use Rattle.thread_states.proofs.Acting.{lead_taken, wait_taken, goes_on}
+use Rattle.thread_states.proofs.ActLinks.{lead_taken, wait_taken, goes_on}
 use Rattle.thread_states.proofs.acts.take_act.Goals as goal
 
 pub returns-in_ok-lead_to-in-BarrierWait : goal.returns-in_ok-lead_to-in-BarrierWait

@@ -3,9 +3,9 @@ use Rattle.bank_partition.specs.declared.banks.Spread.{Spread}
 use Rattle.thread_states.specs.declared.control.Edge.{Edge}
 use Rattle.thread_slots.specs.Bits.{BothOf, MakesBits, AddsBoths}
 use Rattle.thread_states.specs.Control.{Remembers, AddsRemembered}
-use Rattle.thread_states.proofs.Closing.{control_made}
-use Rattle.thread_slots.proofs.Gating.{both_as, adds_both_as, not_as, adds_not_as, any_as, adds_any_as}
-use Rattle.thread_states.proofs.Steering.{control_wired}
+use Rattle.thread_states.proofs.LeftStates.{control_made}
+use Rattle.thread_slots.proofs.BitLists.{both_as, adds_both_as, not_as, adds_not_as, any_as, adds_any_as}
+use Rattle.thread_states.proofs.ControlWires.{control_wired}
 use Rattle.thread_states.proofs.control.control.Goals as goal
 
 pub returns-clause-controls : goal.returns-clause-controls

@@ -1,8 +1,8 @@
 use Rattle.operator_wires.specs.Built.{Base, IsEarlier, Adds}
 use Rattle.std.proofs.Common.{arith}
-use Rattle.operator_wires.proofs.Making.{of_ok}
-use Rattle.operator_wires.proofs.Building.{room_of, longer}
-use Rattle.thread_states.proofs.Steering.{state_wired}
+use Rattle.operator_wires.proofs.MadeWords.{of_ok}
+use Rattle.operator_wires.proofs.BuiltWires.{room_of, longer}
+use Rattle.thread_states.proofs.ControlWires.{state_wired}
 use Rattle.thread_states.proofs.control.next_state.Goals as goal
 
 pub returns-clause-wired : goal.returns-clause-wired

@@ -1,9 +1,9 @@
 use Rattle.std.proofs.Common.{◌∙◌}
 use Rattle.std.proofs.lemmas.Option.{slice_get-get_or}
-use Rattle.operator_wires.proofs.Building.{stands_after}
+use Rattle.operator_wires.proofs.BuiltWires.{stands_after}
 use Rattle.thread_states.specs.Control.{Remembered}
-use Rattle.thread_states.proofs.Closing.{marks_more}
-use Rattle.thread_slots.proofs.Gating.{bits_none, adds_none, adds_more, of_bits_later}
+use Rattle.thread_states.proofs.LeftStates.{marks_more}
+use Rattle.thread_slots.proofs.BitLists.{bits_none, adds_none, adds_more, of_bits_later}
 use Rattle.thread_states.proofs.control.remember.Goals as goal
 
 pub loop-number-preserved : goal.loop-number-preserved

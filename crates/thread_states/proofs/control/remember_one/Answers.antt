@@ -4,10 +4,10 @@ use Rattle.bank_partition.specs.declared.banks.Spread.{Spread}
 use Rattle.verilog_meaning.specs.Readings.{width}
 use Rattle.operator_wires.specs.Gives.{Gives}
 use Rattle.operator_wires.specs.Added.{BothAdds}
-use Rattle.operator_wires.proofs.Building.{stands_after, wires_then}
-use Rattle.operator_wires.proofs.Making.{of_ok}
+use Rattle.operator_wires.proofs.BuiltWires.{stands_after, wires_then}
+use Rattle.operator_wires.proofs.MadeWords.{of_ok}
 use Rattle.thread_states.specs.Control.{RemembersOne, AddsMark}
-use Rattle.thread_states.proofs.Closing.{mark_of_some, mark_of_none}
+use Rattle.thread_states.proofs.LeftStates.{mark_of_some, mark_of_none}
 use Rattle.thread_states.proofs.control.remember_one.Goals as goal
 
 pub returns-in_ok-any-in-Some-clause-shows : goal.returns-in_ok-any-in-Some-clause-shows

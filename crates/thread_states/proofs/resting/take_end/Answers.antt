@@ -1,10 +1,10 @@
 use Rattle.std.proofs.Common.{◌≡◌, ℕ, Option, None, length, refl, sym, subst}
 use Rattle.std.proofs.lemmas.Result.{on_ok_weaker}
-use Rattle.operator_wires.proofs.Making.{on_two}
+use Rattle.operator_wires.proofs.MadeWords.{on_two}
 use Rattle.block_datapath.specs.Chains.{SetsNext}
 use Rattle.block_datapath.specs.Wired.{IsLinked}
 use Rattle.thread_states.specs.Acts.{LeadsUnless, TakesArgument, EndsAt}
-use Rattle.thread_states.proofs.Setting.{argument_taken, no_argument, rest_stays, rest_begins}
+use Rattle.thread_states.proofs.RestLinks.{argument_taken, no_argument, rest_stays, rest_begins}
 use Rattle.thread_states.proofs.resting.take_end.Goals as goal
 
 pub returns-then-is_main : goal.returns-then-is_main

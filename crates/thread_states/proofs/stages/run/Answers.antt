@@ -1,14 +1,14 @@
 use Rattle.std.proofs.Common.{List, refl, sym, subst}
 use Rattle.std.proofs.lemmas.Result.{on_ok_weaker}
-use Rattle.operator_wires.proofs.Making.{on_two}
+use Rattle.operator_wires.proofs.MadeWords.{on_two}
 use Rattle.thread_states.proofs.Blocks.{block_stores}
-use Rattle.thread_states.proofs.Storing.{run_stored}
+use Rattle.thread_states.proofs.StateStores.{run_stored}
 use Rattle.block_datapath.specs.declared.operands.Given.{Given}
 use Rattle.thread_slots.specs.Wired.{ValuesStand}
 use Rattle.thread_slots.specs.declared.chains.Chains.{Chains}
 use Rattle.thread_slots.specs.Links.{LeadsTo}
 use Rattle.thread_states.specs.Stages.{RunsBlock}
-use Rattle.thread_states.proofs.Stepping.{run_made}
+use Rattle.thread_states.proofs.StageByStage.{run_made}
 use Rattle.thread_states.proofs.Taken.{Leads, run_linked}
 use Rattle.thread_states.proofs.Between.{block_linked, stage_fits, chains_of}
 use Rattle.thread_slots.proofs.Between.{registers_of}

@@ -4,7 +4,7 @@ use Rattle.block_ir.specs.declared.plan.StagePlan.TheVariants as planned
 use Rattle.thread_states.proofs.Blocks.{stage_of_block, stage_of_none}
 use Rattle.thread_states.specs.Cells.{StoresStage}
 use Rattle.thread_states.specs.Stores.{StageKeepsStores}
-use Rattle.thread_states.proofs.Storing.{stage_kept}
+use Rattle.thread_states.proofs.StateStores.{stage_kept}
 use Rattle.std.specs.Option.{option_copied}
 use Rattle.std.specs.Prelude.{OnOk, slice_get}
 use Rattle.std.proofs.lemmas.Result.{on_ok_weaker}
@@ -12,7 +12,7 @@ use Rattle.block_ir.specs.declared.code.Stage.{Stage}
 use Rattle.block_ir.specs.declared.plan.BlockPlan.{BlockPlan}
 use Rattle.block_ir.specs.declared.plan.StagePlan.{StagePlan}
 use Rattle.thread_states.specs.Stages.{TakesStage}
-use Rattle.thread_states.proofs.Stepping.{run_taken, idle_taken, act_taken}
+use Rattle.thread_states.proofs.StageByStage.{run_taken, idle_taken, act_taken}
 use Rattle.thread_states.proofs.stages.take_stage.Goals as goal
 use Rattle.thread_states.proofs.stages.take_stage.Goals.{in_default-via-in-Some+in_default, in_default-via-in_default}
 use Rattle.thread_slots.proofs.Taken.{none_planned}

@@ -1,11 +1,11 @@
 use Rattle.std.proofs.Common.{◌≡◌, length, ap, subst, arith}
-use Rattle.block_datapath.proofs.Walking.{item_is}
+use Rattle.block_datapath.proofs.OperationValues.{item_is}
 use Rattle.thread_states.specs.Cells.{StoresFirst}
 use Rattle.thread_states.specs.Stages.{WalksFirst}
 use Rattle.thread_states.specs.Stores.{StagesKeepStores}
-use Rattle.thread_states.proofs.Stepping.{walks_none, walks_more}
+use Rattle.thread_states.proofs.StageByStage.{walks_none, walks_more}
 use Rattle.thread_states.proofs.Blocks.{stages_none, stages_more}
-use Rattle.thread_states.proofs.Storing.{walk_begun, walk_stored}
+use Rattle.thread_states.proofs.StateStores.{walk_begun, walk_stored}
 use Rattle.thread_states.proofs.stages.take_stages.Goals as goal
 
 pub loop-number-preserved : goal.loop-number-preserved

@@ -1,7 +1,7 @@
 use Rattle.std.proofs.Common.{ℕ, ◌+◌, List, [], ◌∷◌, ◌++◌, ap, ◌∙◌}
 use Rattle.top_parts.specs.Parts.{each_from}
 use Rattle.top_parts.specs.Wires.{port_wire}
-use Rattle.top_parts.proofs.Growing.{wires_grow}
+use Rattle.top_parts.proofs.GrownLists.{wires_grow}
 use Rattle.top_parts.proofs.wires.lay_wires.Goals as goal
 
 pub loop-instance-preserved : goal.loop-instance-preserved

@@ -1,7 +1,7 @@
 use Rattle.std.proofs.Common.{get_or}
 use Rattle.std.proofs.lemmas.List.{get_or_default}
 use Rattle.top_parts.specs.Wires.{port_wire}
-use Rattle.top_parts.proofs.Growing.{each_onto}
+use Rattle.top_parts.proofs.GrownLists.{each_onto}
 use Rattle.top_parts.proofs.wires.push_ports.Goals as goal
 
 pub loop-number-preserved : goal.loop-number-preserved

@@ -1,4 +1,4 @@
-use Rattle.top_wiring.proofs.Running as running
+use Rattle.top_wiring.proofs.OneMachine as running
 use Rattle.top_wiring.proofs.law.is_one_machine.Goals as goal
 
 pub returns : goal.returns

@@ -1,4 +1,4 @@
-use Rattle.top_wiring.proofs.Settling.{nets_have_stages}
+use Rattle.top_wiring.proofs.NetStages.{nets_have_stages}
 use Rattle.top_wiring.proofs.law.nets_have_stages.Goals as goal
 
 pub returns : goal.returns

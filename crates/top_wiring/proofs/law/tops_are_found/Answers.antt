@@ -1,4 +1,4 @@
-use Rattle.top_wiring.proofs.Finding.{tops_are_found}
+use Rattle.top_wiring.proofs.FoundParts.{tops_are_found}
 use Rattle.top_wiring.proofs.law.tops_are_found.Goals as goal
 
 pub returns : goal.returns

@@ -5,7 +5,7 @@ use Rattle.top_wiring.specs.Leaves.{AreLeaves, SettlesOnce}
 use Rattle.top_wiring.specs.Sound.{AreSound}
 use Rattle.top_wiring.specs.Wired.{IsWired}
 use Rattle.top_wiring.proofs.Netted.{nets_are_sound}
-use Rattle.top_wiring.proofs.Settling.{nets_settle}
+use Rattle.top_wiring.proofs.NetStages.{nets_settle}
 use Rattle.top_wiring.proofs.wiring.wire.Goals as goal
 
 pub returns : goal.returns

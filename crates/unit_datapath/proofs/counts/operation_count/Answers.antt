@@ -1,6 +1,6 @@
 use Rattle.std.proofs.Common.{◌+◌, ◌∙◌, refl, sym, ap}
 use Rattle.unit_datapath.specs.Counts.{is_made}
-use Rattle.unit_datapath.proofs.Counting.{operation_counted, operation_none, none_made}
+use Rattle.unit_datapath.proofs.UnitCount.{operation_counted, operation_none, none_made}
 use Rattle.unit_datapath.proofs.counts.operation_count.Goals as goal
 
 pub returns-then-is_made : goal.returns-then-is_made

@@ -4,7 +4,7 @@ use Rattle.block_ir.specs.declared.code.Stage.{Stage}
 use Rattle.block_ir.specs.declared.code.Stage.TheVariants as stage
 use Rattle.block_ir.specs.declared.plan.StagePlan.{StagePlan}
 use Rattle.unit_datapath.specs.Counts.{IsCountOf, StageHas}
-use Rattle.unit_datapath.proofs.Counting.{stage_none, stage_counted}
+use Rattle.unit_datapath.proofs.UnitCount.{stage_none, stage_counted}
 use Rattle.unit_datapath.proofs.counts.stage_count.Goals as goal
 
 pub returns-in-Run-plan : goal.returns-in-Run-plan

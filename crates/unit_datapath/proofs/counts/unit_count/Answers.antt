@@ -1,7 +1,7 @@
 use Rattle.std.proofs.Common.{◌≡◌, ℕ, length, ap, subst, arith}
-use Rattle.block_datapath.proofs.Walking.{item_is}
+use Rattle.block_datapath.proofs.OperationValues.{item_is}
 use Rattle.unit_datapath.specs.Counts.{IsCountOf, CodeHas}
-use Rattle.unit_datapath.proofs.Counting.{code_none, code_more}
+use Rattle.unit_datapath.proofs.UnitCount.{code_none, code_more}
 use Rattle.unit_datapath.proofs.counts.unit_count.Goals as goal
 
 pub loop-number-preserved : goal.loop-number-preserved

@@ -1,10 +1,10 @@
 use Rattle.std.proofs.Common.{refl}
-use Rattle.operator_wires.proofs.Making.{on_two}
+use Rattle.operator_wires.proofs.MadeWords.{on_two}
 use Rattle.block_datapath.specs.Chains.{SetsNext}
 use Rattle.block_datapath.specs.Wired.{IsLinked}
 use Rattle.unit_datapath.specs.declared.inputs.UnitInputs.{UnitInputs}
 use Rattle.unit_datapath.specs.Inputs.{LinksBegun}
-use Rattle.unit_datapath.proofs.Inputting.{unit_linked}
+use Rattle.unit_datapath.proofs.UnitInputs.{unit_linked}
 use Rattle.unit_datapath.proofs.inputs.link_begun.Goals as goal
 
 pub returns : goal.returns

@@ -2,7 +2,7 @@ use Rattle.std.proofs.Common.{◌∙◌, sym, ap, List, Bool}
 use Rattle.std.specs.Prelude.{slice_get}
 use Rattle.std.proofs.lemmas.Result.{on_ok_weaker}
 use Rattle.unit_datapath.specs.Inputs.{is_begun}
-use Rattle.unit_datapath.proofs.Inputting.{unit_begun}
+use Rattle.unit_datapath.proofs.UnitInputs.{unit_begun}
 use Rattle.unit_datapath.proofs.inputs.link_unit.Goals as goal
 
 pub returns-then-is_begun : goal.returns-then-is_begun

@@ -1,5 +1,5 @@
 use Rattle.std.proofs.Common.{sym}
-use Rattle.unit_datapath.proofs.Kinding.{no_work}
+use Rattle.unit_datapath.proofs.UnitKinds.{no_work}
 use Rattle.unit_datapath.proofs.kinds.is_work.Goals as goal
 
 pub returns-in_default : goal.returns-in_default

@@ -1,7 +1,7 @@
 use Rattle.std.proofs.Common.{◌≡◌, ℕ, ◌+◌, ◌||◌, ◌∙◌, Bool, length, sym, ap, subst, arith}
-use Rattle.block_datapath.proofs.Walking.{item_is}
+use Rattle.block_datapath.proofs.OperationValues.{item_is}
 use Rattle.unit_datapath.specs.Links.{HasWork}
-use Rattle.unit_datapath.proofs.Linking.{work_none, work_more}
+use Rattle.unit_datapath.proofs.UnitLinks.{work_none, work_more}
 use Rattle.unit_datapath.proofs.links.has_work.Goals as goal
 
 pub loop-operation-preserved : goal.loop-operation-preserved

@@ -1,7 +1,7 @@
 use Rattle.std.proofs.Common.{◌≡◌, ℕ, length, ap, subst, arith}
-use Rattle.block_datapath.proofs.Walking.{item_is}
+use Rattle.block_datapath.proofs.OperationValues.{item_is}
 use Rattle.unit_datapath.specs.Links.{LinksFirst}
-use Rattle.unit_datapath.proofs.Linking.{first_none, first_more}
+use Rattle.unit_datapath.proofs.UnitLinks.{first_none, first_more}
 use Rattle.unit_datapath.proofs.links.link_all.Goals as goal
 
 pub loop-number-preserved : goal.loop-number-preserved

@@ -1,5 +1,5 @@
 use Rattle.std.proofs.lemmas.Result.{on_ok_weaker}
-use Rattle.unit_datapath.proofs.Linking.{block_linked}
+use Rattle.unit_datapath.proofs.UnitLinks.{block_linked}
 use Rattle.unit_datapath.proofs.links.link_block.Goals as goal
 
 pub returns : goal.returns

@@ -1,6 +1,6 @@
 use Rattle.std.proofs.Common.{◌∙◌}
 use Rattle.std.proofs.lemmas.Result.{on_ok_weaker}
-use Rattle.unit_datapath.proofs.Linking.{operands_linked}
+use Rattle.unit_datapath.proofs.UnitLinks.{operands_linked}
 use Rattle.unit_datapath.proofs.links.link_operands.Goals as goal
 
 pub returns : goal.returns

@@ -1,8 +1,8 @@
 use Rattle.std.proofs.Common.{◌∙◌, refl, sym, ap}
 use Rattle.std.proofs.lemmas.Result.{on_ok_weaker}
 use Rattle.unit_datapath.specs.Kinds.{is_work}
-use Rattle.unit_datapath.proofs.Kinding.{no_work}
-use Rattle.unit_datapath.proofs.Linking.{operation_linked, nothing_linked}
+use Rattle.unit_datapath.proofs.UnitKinds.{no_work}
+use Rattle.unit_datapath.proofs.UnitLinks.{operation_linked, nothing_linked}
 use Rattle.unit_datapath.proofs.links.link_operation.Goals as goal
 
 pub returns-then-is_shared : goal.returns-then-is_shared

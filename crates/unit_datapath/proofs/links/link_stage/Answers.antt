@@ -5,7 +5,7 @@ use Rattle.block_ir.specs.declared.code.Stage.{Stage}
 use Rattle.block_ir.specs.declared.code.Stage.TheVariants as stage
 use Rattle.block_ir.specs.declared.plan.StagePlan.{StagePlan}
 use Rattle.unit_datapath.specs.Links.{HasWork, LinksStage}
-use Rattle.unit_datapath.proofs.Linking.{stage_empty, stage_linked, stage_idle}
+use Rattle.unit_datapath.proofs.UnitLinks.{stage_empty, stage_linked, stage_idle}
 use Rattle.unit_datapath.proofs.links.link_stage.Goals as goal
 
 pub returns-then-has_work : goal.returns-then-has_work

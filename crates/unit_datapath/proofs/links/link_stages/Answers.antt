@@ -1,7 +1,7 @@
 use Rattle.std.proofs.Common.{◌≡◌, ℕ, length, ap, subst, arith}
-use Rattle.block_datapath.proofs.Walking.{item_is}
+use Rattle.block_datapath.proofs.OperationValues.{item_is}
 use Rattle.unit_datapath.specs.Links.{LinksStages}
-use Rattle.unit_datapath.proofs.Linking.{stages_none, stages_more}
+use Rattle.unit_datapath.proofs.UnitLinks.{stages_none, stages_more}
 use Rattle.unit_datapath.proofs.links.link_stages.Goals as goal
 
 pub loop-number-preserved : goal.loop-number-preserved

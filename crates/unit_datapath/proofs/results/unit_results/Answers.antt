@@ -1,6 +1,6 @@
 use Rattle.std.proofs.Common.{◌≡◌, ℕ, ◌+◌, ◌<◌, ◌∙◌, List, length, sym, ap, subst, arith, slice_index}
 use Rattle.unit_datapath.specs.Results.{ShowsResults}
-use Rattle.unit_datapath.proofs.Resulting.{results_none, results_more}
+use Rattle.unit_datapath.proofs.UnitResults.{results_none, results_more}
 use Rattle.unit_datapath.proofs.results.unit_results.Goals as goal
 
 pub loop-number-preserved : goal.loop-number-preserved

@@ -1,5 +1,5 @@
 use Rattle.std.proofs.Common.{arith}
-use Rattle.unit_datapath.proofs.Working.{work_one, work_more}
+use Rattle.unit_datapath.proofs.WorkStates.{work_one, work_more}
 use Rattle.unit_datapath.proofs.states.at_work.Goals as goal
 
 pub loop-offset-preserved : goal.loop-offset-preserved

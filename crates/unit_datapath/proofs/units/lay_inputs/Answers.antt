@@ -1,5 +1,5 @@
 use Rattle.std.proofs.Common.{◌∙◌}
-use Rattle.unit_datapath.proofs.Laying.{inputs_laid}
+use Rattle.unit_datapath.proofs.UnitsLaid.{inputs_laid}
 use Rattle.unit_datapath.proofs.units.lay_inputs.Goals as goal
 
 pub returns : goal.returns

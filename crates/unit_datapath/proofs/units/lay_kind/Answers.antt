@@ -1,5 +1,5 @@
 use Rattle.std.proofs.lemmas.Result.{on_ok_weaker}
-use Rattle.unit_datapath.proofs.Uniting.{kind_none, kind_more}
+use Rattle.unit_datapath.proofs.AllUnits.{kind_none, kind_more}
 use Rattle.unit_datapath.proofs.units.lay_kind.Goals as goal
 
 pub returns-then-counts-eq0 : goal.returns-then-counts-eq0

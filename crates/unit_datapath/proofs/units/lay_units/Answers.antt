@@ -1,7 +1,7 @@
 use Rattle.std.proofs.Common.{refl, true, false, [], ◌∷◌}
 use Rattle.hls_ints.specs.Types.{int_type, unsigned_int, long_int, unsigned_long}
 use Rattle.unit_datapath.proofs.Counted.{kind_for, not_among}
-use Rattle.unit_datapath.proofs.Uniting.{laid_none, laid_more, all_laid}
+use Rattle.unit_datapath.proofs.AllUnits.{laid_none, laid_more, all_laid}
 use Rattle.unit_datapath.proofs.units.lay_units.Goals as goal
 
 pub returns : goal.returns

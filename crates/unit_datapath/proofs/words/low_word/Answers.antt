@@ -1,5 +1,5 @@
 use Rattle.std.proofs.Common.{◌∙◌}
-use Rattle.unit_datapath.proofs.Wording.{low_shown}
+use Rattle.unit_datapath.proofs.HeldOperands.{low_shown}
 use Rattle.unit_datapath.proofs.words.low_word.Goals as goal
 
 pub returns : goal.returns

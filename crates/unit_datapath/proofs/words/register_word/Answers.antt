@@ -2,9 +2,9 @@ use Rattle.std.proofs.Common.{◌∙◌, sym, pos}
 use Rattle.hls_ints.specs.Types.{wrapped}
 use Rattle.operator_wires.specs.Words.{Holds}
 use Rattle.operator_wires.specs.Added.{IsConstant}
-use Rattle.operator_wires.proofs.Making.{of_ok, of_two}
+use Rattle.operator_wires.proofs.MadeWords.{of_ok, of_two}
 use Rattle.unit_datapath.specs.Words.{ShowsLow, ShowsRegister}
-use Rattle.unit_datapath.proofs.Wording.{register_there, register_missing}
+use Rattle.unit_datapath.proofs.HeldOperands.{register_there, register_missing}
 use Rattle.unit_datapath.proofs.words.register_word.Goals as goal
 
 pub returns-in-Some : goal.returns-in-Some

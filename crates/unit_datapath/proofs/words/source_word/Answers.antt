@@ -7,12 +7,12 @@ use Rattle.block_ir.specs.declared.operand.Source.{Source}
 use Rattle.block_ir.specs.declared.operand.Source.TheVariants.{Constant, Variable, Value}
 use Rattle.operator_wires.specs.Words.{Holds}
 use Rattle.operator_wires.specs.Added.{IsConstant}
-use Rattle.operator_wires.proofs.Making.{of_ok, of_two}
+use Rattle.operator_wires.proofs.MadeWords.{of_ok, of_two}
 use Rattle.block_datapath.specs.Seen.{ShowsVariable}
 use Rattle.block_datapath.specs.Wired.{IsVariableWord}
-use Rattle.block_datapath.proofs.Seeing.{fits_typed}
+use Rattle.block_datapath.proofs.OperandWords.{fits_typed}
 use Rattle.unit_datapath.specs.Words.{ShowsRegister, ShowsSource}
-use Rattle.unit_datapath.proofs.Wording.{constant_shown, variable_shown, value_shown}
+use Rattle.unit_datapath.proofs.HeldOperands.{constant_shown, variable_shown, value_shown}
 use Rattle.unit_datapath.proofs.words.source_word.Goals as goal
 
 pub returns-in-Constant : goal.returns-in-Constant

@@ -1,9 +1,9 @@
 use Rattle.hls_ints.specs.Types.{wrapped}
 use Rattle.operator_wires.specs.Words.{Becomes}
 use Rattle.operator_wires.specs.Added.{IsConverted}
-use Rattle.operator_wires.proofs.Making.{of_two}
+use Rattle.operator_wires.proofs.MadeWords.{of_two}
 use Rattle.unit_datapath.specs.Words.{ShowsUnitWord}
-use Rattle.unit_datapath.proofs.Wording.{word_shown}
+use Rattle.unit_datapath.proofs.HeldOperands.{word_shown}
 use Rattle.unit_datapath.proofs.words.unit_word.Goals as goal
 
 pub returns : goal.returns

@@ -1,4 +1,4 @@
-use Rattle.verilog_lexer.proofs.Facing.{no_front}
+use Rattle.verilog_lexer.proofs.FrontToken.{no_front}
 use Rattle.verilog_lexer.proofs.front.front_token.Goals as goal
 
 pub returns-in_default : goal.returns-in_default

@@ -1,7 +1,7 @@
 use Rattle.std.proofs.Common.{◌≡◌, ◌∙◌, ap, sym, refl, take, drop, false, Some, arith}
 use Rattle.verilog_tree.specs.declared.token.Token.TheVariants as t
 use Rattle.verilog_lexer.specs.Runs.{quoted_len}
-use Rattle.verilog_lexer.proofs.Facing.{quoted_token, quoted_fits}
+use Rattle.verilog_lexer.proofs.FrontToken.{quoted_token, quoted_fits}
 use Rattle.verilog_lexer.proofs.front.quoted_token.Goals as goal
 
 pub overflow_add-result : goal.overflow_add-result

@@ -1,5 +1,5 @@
 use Rattle.verilog_tree.specs.Grammar as g
-use Rattle.verilog_reader.proofs.Counting.{counted}
+use Rattle.verilog_reader.proofs.TokenCounts.{counted}
 use Rattle.verilog_reader.proofs.counts.+counts.Goals as goal
 
 pub of_statements-loop-statement-preserved : goal.of_statements-loop-statement-preserved

@@ -1,4 +1,4 @@
-use Rattle.verilog_reader.proofs.Counting.{comma_counted}
+use Rattle.verilog_reader.proofs.TokenCounts.{comma_counted}
 use Rattle.verilog_reader.proofs.counts.of_arguments.Goals as goal
 
 pub loop-argument-preserved : goal.loop-argument-preserved

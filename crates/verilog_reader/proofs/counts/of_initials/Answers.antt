@@ -1,5 +1,5 @@
 use Rattle.verilog_tree.specs.Grammar as g
-use Rattle.verilog_reader.proofs.Counting.{counted}
+use Rattle.verilog_reader.proofs.TokenCounts.{counted}
 use Rattle.verilog_reader.proofs.counts.of_initials.Goals as goal
 
 pub loop-constant-preserved : goal.loop-constant-preserved

@@ -1,5 +1,5 @@
 use Rattle.verilog_tree.specs.Grammar as g
-use Rattle.verilog_reader.proofs.Counting.{counted}
+use Rattle.verilog_reader.proofs.TokenCounts.{counted}
 use Rattle.verilog_reader.proofs.counts.of_items.Goals as goal
 
 pub loop-item-preserved : goal.loop-item-preserved

@@ -1,5 +1,5 @@
 use Rattle.verilog_reader.specs.Before.{port_and_comma}
-use Rattle.verilog_reader.proofs.Counting.{counted}
+use Rattle.verilog_reader.proofs.TokenCounts.{counted}
 use Rattle.verilog_reader.proofs.counts.of_ports.Goals as goal
 
 pub loop-port-preserved : goal.loop-port-preserved

@@ -1,5 +1,5 @@
 use Rattle.verilog_tree.specs.Grammar as g
-use Rattle.verilog_reader.proofs.Counting.{counted}
+use Rattle.verilog_reader.proofs.TokenCounts.{counted}
 use Rattle.verilog_reader.proofs.parts.of_modules.Goals as goal
 
 pub loop-module-preserved : goal.loop-module-preserved

@@ -1,6 +1,6 @@
 use Rattle.std.proofs.Common.{◌≡◌, ◌∙◌, sym, false, refl, length, arith}
 use Rattle.std.proofs.lemmas.Option.{slice_get_read}
-use Rattle.verilog_reader.proofs.Turning.{one_more, all_of}
+use Rattle.verilog_reader.proofs.LoopTurns.{one_more, all_of}
 use Rattle.verilog_reader.specs.Answers.{lacks_port}
 use Rattle.verilog_reader.proofs.read.first_lacking.Goals as goal
 

@@ -2,7 +2,7 @@ use Rattle.std.proofs.Common.{◌≡◌, ◌∙◌, sym, true, refl, length, ari
 use Rattle.std.specs.Str.{bytes_eq}
 use Rattle.std.proofs.lemmas.Option.{slice_get_read}
 use Rattle.verilog_reader.specs.Top.{top}
-use Rattle.verilog_reader.proofs.Turning.{one_more, all_of, no_top}
+use Rattle.verilog_reader.proofs.LoopTurns.{one_more, all_of, no_top}
 use Rattle.verilog_reader.proofs.read.has_top.Goals as goal
 
 pub returns-then-is_top : goal.returns-then-is_top

@@ -2,7 +2,7 @@
 use Rattle.std.proofs.Common.{◌≡◌, List, sym, ap, ◌∙◌}
 use Rattle.verilog_tree.specs.declared.token.Token.{Token}
 use Rattle.verilog_rules.specs.Reading.{read_net}
-use Rattle.verilog_reader.proofs.Answering as a
+use Rattle.verilog_reader.proofs.ReadClauses as a
 use Rattle.verilog_reader.proofs.read.read.Goals as goal
 
 -- the cursor begins with the tokens

@@ -1,7 +1,7 @@
 use Rattle.std.proofs.Common.{◌≡◌, true, rules, arith}
 use Rattle.std.proofs.lemmas.Grind.{common_steps}
 use Rattle.verilog_reader.specs.Ports.{is_wanted}
-use Rattle.verilog_reader.proofs.Turning.{one_more, all_of}
+use Rattle.verilog_reader.proofs.LoopTurns.{one_more, all_of}
 use Rattle.verilog_reader.proofs.top.first_unwanted.Goals as goal
 
 pub loop-number-preserved : goal.loop-number-preserved

@@ -2,7 +2,7 @@ use Rattle.std.proofs.Common.{◌≡◌, ◌∙◌, sym, subst, true, None, arit
 use Rattle.std.specs.Str.{bytes_eq}
 use Rattle.verilog_reader.specs.Top.{top}
 use Rattle.verilog_reader.specs.Ports.{IsUnwanted}
-use Rattle.verilog_reader.proofs.Turning.{one_more, no_top, unwanted_here, all_wanted}
+use Rattle.verilog_reader.proofs.LoopTurns.{one_more, no_top, unwanted_here, all_wanted}
 use Rattle.verilog_reader.proofs.top.unwanted.Goals as goal
 use Rattle.verilog_reader.proofs.top.unwanted.Goals.{then-is_top+in_ok-found+in-None, else-is_top}
 

@@ -1,5 +1,5 @@
 use Rattle.verilog_tree.specs.Grammar as g
-use Rattle.verilog_text.proofs.Laying.{more_step}
+use Rattle.verilog_text.proofs.LaidTokens.{more_step}
 use Rattle.verilog_text.proofs.expressions.names.Goals as goal
 
 pub loop-name-preserved : goal.loop-name-preserved

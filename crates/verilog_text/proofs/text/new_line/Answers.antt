@@ -1,4 +1,4 @@
-use Rattle.verilog_text.proofs.Laying.{more_spaces}
+use Rattle.verilog_text.proofs.LaidTokens.{more_spaces}
 use Rattle.verilog_text.proofs.text.new_line.Goals as goal
 
 pub loop-level-preserved : goal.loop-level-preserved

@@ -1,5 +1,5 @@
 use Rattle.verilog_tree.specs.Grammar as g
-use Rattle.verilog_text.proofs.Laying.{more_step}
+use Rattle.verilog_text.proofs.LaidTokens.{more_step}
 use Rattle.verilog_writer.proofs.items.more_arguments.Goals as goal
 
 pub loop-one-preserved : goal.loop-one-preserved

@@ -1,5 +1,5 @@
 use Rattle.verilog_tree.specs.Grammar as g
-use Rattle.verilog_text.proofs.Laying.{all_step}
+use Rattle.verilog_text.proofs.LaidTokens.{all_step}
 use Rattle.verilog_writer.proofs.items.net.Goals as goal
 
 pub loop-one-preserved : goal.loop-one-preserved

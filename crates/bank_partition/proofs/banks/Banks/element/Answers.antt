@@ -6,7 +6,7 @@ use Rattle.bank_partition.specs.declared.banks.Banks.{Banks}
 use Rattle.bank_partition.specs.declared.banks.Element.{Element}
 use Rattle.bank_partition.specs.Shapes.{shape_of}
 use Rattle.bank_partition.specs.Partition.{shapes, place_at, place_of}
-use Rattle.bank_partition.proofs.Standing.{element_is, no_element, found_back}
+use Rattle.bank_partition.proofs.BanksOfSpreads.{element_is, no_element, found_back}
 use Rattle.bank_partition.proofs.banks.Banks.element.Goals as goal
 
 stands : (b : Banks) (bank : ℕ) (xs : List Bank) (h : Bank) → xs ≡ b.banks.items → bank < length xs → h ≡ get_or xs bank h → slice_get (shapes b) bank ≡ Some (shape_of h)

@@ -5,7 +5,7 @@ use Rattle.bank_partition.specs.declared.banks.Spread.{Spread}
 use Rattle.bank_partition.specs.Shapes.{shape_of}
 use Rattle.bank_partition.specs.Partition.{shapes, place_at, IsElement}
 use Rattle.bank_partition.specs.declared.banks.Banks.{Banks}
-use Rattle.bank_partition.proofs.Standing.{held, placed}
+use Rattle.bank_partition.proofs.BanksOfSpreads.{held, placed}
 use Rattle.bank_partition.proofs.banks.Banks.place.Goals as goal
 
 record Known (b : Banks) (x j : ℕ) (s : Spread) : Type 0 where

@@ -4,7 +4,7 @@ use Rattle.std.specs.Option.{option_copied}
 use Rattle.code_merge.specs.Joined.{HasLeft}
 use Rattle.code_merge.specs.Steps.{block_in}
 use Rattle.code_merge.proofs.Chains.{begin_left, on_ok_three}
-use Rattle.code_merge.proofs.Merging.{left_none}
+use Rattle.code_merge.proofs.MergedCode.{left_none}
 use Rattle.code_merge.proofs.merger.Merger.begin.Goals as goal
 
 pub returns-in-Some : goal.returns-in-Some

@@ -1,7 +1,7 @@
 use Rattle.std.proofs.Common.{◌≡◌, sym, subst}
 use Rattle.sim_layout.specs.Running.{running}
 use Rattle.cycle_sim.specs.Lockstep.{TakesRounds}
-use Rattle.cycle_sim.proofs.Turning.{takes_rounds}
+use Rattle.cycle_sim.proofs.LockstepTurns.{takes_rounds}
 use Rattle.cycle_sim.proofs.sim.Sim.all_enabled.Goals as goal
 
 pub returns-clause-takes : goal.returns-clause-takes

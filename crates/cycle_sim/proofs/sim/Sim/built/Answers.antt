@@ -1,7 +1,7 @@
 use Rattle.std.proofs.Common.{rules, ◌≡◌, ℕ, List, true, length, replicate, refl, ap, sym, ◌∙◌, subst, arith}
 use Rattle.sim_values.specs.declared.settle.Step.{Step}
 use Rattle.sim_events.specs.Events.{IsFanout}
-use Rattle.sim_events.proofs.Settling.{keeping_all}
+use Rattle.sim_events.proofs.PendingSteps.{keeping_all}
 use Rattle.cycle_sim.proofs.Events.{moving_at}
 use Rattle.cycle_sim.proofs.sim.Sim.built.Goals as goal
 

@@ -1,5 +1,5 @@
 use Rattle.sim_layout.specs.Running.{choice_of}
-use Rattle.cycle_sim.proofs.Turning.{net_refl, fits_all}
+use Rattle.cycle_sim.proofs.LockstepTurns.{net_refl, fits_all}
 use Rattle.cycle_sim.proofs.sim.Sim.done.Goals as goal
 
 pub shows_done-requires : goal.shows_done-requires

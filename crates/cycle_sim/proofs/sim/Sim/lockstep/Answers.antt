@@ -4,7 +4,7 @@ use Rattle.sim_values.specs.declared.settle.Choice.{Choice}
 use Rattle.sim_layout.specs.Running.{choice_of}
 use Rattle.cycle_sim.specs.Lockstep.{IsCutOff}
 use Rattle.sim_layout.proofs.Calls.{on_err}
-use Rattle.cycle_sim.proofs.Turning.{fits_all, told, turned_on, ended_done, cut_off}
+use Rattle.cycle_sim.proofs.LockstepTurns.{fits_all, told, turned_on, ended_done, cut_off}
 use Rattle.cycle_sim.proofs.sim.Sim.lockstep.Goals as goal
 
 pub shows_done-requires : goal.shows_done-requires

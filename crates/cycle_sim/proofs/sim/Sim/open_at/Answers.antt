@@ -12,7 +12,7 @@ use Rattle.cycle_sim.specs.Opened.{LacksDone}
 use Rattle.sim_layout.specs.Running.{IsDone}
 use Rattle.sim_layout.specs.Rounds.{enable_width, pref_count, prefs_in, TakesTurns, AreNarrowSignals}
 use Rattle.cycle_sim.proofs.Causes.{right_net, has_done, laid_out, one_of}
-use Rattle.cycle_sim.proofs.Opening.{opened_stands}
+use Rattle.cycle_sim.proofs.OpenedWords.{opened_stands}
 use Rattle.cycle_sim.proofs.Enables.{narrow_top, threads_top}
 use Rattle.cycle_sim.proofs.sim.Sim.open_at.Goals as goal
 

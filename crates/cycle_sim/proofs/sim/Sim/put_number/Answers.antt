@@ -4,7 +4,7 @@ use Rattle.std.proofs.lemmas.List.{take_at}
 use Rattle.sim_layout.specs.Running.{Running, running, Stands}
 use Rattle.cycle_sim.specs.Putting.{FitsAt, with_number}
 use Rattle.cycle_sim.proofs.Events.{keeping_at}
-use Rattle.cycle_sim.proofs.Putting.{put_stands}
+use Rattle.cycle_sim.proofs.PutNumbers.{put_stands}
 use Rattle.cycle_sim.proofs.sim.Sim.put_number.Goals as goal
 use Rattle.std.specs.Prelude.{refl}
 

@@ -3,7 +3,7 @@ use Rattle.std.proofs.Math.ListN.{length-set}
 use Rattle.std.proofs.lemmas.List.{take_at}
 use Rattle.sim_layout.specs.Running.{Running, running, Stands}
 use Rattle.cycle_sim.specs.Putting.{FitsWordAt, with_word}
-use Rattle.cycle_sim.proofs.Putting.{put_word_stands}
+use Rattle.cycle_sim.proofs.PutNumbers.{put_word_stands}
 use Rattle.cycle_sim.proofs.sim.Sim.put_word.Goals as goal
 
 pub invariant_of-self : goal.invariant_of-self

@@ -3,15 +3,15 @@ use Rattle.std.proofs.Common.{ap, sym, ◌∙◌, subst, arith, rules, refl}
 use Rattle.sim_layout.specs.Rounds.{threads_of}
 use Rattle.sim_layout.specs.Running.{Running, IsSameNet}
 use Rattle.sim_layout.proofs.Calls.{on_err}
-use Rattle.cycle_sim.proofs.Turning.{net_trans}
+use Rattle.cycle_sim.proofs.LockstepTurns.{net_trans}
 use Rattle.slot_sim.specs.Slots.{IsSameSlotOf}
 use Rattle.journal_laws.specs.declared.verdict.Answer.TheVariants as answers
 use Rattle.journal_laws.specs.Steps.{InTop}
-use Rattle.journal_laws.proofs.Entering.{same_top}
+use Rattle.journal_laws.proofs.EntrySlots.{same_top}
 use Rattle.grant_journal.specs.Boards.{IsPrinting, Keeps}
 use Rattle.grant_journal.proofs.Framed.{net_between, threaded_in, below, within}
-use Rattle.grant_journal.proofs.Keeping.{keeps_on}
-use Rattle.grant_journal.proofs.Offering.{judged_as}
+use Rattle.grant_journal.proofs.BoardKept.{keeps_on}
+use Rattle.grant_journal.proofs.Offers.{judged_as}
 use Rattle.grant_journal.proofs.Commits.{given_ended, given_stale, given_waits, given_committed, given_as, printing, printing_as}
 use Rattle.grant_journal.proofs.Commits.{keeps_entered, free, running, copy_on, waiting_of, making_of, same_of, opening_of}
 use Rattle.grant_journal.proofs.board.Board.commit.Goals as goal

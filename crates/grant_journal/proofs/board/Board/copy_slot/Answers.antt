@@ -1,5 +1,5 @@
 use Rattle.std.specs.Prelude.{◌≡◌, vec_capacity}
-use Rattle.grant_journal.proofs.Offering.{slot_at}
+use Rattle.grant_journal.proofs.Offers.{slot_at}
 use Rattle.grant_journal.proofs.board.Board.copy_slot.Goals as goal
 
 pub returns : goal.returns

@@ -1,5 +1,5 @@
 use Rattle.std.specs.Prelude.{◌≡◌, vec_capacity}
-use Rattle.grant_journal.proofs.Offering.{finished, finished_as}
+use Rattle.grant_journal.proofs.Offers.{finished, finished_as}
 use Rattle.grant_journal.proofs.board.Board.finish.Goals as goal
 
 pub returns-clause-finished : goal.returns-clause-finished

@@ -1,10 +1,10 @@
 use Rattle.std.specs.Prelude.{◌≡◌, length, vec_capacity}
 use Rattle.std.proofs.Common.{ap}
 use Rattle.journal_laws.specs.Journal.{ended}
-use Rattle.journal_laws.proofs.Entering.{same_top}
+use Rattle.journal_laws.proofs.EntrySlots.{same_top}
 use Rattle.grant_journal.proofs.Framed.{threaded_in, within}
-use Rattle.grant_journal.proofs.Keeping.{keeps_on}
-use Rattle.grant_journal.proofs.Offering.{judged_as, offered_as, offered_next}
+use Rattle.grant_journal.proofs.BoardKept.{keeps_on}
+use Rattle.grant_journal.proofs.Offers.{judged_as, offered_as, offered_next}
 use Rattle.grant_journal.proofs.board.Board.next.Goals as goal
 
 pub judge-requires-clause-prefer : goal.judge-requires-clause-prefer

@@ -1,6 +1,6 @@
 use Rattle.std.specs.Prelude.{ℕ, ◌≤◌, vec_capacity}
 use Rattle.std.proofs.Common.{subst}
-use Rattle.grant_journal.proofs.Keeping.{keeps_none}
+use Rattle.grant_journal.proofs.BoardKept.{keeps_none}
 use Rattle.grant_journal.proofs.board.Board.open.Goals as goal
 
 pub invariant_of-result : goal.invariant_of-result

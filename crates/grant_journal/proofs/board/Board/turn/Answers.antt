@@ -5,8 +5,8 @@ use Rattle.verilog_meaning.specs.Threads.{IsSame}
 use Rattle.journal_text.specs.declared.entry.Entry.{Entry}
 use Rattle.journal_laws.specs.Journal.{LeadsTo}
 use Rattle.grant_journal.specs.Boards.{IsSlotAt, IsGiven}
-use Rattle.grant_journal.proofs.Offering.{one_state}
-use Rattle.grant_journal.proofs.Turning.{runs_on, goes_through, grown_more, grown_added, grown_within, grown_over}
+use Rattle.grant_journal.proofs.Offers.{one_state}
+use Rattle.grant_journal.proofs.LoneTurns.{runs_on, goes_through, grown_more, grown_added, grown_within, grown_over}
 use Rattle.grant_journal.proofs.board.Board.turn.Goals as goal
 
 pub same-self : goal.same-self

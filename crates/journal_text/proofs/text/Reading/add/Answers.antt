@@ -1,5 +1,5 @@
 use Rattle.std.proofs.Common.{refl}
-use Rattle.journal_text.proofs.Parting.{spelled_more}
+use Rattle.journal_text.proofs.JournalLines.{spelled_more}
 use Rattle.journal_text.proofs.text.Reading.add.Goals as goal
 
 pub returns-in-Some : goal.returns-in-Some

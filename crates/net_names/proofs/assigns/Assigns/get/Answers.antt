@@ -4,7 +4,7 @@ use Rattle.std.specs.Option.{option_copied}
 use Rattle.verilog_tree.specs.declared.tree.Assign.{Assign}
 use Rattle.netlist.specs.NetlistOf.{place, assigned}
 use Rattle.net_names.specs.Found.{behind}
-use Rattle.net_names.proofs.Finding.{copied_get, assigned_at}
+use Rattle.net_names.proofs.FoundParts.{copied_get, assigned_at}
 use Rattle.net_names.proofs.assigns.Assigns.get.Goals as goal
 
 pub returns-in-Some : goal.returns-in-Some

@@ -1,7 +1,7 @@
 use Rattle.std.proofs.Common.{◌∙◌, ap}
 use Rattle.std.specs.Prelude.{slice_get}
 use Rattle.netlist.specs.NetlistOf.{place, connected}
-use Rattle.net_names.proofs.Finding.{signal_at, connected_at}
+use Rattle.net_names.proofs.FoundParts.{signal_at, connected_at}
 use Rattle.net_names.proofs.connections.Connections.signal.Goals as goal
 
 pub returns-in-Some : goal.returns-in-Some

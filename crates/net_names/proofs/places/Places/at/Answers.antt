@@ -3,7 +3,7 @@ use Rattle.std.specs.Prelude.{unwrap_or}
 use Rattle.std.proofs.lemmas.List.{length-map}
 use Rattle.netlist.specs.NetlistOf.{place}
 use Rattle.net_names.specs.Tables.{names_of, number_of}
-use Rattle.net_names.proofs.Numbering.{place_found}
+use Rattle.net_names.proofs.NumberTables.{place_found}
 use Rattle.net_names.proofs.places.Places.at.Goals as goal
 
 pub returns : goal.returns

@@ -1,5 +1,5 @@
 use Rattle.std.proofs.Common.{◌≤◌, length, subst, arith}
-use Rattle.net_names.proofs.Numbering.{no_place, next_place}
+use Rattle.net_names.proofs.NumberTables.{no_place, next_place}
 use Rattle.net_names.proofs.places.Places.of.Goals as goal
 
 pub loop-place-init : goal.loop-place-init

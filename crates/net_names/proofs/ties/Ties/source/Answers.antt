@@ -3,7 +3,7 @@ use Rattle.std.specs.Prelude.{option_map, slice_get}
 use Rattle.std.proofs.lemmas.Option.{slice_get-map}
 use Rattle.netlist.specs.NetlistOf.{place}
 use Rattle.net_names.specs.Ties.{tied_of, ties_of, tied_source}
-use Rattle.net_names.proofs.Finding.{source_at, tied_at}
+use Rattle.net_names.proofs.FoundParts.{source_at, tied_at}
 use Rattle.net_names.proofs.ties.Ties.source.Goals as goal
 
 pub returns-in-Some : goal.returns-in-Some

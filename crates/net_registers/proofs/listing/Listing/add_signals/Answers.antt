@@ -1,5 +1,5 @@
 use Rattle.std.proofs.Common.{arith}
-use Rattle.net_registers.proofs.Growing.{first_more, first_all}
+use Rattle.net_registers.proofs.RegisterGrowth.{first_more, first_all}
 use Rattle.net_registers.proofs.listing.Listing.add_signals.Goals as goal
 
 pub loop-number-preserved : goal.loop-number-preserved

@@ -1,4 +1,4 @@
-use Rattle.net_registers.proofs.Growing.{HasFirst}
+use Rattle.net_registers.proofs.RegisterGrowth.{HasFirst}
 use Rattle.net_registers.proofs.listing.Listing.add_signals.Given as goal
 
 abbrev pub invariant-loop-number : goal.invariant-loop-number

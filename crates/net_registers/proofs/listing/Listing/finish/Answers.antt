@@ -1,5 +1,5 @@
 use Rattle.std.proofs.Common.{refl}
-use Rattle.net_registers.proofs.Heading.{definitions_is}
+use Rattle.net_registers.proofs.HeadLines.{definitions_is}
 use Rattle.net_registers.proofs.listing.Listing.finish.Goals as goal
 
 pub returns : goal.returns

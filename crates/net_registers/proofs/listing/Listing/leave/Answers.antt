@@ -1,5 +1,5 @@
 use Rattle.std.proofs.Common.{refl}
-use Rattle.net_registers.proofs.Heading.{end_is}
+use Rattle.net_registers.proofs.HeadLines.{end_is}
 use Rattle.net_registers.proofs.listing.Listing.leave.Goals as goal
 
 pub returns : goal.returns

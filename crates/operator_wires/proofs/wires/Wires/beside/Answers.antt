@@ -1,4 +1,4 @@
-use Rattle.operator_wires.proofs.Building.{beside_answer}
+use Rattle.operator_wires.proofs.BuiltWires.{beside_answer}
 use Rattle.operator_wires.proofs.wires.Wires.beside.Goals as goal
 
 pub returns-clause-wired : goal.returns-clause-wired

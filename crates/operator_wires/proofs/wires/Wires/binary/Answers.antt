@@ -1,4 +1,4 @@
-use Rattle.operator_wires.proofs.Building.{binary_answer}
+use Rattle.operator_wires.proofs.BuiltWires.{binary_answer}
 use Rattle.operator_wires.proofs.wires.Wires.binary.Goals as goal
 
 pub returns-clause-wired : goal.returns-clause-wired

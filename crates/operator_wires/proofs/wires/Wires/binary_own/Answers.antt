@@ -5,8 +5,8 @@ use Rattle.verilog_tree.specs.declared.tree.DivisionOperator.TheVariants.{Quotie
 use Rattle.circuit.specs.Readings.{width, divided, signed_divided}
 use Rattle.hls_ints.specs.Words.{word_complement, word_equal, right_shift, arithmetic_shift}
 use Rattle.operator_wires.specs.Numbers.{less_number}
-use Rattle.operator_wires.proofs.Making.{binary_arm, gate_arm, test_arm, less_is, right_less_is, signs_is}
-use Rattle.operator_wires.proofs.Working.{gate_arm as gate_adds, shift_arm, shift_left, division_arm, test_arm as test_adds, turned_arm}
+use Rattle.operator_wires.proofs.MadeWords.{binary_arm, gate_arm, test_arm, less_is, right_less_is, signs_is}
+use Rattle.operator_wires.proofs.OperatorWords.{gate_arm as gate_adds, shift_arm, shift_left, division_arm, test_arm as test_adds, turned_arm}
 use Rattle.operator_wires.proofs.wires.Wires.binary_own.Goals as goal
 
 pub returns-in-Multiply-clause-shows : goal.returns-in-Multiply-clause-shows

@@ -1,5 +1,5 @@
-use Rattle.operator_wires.proofs.Making.{binary_answer}
-use Rattle.operator_wires.proofs.Working.{binary_adds}
+use Rattle.operator_wires.proofs.MadeWords.{binary_answer}
+use Rattle.operator_wires.proofs.OperatorWords.{binary_adds}
 use Rattle.operator_wires.proofs.wires.Wires.binary_word.Goals as goal
 
 pub returns-clause-shows : goal.returns-clause-shows

@@ -1,4 +1,4 @@
-use Rattle.operator_wires.proofs.Building.{both_answer}
+use Rattle.operator_wires.proofs.BuiltWires.{both_answer}
 use Rattle.operator_wires.proofs.wires.Wires.both.Goals as goal
 
 pub returns-clause-wired : goal.returns-clause-wired

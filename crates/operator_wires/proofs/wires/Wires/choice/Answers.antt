@@ -1,4 +1,4 @@
-use Rattle.operator_wires.proofs.Building.{choice_answer}
+use Rattle.operator_wires.proofs.BuiltWires.{choice_answer}
 use Rattle.operator_wires.proofs.wires.Wires.choice.Goals as goal
 
 pub returns-clause-wired : goal.returns-clause-wired

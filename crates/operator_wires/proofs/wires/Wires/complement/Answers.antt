@@ -1,4 +1,4 @@
-use Rattle.operator_wires.proofs.Working.{complement_adds}
+use Rattle.operator_wires.proofs.OperatorWords.{complement_adds}
 use Rattle.operator_wires.proofs.wires.Wires.complement.Goals as goal
 
 pub returns-clause-wired : goal.returns-clause-wired

@@ -1,4 +1,4 @@
-use Rattle.operator_wires.proofs.Building.{constant_answer}
+use Rattle.operator_wires.proofs.BuiltWires.{constant_answer}
 use Rattle.operator_wires.proofs.wires.Wires.constant.Goals as goal
 
 pub returns-clause-wired : goal.returns-clause-wired

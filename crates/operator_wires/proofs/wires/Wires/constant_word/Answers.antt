@@ -2,8 +2,8 @@ use Rattle.std.proofs.Common.{◌∙◌, ap, ◌^◌, ◌<◌, sym, subst}
 use mir.Syntax.{w128}
 use Rattle.std.proofs.lemmas.Int.{to_z-of_z}
 use Rattle.hls_ints.specs.Residues.{residue_of}
-use Rattle.operator_wires.proofs.Making.{constant_holds}
-use Rattle.operator_wires.proofs.Wording.{constant_adds}
+use Rattle.operator_wires.proofs.MadeWords.{constant_holds}
+use Rattle.operator_wires.proofs.TypedWords.{constant_adds}
 use Rattle.operator_wires.proofs.wires.Wires.constant_word.Goals as goal
 
 pub returns-clause-shows : goal.returns-clause-shows

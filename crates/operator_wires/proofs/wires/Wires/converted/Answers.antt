@@ -1,6 +1,6 @@
 use Rattle.std.proofs.Common.{◌∙◌}
-use Rattle.operator_wires.proofs.Resizing.{converted_at}
-use Rattle.operator_wires.proofs.Wording.{converted_adds}
+use Rattle.operator_wires.proofs.ResizedWords.{converted_at}
+use Rattle.operator_wires.proofs.TypedWords.{converted_adds}
 use Rattle.operator_wires.proofs.wires.Wires.converted.Goals as goal
 
 pub returns-clause-shows : goal.returns-clause-shows

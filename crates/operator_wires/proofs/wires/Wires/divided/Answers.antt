@@ -1,4 +1,4 @@
-use Rattle.operator_wires.proofs.Working.{divided_adds}
+use Rattle.operator_wires.proofs.OperatorWords.{divided_adds}
 use Rattle.operator_wires.proofs.wires.Wires.divided.Goals as goal
 
 pub returns-clause-wired : goal.returns-clause-wired

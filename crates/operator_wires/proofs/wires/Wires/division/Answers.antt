@@ -1,4 +1,4 @@
-use Rattle.operator_wires.proofs.Working.{division_adds, signed_division_adds}
+use Rattle.operator_wires.proofs.OperatorWords.{division_adds, signed_division_adds}
 use Rattle.operator_wires.proofs.wires.Wires.division.Goals as goal
 
 pub returns-then-left-clause-wired : goal.returns-then-left-clause-wired

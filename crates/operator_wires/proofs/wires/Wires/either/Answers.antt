@@ -1,4 +1,4 @@
-use Rattle.operator_wires.proofs.Building.{either_answer}
+use Rattle.operator_wires.proofs.BuiltWires.{either_answer}
 use Rattle.operator_wires.proofs.wires.Wires.either.Goals as goal
 
 pub returns-clause-wired : goal.returns-clause-wired

@@ -1,6 +1,6 @@
 use Rattle.std.proofs.lemmas.Result.{IfOk-weaker}
-use Rattle.operator_wires.proofs.Making.{truth_makes}
-use Rattle.operator_wires.proofs.Working.{truth_after, equal_bit}
+use Rattle.operator_wires.proofs.MadeWords.{truth_makes}
+use Rattle.operator_wires.proofs.OperatorWords.{truth_after, equal_bit}
 use Rattle.operator_wires.proofs.wires.Wires.equal_word.Goals as goal
 
 pub returns-clause-shows : goal.returns-clause-shows

@@ -1,4 +1,4 @@
-use Rattle.operator_wires.proofs.Working.{gate_adds}
+use Rattle.operator_wires.proofs.OperatorWords.{gate_adds}
 use Rattle.operator_wires.proofs.wires.Wires.gate.Goals as goal
 
 pub returns-clause-wired : goal.returns-clause-wired

@@ -1,4 +1,4 @@
-use Rattle.operator_wires.proofs.Building.{is_number_answer}
+use Rattle.operator_wires.proofs.BuiltWires.{is_number_answer}
 use Rattle.operator_wires.proofs.wires.Wires.is_number.Goals as goal
 
 pub returns-clause-wired : goal.returns-clause-wired

@@ -1,6 +1,6 @@
 use Rattle.std.proofs.lemmas.Result.{IfOk-weaker}
-use Rattle.operator_wires.proofs.Making.{tests_zero}
-use Rattle.operator_wires.proofs.Wording.{zero_test_adds}
+use Rattle.operator_wires.proofs.MadeWords.{tests_zero}
+use Rattle.operator_wires.proofs.TypedWords.{zero_test_adds}
 use Rattle.operator_wires.proofs.wires.Wires.is_zero.Goals as goal
 
 pub returns-clause-shows : goal.returns-clause-shows

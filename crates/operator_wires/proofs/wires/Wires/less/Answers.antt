@@ -1,4 +1,4 @@
-use Rattle.operator_wires.proofs.Working.{signed_less_adds, less_adds}
+use Rattle.operator_wires.proofs.OperatorWords.{signed_less_adds, less_adds}
 use Rattle.operator_wires.proofs.wires.Wires.less.Goals as goal
 
 pub returns-then-left-clause-wired : goal.returns-then-left-clause-wired

@@ -1,4 +1,4 @@
-use Rattle.operator_wires.proofs.Wording.{low_answer}
+use Rattle.operator_wires.proofs.TypedWords.{low_answer}
 use Rattle.operator_wires.proofs.wires.Wires.low_bits.Goals as goal
 
 pub returns-clause-wired : goal.returns-clause-wired

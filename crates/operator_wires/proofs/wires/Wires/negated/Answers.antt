@@ -1,4 +1,4 @@
-use Rattle.operator_wires.proofs.Working.{negated_adds}
+use Rattle.operator_wires.proofs.OperatorWords.{negated_adds}
 use Rattle.operator_wires.proofs.wires.Wires.negated.Goals as goal
 
 pub returns-clause-wired : goal.returns-clause-wired

@@ -1,4 +1,4 @@
-use Rattle.operator_wires.proofs.Building.{not_answer}
+use Rattle.operator_wires.proofs.BuiltWires.{not_answer}
 use Rattle.operator_wires.proofs.wires.Wires.not.Goals as goal
 
 pub returns-clause-wired : goal.returns-clause-wired

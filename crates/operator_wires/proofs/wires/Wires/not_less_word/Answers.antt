@@ -1,6 +1,6 @@
 use Rattle.std.proofs.lemmas.Result.{IfOk-weaker}
-use Rattle.operator_wires.proofs.Making.{turned_makes}
-use Rattle.operator_wires.proofs.Working.{truth_after}
+use Rattle.operator_wires.proofs.MadeWords.{turned_makes}
+use Rattle.operator_wires.proofs.OperatorWords.{truth_after}
 use Rattle.operator_wires.proofs.wires.Wires.not_less_word.Goals as goal
 
 pub returns-clause-shows : goal.returns-clause-shows

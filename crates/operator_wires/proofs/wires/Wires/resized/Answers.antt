@@ -1,7 +1,7 @@
 use Rattle.std.proofs.Common.{rules, ◌<◌}
 use Rattle.std.proofs.lemmas.Result.{IfOk-weaker}
-use Rattle.operator_wires.proofs.Resizing.{resizes_low, resizes_not, resizes_sign, resizes_zeros}
-use Rattle.operator_wires.proofs.Wording.{resized_low, resized_not, resized_sign, resized_zeros}
+use Rattle.operator_wires.proofs.ResizedWords.{resizes_low, resizes_not, resizes_sign, resizes_zeros}
+use Rattle.operator_wires.proofs.TypedWords.{resized_low, resized_not, resized_sign, resized_zeros}
 use Rattle.operator_wires.proofs.wires.Wires.resized.Goals as goal
 
 pub returns-then-to-from-clause-shows : goal.returns-then-to-from-clause-shows

@@ -1,6 +1,6 @@
 use Rattle.std.proofs.Common.{sym, ◌∙◌}
-use Rattle.operator_wires.proofs.Making.{right_kept, right_answer}
-use Rattle.operator_wires.proofs.Working.{right_kept as kept_adds, right_converted}
+use Rattle.operator_wires.proofs.MadeWords.{right_kept, right_answer}
+use Rattle.operator_wires.proofs.OperatorWords.{right_kept as kept_adds, right_converted}
 use Rattle.operator_wires.proofs.wires.Wires.right_operand.Goals as goal
 
 pub returns-then-is_shift-clause-shows : goal.returns-then-is_shift-clause-shows

@@ -1,4 +1,4 @@
-use Rattle.operator_wires.proofs.Working.{shifted_adds, sign_shifted_adds}
+use Rattle.operator_wires.proofs.OperatorWords.{shifted_adds, sign_shifted_adds}
 use Rattle.operator_wires.proofs.wires.Wires.shifted_right.Goals as goal
 
 pub returns-in_ok-place-clause-wired : goal.returns-in_ok-place-clause-wired

@@ -1,4 +1,4 @@
-use Rattle.operator_wires.proofs.Wording.{truth_adds}
+use Rattle.operator_wires.proofs.TypedWords.{truth_adds}
 use Rattle.std.proofs.Common.{refl}
 use Rattle.operator_wires.proofs.wires.Wires.truth.Goals as goal
 

@@ -1,6 +1,6 @@
 use Rattle.std.proofs.lemmas.Result.{IfOk-weaker}
-use Rattle.operator_wires.proofs.Making.{truth_makes}
-use Rattle.operator_wires.proofs.Working.{turned_adds}
+use Rattle.operator_wires.proofs.MadeWords.{truth_makes}
+use Rattle.operator_wires.proofs.OperatorWords.{turned_adds}
 use Rattle.operator_wires.proofs.wires.Wires.turned_word.Goals as goal
 
 pub returns-clause-shows : goal.returns-clause-shows

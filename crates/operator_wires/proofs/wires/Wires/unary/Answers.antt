@@ -1,5 +1,5 @@
-use Rattle.operator_wires.proofs.Making.{unary_answer}
-use Rattle.operator_wires.proofs.Working.{unary_adds}
+use Rattle.operator_wires.proofs.MadeWords.{unary_answer}
+use Rattle.operator_wires.proofs.OperatorWords.{unary_adds}
 use Rattle.operator_wires.proofs.wires.Wires.unary.Goals as goal
 
 pub returns-clause-shows : goal.returns-clause-shows

@@ -2,8 +2,8 @@ use Rattle.std.proofs.Common.{ap, refl, true}
 use Rattle.c_program.specs.declared.tree.UnaryOperator.TheVariants.{Minus, Complement, Not}
 use Rattle.circuit.specs.Readings.{width}
 use Rattle.hls_ints.specs.Words.{word_difference, word_complement, word_equal}
-use Rattle.operator_wires.proofs.Making.{unary_arm}
-use Rattle.operator_wires.proofs.Working.{unary_arm as adds_arm, plus_kept}
+use Rattle.operator_wires.proofs.MadeWords.{unary_arm}
+use Rattle.operator_wires.proofs.OperatorWords.{unary_arm as adds_arm, plus_kept}
 use Rattle.operator_wires.proofs.wires.Wires.unary_own.Goals as goal
 
 pub returns-in-Minus-clause-shows : goal.returns-in-Minus-clause-shows

@@ -1,4 +1,4 @@
-use Rattle.operator_wires.proofs.Building.{wire_answer}
+use Rattle.operator_wires.proofs.BuiltWires.{wire_answer}
 use Rattle.operator_wires.proofs.wires.Wires.wire.Goals as goal
 
 pub returns-clause-wired : goal.returns-clause-wired

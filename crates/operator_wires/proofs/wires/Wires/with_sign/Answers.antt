@@ -1,4 +1,4 @@
-use Rattle.operator_wires.proofs.Wording.{sign_adds}
+use Rattle.operator_wires.proofs.TypedWords.{sign_adds}
 use Rattle.operator_wires.proofs.wires.Wires.with_sign.Goals as goal
 
 pub returns-clause-wired : goal.returns-clause-wired

@@ -1,6 +1,6 @@
 use Rattle.std.proofs.lemmas.Result.{IfOk-weaker}
-use Rattle.operator_wires.proofs.Resizing.{zeros_give}
-use Rattle.operator_wires.proofs.Wording.{zeros_adds}
+use Rattle.operator_wires.proofs.ResizedWords.{zeros_give}
+use Rattle.operator_wires.proofs.TypedWords.{zeros_adds}
 use Rattle.operator_wires.proofs.wires.Wires.with_zeros.Goals as goal
 
 pub returns-clause-shows : goal.returns-clause-shows

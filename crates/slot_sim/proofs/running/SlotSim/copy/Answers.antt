@@ -2,7 +2,7 @@ use Rattle.std.proofs.Common.{List, sym, subst}
 use Rattle.sim_layout.specs.Running.{Running}
 use Rattle.slot_sim.specs.declared.slot.Slot.{Slot}
 use Rattle.slot_sim.specs.Slots.{AreCopied, AreSlots}
-use Rattle.slot_sim.proofs.Keeping.{slots_copied}
+use Rattle.slot_sim.proofs.ThreadsStand.{slots_copied}
 use Rattle.slot_sim.proofs.running.SlotSim.copy.Goals as goal
 
 pub invariant_of-result : goal.invariant_of-result

@@ -3,7 +3,7 @@ use Rattle.sim_layout.specs.Rounds.{threads_of}
 use Rattle.sim_layout.specs.Running.{Running, IsSameNet}
 use Rattle.slot_sim.specs.Slots.{IsTaken}
 use Rattle.slot_sim.proofs.Slotted.{with_taken}
-use Rattle.slot_sim.proofs.Keeping.{slot_taken}
+use Rattle.slot_sim.proofs.ThreadsStand.{slot_taken}
 use Rattle.slot_sim.proofs.running.SlotSim.copy_slot_from.Goals as goal
 
 pub returns : goal.returns

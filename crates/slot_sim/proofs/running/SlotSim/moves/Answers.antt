@@ -4,7 +4,7 @@ use Rattle.sim_layout.specs.Rounds.{threads_of}
 use Rattle.sim_layout.specs.Running.{Running, flat}
 use Rattle.slot_sim.specs.Changing.{parts_change}
 use Rattle.slot_sim.specs.Slots.{IsThreadedIn, Moving}
-use Rattle.slot_sim.proofs.Moving.{closed_moving, moving_told}
+use Rattle.slot_sim.proofs.WhoMoves.{closed_moving, moving_told}
 use Rattle.slot_sim.proofs.running.SlotSim.moves.Goals as goal
 
 pub returns-then-not-tells_need-clause-moves : goal.returns-then-not-tells_need-clause-moves

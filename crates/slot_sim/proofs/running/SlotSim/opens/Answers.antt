@@ -4,7 +4,7 @@ use Rattle.sim_layout.specs.Rounds.{threads_of}
 use Rattle.sim_layout.specs.Running.{Running, flat}
 use Rattle.slot_sim.specs.Changing.{parts_change}
 use Rattle.slot_sim.specs.Slots.{IsThreadedIn, Opening}
-use Rattle.slot_sim.proofs.Moving.{not_opening, opening_told}
+use Rattle.slot_sim.proofs.WhoMoves.{not_opening, opening_told}
 use Rattle.slot_sim.proofs.running.SlotSim.opens.Goals as goal
 
 pub returns-then-not-tells_need-clause-opens : goal.returns-then-not-tells_need-clause-opens

@@ -4,8 +4,8 @@ use Rattle.sim_layout.specs.Rounds.{threads_of}
 use Rattle.sim_layout.specs.Running.{Running, flat, IsSameNet}
 use Rattle.slot_sim.specs.Same.{parts_same}
 use Rattle.slot_sim.specs.Slots.{IsSameSlotOf}
-use Rattle.slot_sim.proofs.Keeping.{slot_told, slot_apart}
-use Rattle.slot_sim.proofs.Moving.{match_bool}
+use Rattle.slot_sim.proofs.ThreadsStand.{slot_told, slot_apart}
+use Rattle.slot_sim.proofs.WhoMoves.{match_bool}
 use Rattle.slot_sim.proofs.running.SlotSim.same_slot.Goals as goal
 
 pub returns : goal.returns

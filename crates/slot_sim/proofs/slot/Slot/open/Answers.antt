@@ -6,7 +6,7 @@ use Rattle.sim_values.specs.Stands.{children_of, kind_of, spot_of}
 use Rattle.sim_values.specs.Tree.{instances_of}
 use Rattle.sim_layout.specs.Wires.{signals_of}
 use Rattle.slot_sim.specs.Slots.{LacksNeed, IsNeedNumber, place_named}
-use Rattle.slot_sim.proofs.Placing.{needed, slot_stands, first_is, kind_is}
+use Rattle.slot_sim.proofs.SlotPlace.{needed, slot_stands, first_is, kind_is}
 use Rattle.slot_sim.proofs.slot.Slot.open.Goals as goal
 
 pub need_number-requires : goal.need_number-requires

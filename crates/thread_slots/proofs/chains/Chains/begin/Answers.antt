@@ -1,6 +1,6 @@
 use Rattle.std.proofs.Common.{refl}
 use Rattle.thread_slots.specs.declared.chains.Chains.{Chains}
-use Rattle.thread_slots.proofs.Beginning.{begin_made}
+use Rattle.thread_slots.proofs.FirstLinks.{begin_made}
 use Rattle.thread_slots.proofs.Linked.{begun}
 use Rattle.thread_slots.proofs.chains.Chains.begin.Goals as goal
 

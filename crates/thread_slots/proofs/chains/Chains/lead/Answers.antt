@@ -1,5 +1,5 @@
 use Rattle.std.proofs.Common.{refl}
-use Rattle.operator_wires.proofs.Building.{stands_after}
+use Rattle.operator_wires.proofs.BuiltWires.{stands_after}
 use Rattle.thread_slots.proofs.Linked.{lead_linked}
 use Rattle.thread_slots.proofs.chains.Chains.lead.Goals as goal
 

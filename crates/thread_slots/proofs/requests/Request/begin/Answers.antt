@@ -1,5 +1,5 @@
 use Rattle.std.proofs.Common.{◌∙◌}
-use Rattle.thread_slots.proofs.Requesting.{begins_request}
+use Rattle.thread_slots.proofs.RequestLinks.{begins_request}
 use Rattle.thread_slots.proofs.requests.Request.begin.Goals as goal
 
 pub returns : goal.returns

@@ -1,6 +1,6 @@
 use Rattle.std.proofs.Common.{refl}
 use Rattle.thread_slots.specs.declared.requests.Request.{Request}
-use Rattle.thread_slots.proofs.Requesting.{request_wanted, request_linked}
+use Rattle.thread_slots.proofs.RequestLinks.{request_wanted, request_linked}
 use Rattle.thread_slots.proofs.requests.Request.want.Goals as goal
 
 pub returns-clause-asks : goal.returns-clause-asks

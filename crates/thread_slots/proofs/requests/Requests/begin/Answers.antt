@@ -1,5 +1,5 @@
 use Rattle.thread_slots.specs.declared.requests.Requests.{Requests}
-use Rattle.thread_slots.proofs.Requesting.{begins_asking, begins_linked}
+use Rattle.thread_slots.proofs.RequestLinks.{begins_asking, begins_linked}
 use Rattle.thread_slots.proofs.requests.Requests.begin.Goals as goal
 
 pub returns-clause-begins : goal.returns-clause-begins

@@ -1,7 +1,7 @@
 use Rattle.std.proofs.Common.{ℕ, ◌++◌, length, ap, ◌∙◌}
 use Rattle.top_parts.specs.declared.layout.Core.{Core}
 use Rattle.top_wiring.specs.Top.{told_places}
-use Rattle.top_parts.proofs.Growing.{flat_from_onto}
+use Rattle.top_parts.proofs.GrownLists.{flat_from_onto}
 use Rattle.top_wiring.proofs.places.Places.push_all_told.Goals as goal
 
 pub loop-number-preserved : goal.loop-number-preserved

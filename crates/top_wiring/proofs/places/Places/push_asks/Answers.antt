@@ -2,7 +2,7 @@ use Rattle.std.proofs.Common.{length, take, replicate, ap, ◌∙◌, arith, len
 use Rattle.std.proofs.lemmas.List.{get_or_default}
 use Rattle.top_parts.specs.declared.layout.Group.{Group}
 use Rattle.top_parts.specs.Parts.{group_widths}
-use Rattle.top_parts.proofs.Growing.{flat_onto}
+use Rattle.top_parts.proofs.GrownLists.{flat_onto}
 use Rattle.top_wiring.proofs.Steps.{asks_grow, flat_fewer}
 use Rattle.top_wiring.proofs.places.Places.push_asks.Goals as goal
 

@@ -3,7 +3,7 @@ use Rattle.netlist.specs.declared.netlist.Instance.{Instance}
 use Rattle.top_parts.specs.declared.layout.Core.{Core}
 use Rattle.top_parts.specs.Parts.{group_widths, ask_widths}
 use Rattle.top_wiring.specs.Top.{core_instance}
-use Rattle.top_parts.proofs.Growing.{each_onto, flat_more}
+use Rattle.top_parts.proofs.GrownLists.{each_onto, flat_more}
 use Rattle.top_wiring.proofs.Steps.{flat_room}
 use Rattle.top_wiring.proofs.places.Places.push_cores.Goals as goal
 

@@ -1,7 +1,7 @@
 use Rattle.std.proofs.Common.{ℕ, ◌+◌, ◌++◌, ap, ◌∙◌}
 use Rattle.std.specs.Prelude.{slice_index}
 use Rattle.top_wiring.specs.Top.{run}
-use Rattle.top_parts.proofs.Growing.{flat_spread_onto}
+use Rattle.top_parts.proofs.GrownLists.{flat_spread_onto}
 use Rattle.top_wiring.proofs.places.Places.push_group.Goals as goal
 
 pub loop-thread-preserved : goal.loop-thread-preserved

@@ -2,7 +2,7 @@ use Rattle.std.proofs.Common.{[], ◌∷◌, ◌++◌, ap, ◌∙◌, get_or}
 use Rattle.std.proofs.lemmas.List.{get_or_default}
 use Rattle.netlist.specs.declared.netlist.Instance.{Instance}
 use Rattle.top_wiring.specs.Top.{thread_instance}
-use Rattle.top_parts.proofs.Growing.{each_onto}
+use Rattle.top_parts.proofs.GrownLists.{each_onto}
 use Rattle.top_wiring.proofs.places.Places.push_threads.Goals as goal
 
 pub loop-thread-preserved : goal.loop-thread-preserved

@@ -1,5 +1,5 @@
 use Rattle.std.proofs.Common.{◌∙◌}
-use Rattle.unit_datapath.proofs.Inputting.{begun}
+use Rattle.unit_datapath.proofs.UnitInputs.{begun}
 use Rattle.unit_datapath.proofs.inputs.UnitInputs.begin.Goals as goal
 
 pub returns : goal.returns

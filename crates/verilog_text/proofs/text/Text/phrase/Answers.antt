@@ -1,5 +1,5 @@
 use Rattle.verilog_text.specs.Layout.{piece_tokens}
-use Rattle.verilog_text.proofs.Laying.{all_step}
+use Rattle.verilog_text.proofs.LaidTokens.{all_step}
 use Rattle.verilog_text.proofs.text.Text.phrase.Goals as goal
 
 pub loop-piece-preserved : goal.loop-piece-preserved
