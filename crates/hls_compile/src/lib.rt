@@ -1,4 +1,21 @@
 //! The compiler from bytes to bytes: the Verilog text of a C text, or why there is none.
+//!
+//! Its passes, in the order of the data; of each the call, what goes in and comes out, and the law that joins them.
+//!
+//! | Pass | In | Out | Law |
+//! |---|---|---|---|
+//! | `c_lexer::lex`, `c_parser::parse` | bytes | tokens, tree | the tokens and the grammar, both ways |
+//! | `c_types::resolve` | tree | program | `Spells`; what it spells is resolved (`c_resolved_program`) |
+//! | `c_profile::accept` | bytes | program, weight | `IsAccepted`, or the first refusal, `IsRefused` |
+//! | `ir_lower::lower_function` | program | code of a thread function | `IsLowered` (`code_following`): the steps of its thread |
+//! | `code_merge::merge`, `drop_empty` | code | code with maximal blocks | `IsLowered` still |
+//! | `fsm_plan::plan_all` | codes | plans | `ArePlanned`, each of which is right (`IsRightPlan`, `plan_conditions`) |
+//! | `global_naming::naming_threads`, `bank_partition::partition` | program | banks | each element of a global has its one word |
+//! | `program_cores::wanted` | program, banks | cores | `IsCore` of each (`circuit`) |
+//! | `fsm_datapath::module`, by `program_bodies::modules` | code, plan, cores | module of a thread | `RunsCode` (`thread_promise`) |
+//! | `top_wiring::wire`, by `net_emitter::verilog` | modules, cores | netlist with `top`, `top_rr` | `IsNet`: one machine (`circuit`) |
+//! | `netlist_text::text_of`, `verilog_writer::write` | netlist | Verilog text | the text reads as that netlist |
+//! | the whole | program | Verilog text | `PartsAreGood` (`law_net`): it is good Verilog of the program |
 #![tactic(auto)]
 
 mod hardware;
