@@ -28,3 +28,4 @@ pub mod Once
 pub mod FlatLaws
 pub use Rattle.sim_values.proofs.Settles
 pub mod InitialRun
+pub mod RoundChoices

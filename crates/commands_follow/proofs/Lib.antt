@@ -1,0 +1,2 @@
+mod StepShown
+mod CommandsShow

@@ -1,0 +1,3 @@
+mod FiveSteps
+mod AllCounted
+mod FirstPrinted
