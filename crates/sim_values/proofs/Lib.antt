@@ -2,3 +2,4 @@ pub mod Words
 pub mod Settles
 pub mod Orders
 pub mod Trees
+mod OneSizeMore

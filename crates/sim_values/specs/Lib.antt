@@ -6,3 +6,4 @@ pub mod Loops
 pub use Rattle.circuit.specs.Modules
 pub use Rattle.circuit.specs.Nets
 pub use Rattle.circuit.specs.Rows
+pub mod Sizes

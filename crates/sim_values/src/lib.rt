@@ -5,5 +5,6 @@
 pub mod edge;
 pub mod operators;
 pub mod settle;
+pub mod sizes;
 pub mod tree;
 pub mod value;

@@ -3,9 +3,13 @@
 ghost use Rattle.std.specs.Prelude.{◌≡◌, ◌++◌, ◌∷◌, [], ◌<◌, map, length, slice_get, slice_index_or, IfOk, OnOk};
 ghost use Rattle.sim_values.specs.Tree.{instances_of, kinds_of, IsTree, IsGrown};
 
+use crate::sizes::{module_sizes, size_at};
 use netlist::netlist::{Instance, Module};
 use sqlite_items::at;
 use std::alloc::{AllocError, Global};
+
+/// About so many words of memory a simulator takes for each number of a net.
+const WORDS: usize = 8;
 
 /// Of each instance the number of its module, and the place of the first instance in it.
 pub struct Tree {
@@ -54,11 +58,20 @@ fn visit(tree: &mut Tree, modules: &[Module], place: usize) -> Result<(), AllocE
     push_kinds(&mut tree.kinds, module_instances(modules, kind))
 }
 
+/// Takes the room of a net whose top module is of this number, and lets it go: of a net that does not fit in memory that is refused at once,
+/// before any of it is filled.
+fn try_room(alloc: Global, modules: &[Module], top: usize) -> Result<(), AllocError> {
+    let sizes = module_sizes(alloc, modules)?;
+    let _room: Vec<[u64; WORDS]> = Vec::with_capacity(alloc, size_at(&sizes, top))?;
+    Ok(())
+}
+
 /// The instances below a module.
 #[tactic(auto, using(crate::proofs::Trees::grown_none))]
 pub fn tree_of(alloc: Global, modules: &[Module], top: usize) -> Result<Tree, AllocError>
     ensures { IfOk result (λ t. IsTree modules.now top t.kinds.items t.children.items) }
 {
+    try_room(alloc, modules, top)?;
     let mut tree = Tree {
         kinds: Vec::new(alloc),
         children: Vec::new(alloc),
