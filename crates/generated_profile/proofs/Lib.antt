@@ -1,0 +1,11 @@
+mod Running
+mod Pieces
+mod Fragments
+mod Numbers
+mod Splitting
+mod Texts
+mod Placed
+mod Trees
+mod LineReading
+mod Reading
+mod Parsed
