@@ -1,5 +1,5 @@
 -- The arbiter has no register.
-use Rattle.std.proofs.Common.{◌≡◌, ℕ, zero, suc, Bool, true, List, [], ◌∷◌, slice_get, Some, refl}
+use Rattle.std.proofs.Common.{◌≡◌, ℕ, zero, suc, Bool, true, false, List, [], ◌∷◌, slice_get, Some, refl}
 use Rattle.std.specs.Prelude.{not, ◌&&◌}
 use Rattle.verilog_tree.proofs.Tests.{and_left, and_right}
 use Rattle.netlist.specs.declared.netlist.Signal.{Signal}
@@ -18,6 +18,7 @@ abbrev is_plain : Row → Bool
 is_plain (One r w f) = not (is_register f)
 is_plain (Each r w f) = not (is_register f)
 is_plain (Chain r w first step) = not (is_register first) && not (is_register step)
+is_plain _ = false
 
 abbrev are_plain : List Row → Bool
 are_plain [] = true
@@ -36,6 +37,7 @@ module _ (n : ℕ) where
   of_row at (Each r w f) p = λ i l. source f i p
   of_row at (Chain r w first step) p =
       let a = not (is_register first) in let b = not (is_register step) in (source first 0 (and_left a b p), (λ i l. source step i (and_right a b p)))
+  of_row at r p = absurd cc
 
   of_some : (at : ℕ) (rest : List Row) → are_plain rest ≡ true → (k : ℕ) → OfSome n (place n rows) NoRegister at (slice_get rest k)
   of_some at [] p k = tt

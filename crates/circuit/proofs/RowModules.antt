@@ -1,5 +1,5 @@
 -- The module of a table of rows can stand in a table of modules: its names are apart, and what each row needs.
-use Rattle.std.proofs.Common.{◌≡◌, ℕ, zero, suc, ◌+◌, ◌-◌, ◌^◌, ◌<◌, ◌≤◌, Bool, true, false, nat_eq, if◌then◌else◌, List, [], ◌∷◌, ◌++◌, length, map, replicate, Some}
+use Rattle.std.proofs.Common.{◌≡◌, ℕ, zero, suc, ◌+◌, ◌-◌, ◌^◌, ◌<◌, Bool, true, false, nat_eq, if◌then◌else◌, List, [], ◌∷◌, ◌++◌, length, map, replicate, Some}
 use Rattle.std.proofs.Common.{refl, sym, ap, ◌∙◌, subst, arith}
 use Rattle.std.specs.Prelude.{slice_get, decimal}
 use Rattle.std.proofs.lemmas.Bool.Decides.{nat_tests}
@@ -12,19 +12,12 @@ use Rattle.netlist.specs.declared.netlist.Memory.{Memory}
 use Rattle.netlist.specs.declared.netlist.Instance.{Instance}
 use Rattle.netlist.specs.declared.netlist.Module.{Module}
 use Rattle.netlist.specs.Laid.{AreApart, signal_names, memory_names, instance_names, declared_names}
-use Rattle.netlist.specs.Sound.{IsSet}
 use Rattle.circuit.specs.declared.rows.Role.{Role}
 use Rattle.circuit.specs.declared.rows.Role.TheVariants as role
-use Rattle.circuit.specs.declared.rows.Operand.{Operand}
-use Rattle.circuit.specs.declared.rows.Form.{Form}
-use Rattle.circuit.specs.declared.rows.Form.TheVariants.{Input, Output}
-use Rattle.circuit.specs.declared.rows.Row.{Row}
-use Rattle.circuit.specs.declared.rows.Row.TheVariants as row
-use Rattle.circuit.specs.Rows.{is_clock, name_of, source_at, is_output, signal_at, laid}
+use Rattle.circuit.specs.Rows.{is_clock, name_of}
 use Rattle.circuit.specs.Modules.{Has}
 use Rattle.circuit.specs.Interfaces.{HasPorts}
-use Rattle.circuit.proofs.Tables.{EachRow, by_signals}
-use Rattle.circuit.proofs.LeafForm.{ReadsData, IsFormed}
+use Rattle.circuit.proofs.LeafForm.{IsFormed}
 
 -- ---- names
 
@@ -67,11 +60,6 @@ clock_name role.Wire place = refl
 
 abbrev pub HasRole : ℕ → Signal → Type 0
 HasRole x s = (r : Role) × (s.name ≡ name_of r x)
-
-row_roles : (at : ℕ) (rows : List Row) → EachRow HasRole at rows
-row_roles at [] = tt
-row_roles at (row.One r w f ∷ rows) = ((r, refl), row_roles (at + 1) rows)
-row_roles at (row.Each n r w f ∷ rows) = ((λ k l. (r, refl)), row_roles (at + n) rows)
 
 -- an element of mapped names
 mapped : {A : Type 0} (f : A → List ℕ) (xs : List A) (i : ℕ) (x : List ℕ) → slice_get (map f xs) i ≡ Some x → (a : A) × (slice_get xs i ≡ Some a) × (x ≡ f a)
@@ -117,29 +105,6 @@ module _ (m : Module) (role_at : (x : ℕ) (s : Signal) → slice_get m.signals 
       let all : declared_names m ≡ signal_names m =
       ap (λ l. signal_names m ++ l ++ instance_names m) a ∙ ap (λ l. signal_names m ++ [] ++ l) b ∙ append-nil (signal_names m ++ []) ∙ append-nil (signal_names m) in
       subst AreApart (sym all) signals_apart
-
-pub names_apart : (m : Module) (rows : List Row) → m.signals ≡ laid 0 rows → length m.signals < 2 ^ 64 → (ends : ℕ)
-    → ((x : ℕ) (s : Signal) → slice_get m.signals x ≡ Some s → IsFormed m ends x s) → m.memories ≡ [] → m.instances ≡ [] → AreApart (declared_names m)
-names_apart m rows is small ends formed = roles_apart m (by_signals m rows is HasRole (row_roles 0 rows)) small ends formed
-
--- ---- rows
-
-module _ (m : Module) (ends : ℕ) where
-  pub input_formed : (x w : ℕ) (r : Role) (k : ℕ) → 1 ≤ w → w ≤ 64 → is_clock r ≡ nat_eq x 0 → x < ends → IsFormed m ends x (signal_at x r w Input k)
-  input_formed x w r k a b c l =
-      record { low = a; high = b; clock = clock_name r x ∙ c; before = λ h. refl; behind = λ h. absurd (omega arith); reads = tt; set = tt }
-
-  pub inner_formed : (x w : ℕ) (r : Role) (f : Form) (k : ℕ) → 1 ≤ w → w ≤ 64 → is_clock r ≡ false → 0 < x → x < ends → is_output f ≡ false → ReadsData m (source_at f k) →
-      IsSet m x (source_at f k) → IsFormed m ends x (signal_at x r w f k)
-  inner_formed x w r f k a b c first l out reads set =
-      let no : nat_eq x 0 ≡ false = grind (arith, nat_tests) in
-      record { low = a; high = b; clock = clock_name r x ∙ c ∙ sym no; before = λ h. out; behind = λ h. absurd (omega arith); reads = reads; set = set }
-
-  pub output_formed : (x w : ℕ) (r : Role) (o : Operand) (k : ℕ) → 1 ≤ w → w ≤ 64 → is_clock r ≡ false → 0 < x → ends ≤ x → ReadsData m (source_at (Output o) k) →
-      IsFormed m ends x (signal_at x r w (Output o) k)
-  output_formed x w r o k a b c first l reads =
-      let no : nat_eq x 0 ≡ false = grind (arith, nat_tests) in
-      record { low = a; high = b; clock = clock_name r x ∙ c ∙ sym no; before = λ h. absurd (omega arith); behind = λ h. (refl, tt); reads = reads; set = tt }
 
 -- ---- ports
 

@@ -1,20 +1,23 @@
 -- What a table's test says of each signal of its rows.
-use Rattle.std.proofs.Common.{◌≡◌, ℕ, zero, suc, ◌+◌, ◌<◌, ◌≤◌, Bool, true, false, nat_eq, nat_lt, if◌then◌else◌, List, [], ◌∷◌, Option, Some, None, slice_get, refl, sym, ◌∙◌, subst, arith}
+use Rattle.std.proofs.Common.{◌≡◌, ℕ, zero, suc, ◌+◌, ◌*◌, ◌<◌, ◌≤◌, Bool, true, false, nat_eq, nat_lt, if◌then◌else◌, List, [], ◌∷◌, Option, Some, None, slice_get, refl, sym, ◌∙◌, subst, arith}
 use Rattle.std.proofs.Common.{add-zero}
 use Rattle.std.specs.Prelude.{not, ◌&&◌, nat_le}
 use Rattle.std.proofs.lemmas.Bool.{ltb-true, leb-true, eqb-true, not-true}
 use Rattle.std.proofs.lemmas.Bool.Decides.{nat_tests}
+use Rattle.std.proofs.Math.Nat.{mul-le-mul_right}
 use Rattle.verilog_tree.proofs.Tests.{and_left, and_right}
 use Rattle.netlist.specs.declared.netlist.Signal.{Signal}
 use Rattle.circuit.specs.declared.rows.Role.{Role}
+use Rattle.circuit.specs.declared.table.Size.{Size}
+use Rattle.circuit.specs.declared.table.Size.TheVariants.{Fixed, PerThread}
 use Rattle.circuit.specs.declared.table.Form.{Form}
 use Rattle.circuit.specs.declared.table.Row.{Row}
-use Rattle.circuit.specs.declared.table.Row.TheVariants.{One, Each, Chain}
+use Rattle.circuit.specs.declared.table.Row.TheVariants.{One, Each, Many, Chain, Chains}
 use Rattle.circuit.specs.Rows.{is_clock}
 use Rattle.circuit.specs.Modules.{is_between}
-use Rattle.circuit.specs.Table.{is_output, place, signal_at}
-use Rattle.circuit.specs.Fits.{first_where, form_is, is_input, is_register, inputs, registers, outputs, only_width, Words, Reader, agree, is_wide, stands, form_fits, row_fits, rows_fit, fits}
-use Rattle.circuit.proofs.TableRows.{row_size, place_next, place_up, OfRow, OfSome, ByRow}
+use Rattle.circuit.specs.Table.{is_output, size_of, place, signal_at}
+use Rattle.circuit.specs.Fits.{first_where, form_is, is_input, is_register, inputs, registers, outputs, only_width, most, Words, Reader, agree, is_wide, stands, form_fits, many_fit, chains_fit, row_fits, rows_fit, fits}
+use Rattle.circuit.proofs.TableRows.{row_size, place_next, place_up, OfMany, OfRow, OfSome, ByRow}
 
 -- ---- tests
 
@@ -45,6 +48,22 @@ before_step p x rows false e rest (suc k) l = let h = rest k (omega arith) in (h
 pub before_first : (p : Row → Bool) (rows : List Row) (k : ℕ) → k < first_where p rows → IsBefore p rows k
 before_first p [] k l = absurd (omega arith)
 before_first p (x ∷ rows) k l = before_step p x rows (p x) refl (before_first p rows) k l
+
+-- ---- sizes
+
+-- how many signals a row has; none is the size of one for each thread
+abbrev pub count_of : ℕ → Option Size → ℕ
+count_of n None = n
+count_of n (Some size) = size_of n size
+
+pub at_most : (n : ℕ) → n ≤ 64 → (size : Option Size) → count_of n size ≤ most size
+at_most n few None = few
+at_most n few (Some (Fixed count)) = omega arith
+at_most n few (Some (PerThread count)) = mul-le-mul_right count few
+
+some_chain : (n i count : ℕ) → i < n * count → 0 < count
+some_chain n i zero l = absurd (omega arith)
+some_chain n i (suc count) l = omega arith
 
 -- ---- the signals of rows
 
@@ -92,7 +111,9 @@ module _ (n : ℕ) (few : n ≤ 64) (late : ℕ → Bool) (memories : List Words
   first_one : (r : Row) → passes 0 r ≡ true → row_size n r ≡ 1
   first_one (One r w f) h = refl
   first_one (Each r w f) h = absurd (let e = three (is_wide w) (not (is_clock r)) false h in let z : false ≡ true = e.2 in cc)
+  first_one (Many size r w f) h = absurd (let e = three (is_wide w) (not (is_clock r)) false h in let z : false ≡ true = e.2 in cc)
   first_one (Chain r w first step) h = absurd (let e = three (is_wide w) (not (is_clock r)) false h in let z : false ≡ true = e.2 in cc)
+  first_one (Chains count r w first step) h = absurd (let e = three (is_wide w) (not (is_clock r)) false h in let z : false ≡ true = e.2 in cc)
 
   pub place_one : P 1 ≡ 1
   place_one =
@@ -106,8 +127,7 @@ module _ (n : ℕ) (few : n ≤ 64) (late : ℕ → Bool) (memories : List Words
   pub record IsAt (k : Reader) (i x : ℕ) : Type 0 where
     pub here : P k.number ≤ x
     pub inside : x < P (suc k.number)
-    pub low : i < 64
-    pub each : k.each ≡ true → i < n
+    pub among : i < count_of n k.size
     pub until : k.until ≤ suc k.number
     pub own : k.until ≡ suc k.number → P k.number + i < x
 
@@ -148,52 +168,73 @@ module _ (n : ℕ) (few : n ≤ 64) (late : ℕ → Bool) (memories : List Words
         fits = fit;
       }
 
-  -- the readers of a row
-  abbrev one_reader : ℕ → Reader
-  one_reader k = record { number = k; until = k; each = false }
+  -- who reads: a row's signals, and the steps of its chains
+  abbrev row_reader : ℕ → Option Size → Reader
+  row_reader k size = record { number = k; until = k; size = size }
 
-  abbrev each_reader : ℕ → Reader
-  each_reader k = record { number = k; until = k; each = true }
+  abbrev step_reader : ℕ → Option Size → Reader
+  step_reader k size = record { number = k; until = suc k; size = size }
 
-  abbrev step_reader : ℕ → Reader
-  step_reader k = record { number = k; until = suc k; each = true }
+  row_at : (k i : ℕ) (size : Option Size) → P k + i < P (suc k) → i < count_of n size → IsAt (row_reader k size) i (P k + i)
+  row_at k i size b l = record { here = omega arith; inside = b; among = l; until = omega arith; own = λ t. absurd (omega arith) }
+
+  step_at : (k i chains : ℕ) (size : Option Size) → P k + chains + i < P (suc k) → i < count_of n size → 0 < chains → IsAt (step_reader k size) i (P k + chains + i)
+  step_at k i chains size b l some = record { here = omega arith; inside = b; among = l; until = omega arith; own = λ t. omega arith }
 
   module _ (Q : ℕ → Signal → Type 0) (h : (k : Reader) (r : Role) (w : ℕ) (f : Form) (i x : ℕ) → IsElement k r w f i x → Q x (signal_at n P x r w f i)) where
-    one_at : (k : ℕ) → P k < P (suc k) → IsAt (one_reader k) 0 (P k)
-    one_at k l = record { here = omega arith; inside = l; low = omega arith; each = λ e. absurd cc; until = omega arith; own = λ e. absurd (omega arith) }
+    one_of : (k : ℕ) (size : Option Size) (r : Role) (w : ℕ) (f : Form) → P k < P (suc k) → 0 < count_of n size → is_wide w ≡ true → is_clock r ≡ nat_eq (P k) 0
+        → stands late memories rows k f ≡ true → form_fits late memories rows (row_reader k size) w f ≡ true → Q (P k) (signal_at n P (P k) r w f 0)
+    one_of k size r w f b some wide clock stand fit =
+        let at : IsAt (row_reader k size) 0 (P k) = record { here = omega arith; inside = b; among = some; until = omega arith; own = λ t. absurd (omega arith) } in
+        h (row_reader k size) r w f 0 (P k) (element (row_reader k size) r w f 0 (P k) at wide clock stand fit)
 
-    each_at : (k i : ℕ) → P (suc k) ≡ P k + n → i < n → IsAt (each_reader k) i (P k + i)
-    each_at k i e l = record { here = omega arith; inside = omega arith; low = (let b = few in omega arith); each = λ t. l; until = omega arith; own = λ t. absurd (omega arith) }
+    many_of : (k : Reader) (count x : ℕ) (r : Role) (w : ℕ) (f : Form) → ((i : ℕ) → i < count → IsAt k i (x + i)) → is_wide w ≡ true → not (is_clock r) ≡ true → 0 < k.number
+        → stands late memories rows k.number f ≡ true → form_fits late memories rows k w f ≡ true → OfMany n P Q x count r w f
+    many_of k count x r w f at wide clock some stand fit = λ i l.
+        let here = at i l in h k r w f i (x + i) (element k r w f i (x + i) here wide (clock_at r k.number (x + i) here.here clock some) stand fit)
 
-    step_at : (k i : ℕ) → P (suc k) ≡ P k + (1 + n) → i < n → IsAt (step_reader k) i (P k + 1 + i)
-    step_at k i e l = record { here = omega arith; inside = omega arith; low = (let b = few in omega arith); each = λ t. l; until = omega arith; own = λ t. omega arith }
+    row_of : (k : ℕ) (size : Option Size) (r : Role) (w : ℕ) (f : Form) → P (suc k) ≡ P k + count_of n size → many_fit late memories rows k size r w f ≡ true
+        → OfMany n P Q (P k) (count_of n size) r w f
+    row_of k size r w f next t =
+        let reader = row_reader k size in
+        let q = four (is_wide w) (not (is_clock r)) (nat_lt 0 k) (stands late memories rows k f && form_fits late memories rows reader w f) t in
+        let p = two (stands late memories rows k f) (form_fits late memories rows reader w f) q.3 in
+        many_of reader (count_of n size) (P k) r w f (λ i l. row_at k i size (omega arith) l) q.0 q.1 (ltb-true 0 k q.2) p.0 p.1
+
+    -- what a test of chains says: of the row, of the first ones and of the steps
+    chain_parts : (k chains : ℕ) (size : Option Size) (r : Role) (w : ℕ) (first step : Form) → chains_fit late memories rows k chains size r w first step ≡ true →
+        (is_wide w ≡ true) × (not (is_clock r) ≡ true) × (0 < k)
+        × ((stands late memories rows k first ≡ true) × (form_fits late memories rows (row_reader k (Some (Fixed chains))) w first ≡ true))
+        × ((stands late memories rows k step ≡ true) × (form_fits late memories rows (step_reader k size) w step ≡ true))
+    chain_parts k chains size r w first step t =
+        let A = stands late memories rows k first in
+        let B = stands late memories rows k step in
+        let C = form_fits late memories rows (row_reader k (Some (Fixed chains))) w first in
+        let D = form_fits late memories rows (step_reader k size) w step in
+        let q = four (is_wide w) (not (is_clock r)) (nat_lt 0 k) (A && (B && (C && D))) t in
+        let p = four A B C D q.3 in
+        (q.0, q.1, ltb-true 0 k q.2, (p.0, p.2), (p.1, p.3))
 
     of_row : (k : ℕ) (r : Row) → slice_get rows k ≡ Some r → passes k r ≡ true → OfRow n P Q (P k) r
     of_row k (One r w f) e t =
         let next = place_next n rows k (One r w f) e in
-        let q = four (is_wide w) (agree (is_clock r) (nat_eq k 0)) (stands late memories rows k f) (form_fits late memories rows (one_reader k) w f) t in
-        h (one_reader k) r w f 0 (P k)
-        (element (one_reader k) r w f 0 (P k) (one_at k (omega arith)) q.0 (clock_one r k (agree_is (is_clock r) (nat_eq k 0) q.1)) q.2 q.3)
-    of_row k (Each r w f) e t = λ i l.
-        let next = place_next n rows k (Each r w f) e in
-        let q = four (is_wide w) (not (is_clock r)) (nat_lt 0 k) (stands late memories rows k f && form_fits late memories rows (each_reader k) w f) t in
-        let p = two (stands late memories rows k f) (form_fits late memories rows (each_reader k) w f) q.3 in
-        let at = each_at k i next l in
-        h (each_reader k) r w f i (P k + i) (element (each_reader k) r w f i (P k + i) at q.0 (clock_at r k (P k + i) at.here q.1 (ltb-true 0 k q.2)) p.0 p.1)
+        let one = Some (Fixed 1) in
+        let q = four (is_wide w) (agree (is_clock r) (nat_eq k 0)) (stands late memories rows k f) (form_fits late memories rows (row_reader k one) w f) t in
+        one_of k one r w f (omega arith) (omega arith) q.0 (clock_one r k (agree_is (is_clock r) (nat_eq k 0) q.1)) q.2 q.3
+    of_row k (Each r w f) e t = row_of k None r w f (place_next n rows k (Each r w f) e) t
+    of_row k (Many size r w f) e t = row_of k (Some size) r w f (place_next n rows k (Many size r w f) e) t
     of_row k (Chain r w first step) e t =
         let next = place_next n rows k (Chain r w first step) e in
-        let A = stands late memories rows k first in
-        let B = stands late memories rows k step in
-        let C = form_fits late memories rows (one_reader k) w first in
-        let D = form_fits late memories rows (step_reader k) w step in
-        let q = four (is_wide w) (not (is_clock r)) (nat_lt 0 k) (A && (B && (C && D))) t in
-        let p = four A B C D q.3 in
-        let some = ltb-true 0 k q.2 in (
-          (let at = one_at k (omega arith) in
-              h (one_reader k) r w first 0 (P k) (element (one_reader k) r w first 0 (P k) at q.0 (clock_at r k (P k) at.here q.1 some) p.0 p.2)),
-          (λ i l.
-              let at = step_at k i next l in
-              h (step_reader k) r w step i (P k + 1 + i) (element (step_reader k) r w step i (P k + 1 + i) at q.0 (clock_at r k (P k + 1 + i) at.here q.1 some) p.1 p.3)),
+        let p = chain_parts k 1 None r w first step t in (
+          one_of k (Some (Fixed 1)) r w first (omega arith) (omega arith) p.0 (clock_at r k (P k) (omega arith) p.1 p.2) p.3.0 p.3.1,
+          many_of (step_reader k None) n (P k + 1) r w step (λ i l. step_at k i 1 None (omega arith) l (omega arith)) p.0 p.1 p.2 p.4.0 p.4.1,
+        )
+    of_row k (Chains count r w first step) e t =
+        let next = place_next n rows k (Chains count r w first step) e in
+        let size = Some (PerThread count) in
+        let p = chain_parts k count size r w first step t in (
+          many_of (row_reader k (Some (Fixed count))) count (P k) r w first (λ i l. row_at k i (Some (Fixed count)) (omega arith) l) p.0 p.1 p.2 p.3.0 p.3.1,
+          many_of (step_reader k size) (n * count) (P k + count) r w step (λ i l. step_at k i count size (omega arith) l (some_chain n i count l)) p.0 p.1 p.2 p.4.0 p.4.1,
         )
 
     of_some : (k : ℕ) (o : Option Row) → slice_get rows k ≡ o → OfSome n P Q (P k) o

@@ -1,5 +1,5 @@
 -- The module of a table of rows that passes its test can stand in a table of modules.
-use Rattle.std.proofs.Common.{◌≡◌, ℕ, zero, suc, ◌+◌, ◌^◌, ◌<◌, ◌≤◌, Bool, true, false, List, [], ◌∷◌, ◌++◌, length, take, drop, replicate, Option, Some, None}
+use Rattle.std.proofs.Common.{◌≡◌, ℕ, zero, suc, ◌+◌, ◌*◌, ◌^◌, ◌<◌, ◌≤◌, Bool, false, List, [], ◌∷◌, ◌++◌, length, take, drop, replicate, Option, Some, None}
 use Rattle.std.proofs.Common.{slice_get, refl, sym, ap, ◌∙◌, subst, arith, add-zero, zero-add, length-append}
 use Rattle.std.specs.Prelude.{decimal}
 use Rattle.std.proofs.lemmas.List.{take-append-drop, length-replicate}
@@ -11,11 +11,11 @@ use Rattle.netlist.specs.declared.netlist.Module.{Module}
 use Rattle.netlist.specs.Laid.{AreApart, signal_names, declared_names}
 use Rattle.netlist.specs.Sound.{IsSet}
 use Rattle.circuit.specs.declared.table.Row.{Row}
-use Rattle.circuit.specs.declared.table.Row.TheVariants.{One, Each, Chain}
+use Rattle.circuit.specs.declared.table.Row.TheVariants.{One, Each, Many, Chain, Chains}
 use Rattle.circuit.specs.Rows.{EachOf}
 use Rattle.circuit.specs.Modules.{Has, IsLeaf, FitsAction, FitsMemory}
 use Rattle.circuit.specs.Interfaces.{IsTableModule}
-use Rattle.circuit.specs.Table.{rows_end, place, laid, widths}
+use Rattle.circuit.specs.Table.{size_of, rows_end, place, widths}
 use Rattle.circuit.specs.Fits.{inputs, registers, outputs, input_widths, output_widths, only_width, Words}
 use Rattle.circuit.proofs.LeafForm.{ActsOnData, IsFormedMemory}
 use Rattle.circuit.proofs.RowModules.{HasRole, roles_apart, signals_apart, not_zero, behind_dash, HasFrom, no_more, one_more, many_more, all_alike, has_ports}
@@ -53,9 +53,16 @@ module _ (n : ℕ) where
   length-widths at (Each r w f ∷ x ∷ rows) =
       let e = length-widths (at + n) (x ∷ rows) in let a = length-append (replicate n w) (widths n (x ∷ rows)) in let b = length-replicate {A = ℕ} n w in
       let z : at + length (replicate n w ++ widths n (x ∷ rows)) ≡ at + n + length (widths n (x ∷ rows)) = omega arith in z ∙ e
+  length-widths at (Many size r w f ∷ rows) =
+      let e = length-widths (at + size_of n size) rows in let a = length-append (replicate (size_of n size) w) (widths n rows) in let b = length-replicate {A = ℕ} (size_of n size) w in
+      let z : at + length (replicate (size_of n size) w ++ widths n rows) ≡ at + size_of n size + length (widths n rows) = omega arith in z ∙ e
   length-widths at (Chain r w first step ∷ rows) =
       let e = length-widths (at + 1 + n) rows in let a = length-append (replicate n w) (widths n rows) in let b = length-replicate {A = ℕ} n w in
       let z : at + length (w ∷ replicate n w ++ widths n rows) ≡ at + 1 + n + length (widths n rows) = omega arith in z ∙ e
+  length-widths at (Chains count r w first step ∷ rows) =
+      let many = count + n * count in
+      let e = length-widths (at + count + n * count) rows in let a = length-append (replicate many w) (widths n rows) in let b = length-replicate {A = ℕ} many w in
+      let z : at + length (replicate many w ++ widths n rows) ≡ at + count + n * count + length (widths n rows) = omega arith in z ∙ e
 
   module _ (m : Module) where
     -- each signal of some rows that stand from a place on has its row's width
@@ -70,11 +77,17 @@ module _ (n : ℕ) where
     has_from at (One r w f ∷ rows) h = one_more m at w (widths n rows) (at_first at w (h 0 (One r w f) refl 0 (omega arith))) (has_from (at + 1) rows (λ k. h (suc k)))
     has_from at (Each r w f ∷ []) h = all_alike m at n w (λ e l. h 0 (Each r w f) refl e l)
     has_from at (Each r w f ∷ x ∷ rows) h = many_more m at n w (widths n (x ∷ rows)) (λ e l. h 0 (Each r w f) refl e l) (has_from (at + n) (x ∷ rows) (λ k. h (suc k)))
+    has_from at (Many size r w f ∷ rows) h =
+        many_more m at (size_of n size) w (widths n rows) (λ e l. h 0 (Many size r w f) refl e l) (has_from (at + size_of n size) rows (λ k. h (suc k)))
     has_from at (Chain r w first step ∷ rows) h =
         one_more m at w (replicate n w ++ widths n rows) (at_first at w (h 0 (Chain r w first step) refl 0 (omega arith)))
         (many_more m (at + 1) n w (widths n rows)
         (λ e l. let z : at + suc e ≡ at + 1 + e = omega arith in subst (λ y. Has m y w) z (h 0 (Chain r w first step) refl (suc e) (omega arith)))
         (has_from (at + 1 + n) rows (λ k. h (suc k))))
+    has_from at (Chains count r w first step ∷ rows) h =
+        let z : at + count + n * count ≡ at + (count + n * count) = omega arith in
+        many_more m at (count + n * count) w (widths n rows) (λ e l. h 0 (Chains count r w first step) refl e l)
+        (subst (λ y. HasFrom m y (widths n rows)) z (has_from (at + count + n * count) rows (λ k. h (suc k))))
 
 -- ---- the module
 
@@ -101,7 +114,9 @@ module _ {n : ℕ} {late : ℕ → Bool} {memories : List Words} {rows : List Ro
   clock_row None e w = absurd (omega arith)
   clock_row (Some (One r v f)) e w = subst (Has m 0) w (at_first n m 0 v (has_at n rows m table.signals 0 (One r v f) e 0 (omega arith)))
   clock_row (Some (Each r v f)) e w = absurd (omega arith)
+  clock_row (Some (Many size r v f)) e w = absurd (omega arith)
   clock_row (Some (Chain r v first step)) e w = absurd (omega arith)
+  clock_row (Some (Chains count r v first step)) e w = absurd (omega arith)
 
   inputs_are : HasFrom m 0 ins
   inputs_are = has_from n m 0 (take (inputs rows) rows) (λ k r q e l.

@@ -1,10 +1,11 @@
 -- TABLES ARE LEAVES: a table of rows that passes its test is laid out soundly, whatever the number of threads.
-use Rattle.std.proofs.Common.{◌≡◌, ℕ, zero, suc, ◌+◌, ◌-◌, ◌^◌, ◌<◌, ◌≤◌, ◌⊎◌, Bool, true, false, nat_eq, nat_lt, if◌then◌else◌, List, [], ◌∷◌, length, Option, Some, None, slice_get}
+use Rattle.std.proofs.Common.{◌≡◌, ℕ, zero, suc, ◌+◌, ◌-◌, ◌*◌, ◌/◌, ◌^◌, ◌<◌, ◌≤◌, ◌⊎◌, Bool, true, false, nat_eq, nat_lt, if◌then◌else◌, List, [], ◌∷◌, length, Option, Some, None, slice_get}
 use Rattle.std.proofs.Common.{refl, sym, ap, ◌∙◌, subst, ⊎_elim, inl, inr, arith, add-zero}
 use Rattle.std.specs.Prelude.{not, ◌&&◌, ◌||◌}
 use Rattle.std.proofs.lemmas.Bool.{ltb-true, ltb-false, leb-true, eqb-true, not-true, not-false, lt-ltb, le-ltb}
 use Rattle.std.proofs.lemmas.Bool.Decides.{nat_tests}
 use Rattle.std.proofs.lemmas.Option.{none-some}
+use Rattle.std.proofs.Math.Nat.{div-lt_iff_lt-mul}
 use Rattle.verilog_tree.specs.declared.tree.BinaryOperator.{BinaryOperator}
 use Rattle.verilog_tree.specs.declared.tree.BinaryOperator.TheVariants.{Add, Subtract, Multiply, And, Or, Xor, Equal, Less, ShiftLeft, ShiftRight}
 use Rattle.netlist.specs.declared.netlist.Value.{Value}
@@ -19,27 +20,31 @@ use Rattle.verilog_meaning.specs.Readings.{Reading}
 use Rattle.verilog_meaning.specs.Cycles.{IsRegister}
 use Rattle.verilog_meaning.specs.Threads.{operands, IsOneOf}
 use Rattle.circuit.specs.declared.rows.Role.{Role}
+use Rattle.circuit.specs.declared.table.Size.{Size}
+use Rattle.circuit.specs.declared.table.Size.TheVariants.{Fixed, PerThread}
 use Rattle.circuit.specs.declared.table.Operand.{Operand}
-use Rattle.circuit.specs.declared.table.Operand.TheVariants.{Same, Only, Last, Before}
+use Rattle.circuit.specs.declared.table.Operand.TheVariants.{Same, Only, Last, Before, Group}
 use Rattle.circuit.specs.declared.table.Form.{Form}
 use Rattle.circuit.specs.declared.table.Form.TheVariants.{Input, Register, Constant, Count, Copy, Output, Binary, Conditional, MemoryRead, Pair}
 use Rattle.circuit.specs.declared.table.Row.{Row}
-use Rattle.circuit.specs.declared.table.Row.TheVariants.{One, Each, Chain}
+use Rattle.circuit.specs.declared.table.Row.TheVariants.{One, Each, Many, Chain, Chains}
 use Rattle.circuit.specs.Rows.{EachOf}
 use Rattle.circuit.specs.Modules.{Obeys, Has, HasInput, FitsValue, FitsBinary, Reads, IsSound, IsLeaf, FitsAction, FitsMemory, is_between}
-use Rattle.circuit.specs.Table.{is_output, place, operand_at, source_at, signal_at, laid}
-use Rattle.circuit.specs.Fits.{form_is, is_input, is_register, inputs, registers, outputs, grants, chains, is_late, is_late_row, Words, Reader, each_width, only_width, chain_width}
+use Rattle.circuit.specs.Table.{is_output, size_of, place, operand_at, source_at, signal_at, laid}
+use Rattle.circuit.specs.Fits.{form_is, is_input, is_register, inputs, registers, outputs, grants, chains, is_late, is_late_row, same, most, Words, Reader, each_width, only_width, chain_width}
 use Rattle.circuit.specs.Fits.{may_read, width_of, binary_fits, memory_fits, form_fits, fits}
 use Rattle.circuit.proofs.Tables.{Told, fits_among, operand_of, all_told_at}
 use Rattle.circuit.proofs.LeafForm.{AreData, ReadsData, IsAssigned, IsFormed}
 use Rattle.circuit.proofs.RowModules.{clock_name}
 use Rattle.circuit.proofs.TableRows.{row_size, place_next, place_up, OfRow, OfSome, ByRow, listed, by_rows, by_signals, IsListed}
-use Rattle.circuit.proofs.TableElements.{two, three, before_first, elements, IsAt, IsElement, place_some}
+use Rattle.circuit.proofs.TableElements.{two, three, before_first, count_of, at_most, elements, IsAt, IsElement, place_some}
 
 abbrev pub row_width : Row → ℕ
 row_width (One r w f) = w
 row_width (Each r w f) = w
+row_width (Many size r w f) = w
 row_width (Chain r w first step) = w
+row_width (Chains count r w first step) = w
 
 -- ---- what an operand finds
 
@@ -51,23 +56,50 @@ passed false v w e l = absurd (omega arith)
 abbrev Finds : ℕ → ℕ → ℕ → Option Row → Type 0
 Finds n least w o = (r : Row) × (o ≡ Some r) × (row_width r ≡ w) × (least ≤ row_size n r)
 
-each_found : (n : ℕ) (o : Option Row) (w : ℕ) → each_width o ≡ w → 0 < w → Finds n n w o
-each_found n None w e l = absurd (omega arith)
-each_found n (Some (One r v f)) w e l = absurd (omega arith)
-each_found n (Some (Each r v f)) w e l = (Each r v f, refl, e, (omega arith))
-each_found n (Some (Chain r v first step)) w e l = absurd (omega arith)
+same_size : (a b : Option Size) → same a b ≡ true → a ≡ b
+same_size None None e = refl
+same_size (Some (Fixed a)) (Some (Fixed b)) e = ap (λ z. Some (Fixed z)) (eqb-true a b e)
+same_size (Some (PerThread a)) (Some (PerThread b)) e = ap (λ z. Some (PerThread z)) (eqb-true a b e)
+same_size a b e = absurd cc
+
+-- a width that is passed on for rows of this size only
+sized : (n : ℕ) (k size : Option Size) (v w : ℕ) → (if same k size then v else 0) ≡ w → 0 < w → (v ≡ w) × (count_of n k ≡ count_of n size)
+sized n k size v w e l = let p = passed (same k size) v w e l in (p.1, ap (count_of n) (same_size k size p.0))
+
+each_found : (n : ℕ) (k : Option Size) (o : Option Row) (w : ℕ) → each_width k o ≡ w → 0 < w → Finds n (count_of n k) w o
+each_found n k None w e l = absurd (omega arith)
+each_found n k (Some (One r v f)) w e l = absurd (omega arith)
+each_found n k (Some (Each r v f)) w e l = let p = sized n k None v w e l in let s : count_of n k ≡ n = p.1 in (Each r v f, refl, p.0, (omega arith))
+each_found n k (Some (Many size r v f)) w e l = let p = sized n k (Some size) v w e l in let s : count_of n k ≡ size_of n size = p.1 in (Many size r v f, refl, p.0, (omega arith))
+each_found n k (Some (Chain r v first step)) w e l = absurd (omega arith)
+each_found n k (Some (Chains count r v first step)) w e l = absurd (omega arith)
 
 only_found : (n : ℕ) (o : Option Row) (w : ℕ) → only_width o ≡ w → 0 < w → Finds n 1 w o
-only_found n None w e l = absurd (omega arith)
 only_found n (Some (One r v f)) w e l = (One r v f, refl, e, (omega arith))
-only_found n (Some (Each r v f)) w e l = absurd (omega arith)
-only_found n (Some (Chain r v first step)) w e l = absurd (omega arith)
+only_found n o w e l = absurd (omega arith)
 
-chain_found : (n : ℕ) (o : Option Row) (w : ℕ) → chain_width o ≡ w → 0 < w → Finds n (suc n) w o
-chain_found n None w e l = absurd (omega arith)
-chain_found n (Some (One r v f)) w e l = absurd (omega arith)
-chain_found n (Some (Each r v f)) w e l = absurd (omega arith)
-chain_found n (Some (Chain r v first step)) w e l = (Chain r v first step, refl, e, (omega arith))
+chain_found : (n : ℕ) (k : Option Size) (o : Option Row) (w : ℕ) → chain_width k o ≡ w → 0 < w → Finds n (count_of n k) w o
+chain_found n k None w e l = absurd (omega arith)
+chain_found n k (Some (One r v f)) w e l = absurd (omega arith)
+chain_found n k (Some (Each r v f)) w e l = absurd (omega arith)
+chain_found n k (Some (Many size r v f)) w e l = absurd (omega arith)
+chain_found n k (Some (Chain r v first step)) w e l = let p = sized n k None v w e l in let s : count_of n k ≡ n = p.1 in (Chain r v first step, refl, p.0, (omega arith))
+chain_found n k (Some (Chains count r v first step)) w e l =
+    let p = sized n k (Some (PerThread count)) v w e l in let s : count_of n k ≡ n * count = p.1 in (Chains count r v first step, refl, p.0, (omega arith))
+
+-- the end of a chain
+last_found : (n : ℕ) (o : Option Row) (w : ℕ) → chain_width None o ≡ w → 0 < w → Finds n (suc n) w o
+last_found n None w e l = absurd (omega arith)
+last_found n (Some (One r v f)) w e l = absurd (omega arith)
+last_found n (Some (Each r v f)) w e l = absurd (omega arith)
+last_found n (Some (Many size r v f)) w e l = absurd (omega arith)
+last_found n (Some (Chain r v first step)) w e l = (Chain r v first step, refl, e, (omega arith))
+last_found n (Some (Chains count r v first step)) w e l = absurd (omega arith)
+
+-- a number below a product is in one of so many groups
+group_below : (n c k : ℕ) → k < n * c → k / c < n
+group_below n zero k l = absurd (omega arith)
+group_below n (suc c) k l = (div-lt_iff_lt-mul {k = suc c} {x = k} {y = n} (omega arith)).1 l
 
 in_time_row : (a b : Bool) → (a || not b) ≡ true → b ≡ true → a ≡ true
 in_time_row true b e f = refl
@@ -81,9 +113,16 @@ module _ (n : ℕ) (rows : List Row) (m : Module) (is : m.signals ≡ laid n row
   has_in at (One r w f) h zero l = let z : at ≡ at + 0 = sym (add-zero at) in subst (λ y. Has m y w) z (record { signal = _; listed = h; wide = refl })
   has_in at (One r w f) h (suc e) l = absurd (omega arith)
   has_in at (Each r w f) h e l = record { signal = _; listed = h e l; wide = refl }
+  has_in at (Many size r w f) h e l = record { signal = _; listed = h e l; wide = refl }
   has_in at (Chain r w first step) h zero l = let z : at ≡ at + 0 = sym (add-zero at) in subst (λ y. Has m y w) z (record { signal = _; listed = h.0; wide = refl })
   has_in at (Chain r w first step) h (suc e) l =
       let z : at + 1 + e ≡ at + suc e = omega arith in subst (λ y. Has m y w) z (record { signal = _; listed = h.1 e (omega arith); wide = refl })
+  has_in at (Chains count r w first step) h e l = ⊎_elim
+      (λ (b : e < count). record { signal = _; listed = h.0 e b; wide = refl })
+      (λ (b : count ≤ e).
+      let z : at + count + (e - count) ≡ at + e = omega arith in
+      subst (λ y. Has m y w) z (record { signal = _; listed = h.1 (e - count) (omega arith); wide = refl }))
+      (let c : (e < count) ⊎ (count ≤ e) = grind (arith, nat_tests) in c)
 
   -- signal e of row k
   pub has_at : (k : ℕ) (r : Row) → slice_get rows k ≡ Some r → (e : ℕ) → e < row_size n r → Has m (place n rows k + e) (row_width r)
@@ -171,11 +210,10 @@ module _ {n : ℕ} {late : ℕ → Bool} {memories : List Words} {rows : List Ro
 
   reads : (k : Reader) (i x w : ℕ) (o : Operand) → IsHere k i x → width_of late memories rows k o ≡ w → 0 < w → Finding x (operand_at n P o i) w
   reads k i x w (Same j) at e l =
-      let p = passed (k.each && may k.number k.number j) (each_width (slice_get rows j)) w e l in
-      let t = two k.each (may k.number k.number j) p.0 in
-      let b = may_be k.number k.number j t.1 in
-      let g = each_found n (slice_get rows j) w p.1 l in
-      let some = at.each t.0 in let least = g.3 in
+      let p = passed (may k.number k.number j) (each_width k.size (slice_get rows j)) w e l in
+      let b = may_be k.number k.number j p.0 in
+      let g = each_found n k.size (slice_get rows j) w p.1 l in
+      let some = at.among in let least = g.3 in
       earlier k i x j i (P j + i) w g.0 at g.1 g.2 (omega arith) refl b.1 b.0 b.2
   reads k i x w (Only j) at e l =
       let p = passed (may k.number k.number j) (only_width (slice_get rows j)) w e l in
@@ -184,17 +222,16 @@ module _ {n : ℕ} {late : ℕ → Bool} {memories : List Words} {rows : List Ro
       let least = g.3 in
       earlier k i x j 0 (P j) w g.0 at g.1 g.2 (omega arith) (sym (add-zero (P j))) b.1 b.0 b.2
   reads k i x w (Last j) at e l =
-      let p = passed (may k.number k.number j) (chain_width (slice_get rows j)) w e l in
+      let p = passed (may k.number k.number j) (chain_width None (slice_get rows j)) w e l in
       let b = may_be k.number k.number j p.0 in
-      let g = chain_found n (slice_get rows j) w p.1 l in
+      let g = last_found n (slice_get rows j) w p.1 l in
       let least = g.3 in
       earlier k i x j n (P j + n) w g.0 at g.1 g.2 (omega arith) refl b.1 b.0 b.2
   reads k i x w (Before j) at e l =
-      let p = passed (k.each && may k.number k.until j) (chain_width (slice_get rows j)) w e l in
-      let t = two k.each (may k.number k.until j) p.0 in
-      let b = may_be k.number k.until j t.1 in
-      let g = chain_found n (slice_get rows j) w p.1 l in
-      let some = at.each t.0 in let least = g.3 in let limit = at.until in let under = b.1 in
+      let p = passed (may k.number k.until j) (chain_width k.size (slice_get rows j)) w e l in
+      let b = may_be k.number k.until j p.0 in
+      let g = chain_found n k.size (slice_get rows j) w p.1 l in
+      let some = at.among in let least = g.3 in let limit = at.until in let under = b.1 in
       ⊎_elim
       (λ (s : j < k.number). earlier k i x j i (P j + i) w g.0 at g.1 g.2 (omega arith) refl s b.0 b.2)
       (λ (s : j ≡ k.number).
@@ -202,6 +239,15 @@ module _ {n : ℕ} {late : ℕ → Bool} {memories : List Words} {rows : List Ro
       let before : P j + i < x = subst (λ z. P z + i < x) (sym s) own in
       found k i x j i (P j + i) w g.0 at g.1 g.2 (omega arith) refl before b.0 b.2)
       (let c : (j < k.number) ⊎ (j ≡ k.number) = grind (arith, nat_tests) in c)
+  reads k i x w (Group j count) at e l =
+      let size = Some (PerThread count) in
+      let p = passed (same k.size size && may k.number k.number j) (each_width None (slice_get rows j)) w e l in
+      let t = two (same k.size size) (may k.number k.number j) p.0 in
+      let b = may_be k.number k.number j t.1 in
+      let g = each_found n None (slice_get rows j) w p.1 l in
+      let many : i < n * count = subst (λ z. i < count_of n z) (same_size k.size size t.0) at.among in
+      let some = group_below n count i many in let least : n ≤ row_size n g.0 = g.3 in
+      earlier k i x j (i / count) (P j + i / count) w g.0 at g.1 g.2 (omega arith) refl b.1 b.0 b.2
 
   abbrev I : ℕ
   I = P (inputs rows)
@@ -256,7 +302,7 @@ module _ {n : ℕ} {late : ℕ → Bool} {memories : List Words} {rows : List Ro
   find_form k i x w Input at l front e = front refl
   find_form k i x w (Register c) at l front e = ltb-true c (2 ^ w) e
   find_form k i x w (Constant c) at l front e = ltb-true c (2 ^ w) e
-  find_form k i x w (Count first) at l front e = let a = leb-true (first + 64) (2 ^ w) e in let b = at.low in omega arith
+  find_form k i x w (Count first) at l front e = let a = leb-true (first + most k.size) (2 ^ w) e in let b = at.among in let c = at_most n table.few k.size in omega arith
   find_form k i x w (Copy a) at l front e = find k i x w a at l e
   find_form k i x w (Output a) at l front e = find k i x w a at l e
   find_form k i x w (Binary operator a b) at l front e = find_binary k i x w operator a b at l e
@@ -310,7 +356,9 @@ module _ {n : ℕ} {late : ℕ → Bool} {memories : List Words} {rows : List Ro
       let z : at ≡ at + 0 = sym (add-zero at) in subst (HasInput m) z (record { signal = _; listed = h; is = input_is f 0 t })
   input_in at (One r w f) t h (suc e) l = absurd (omega arith)
   input_in at (Each r w f) t h e l = record { signal = _; listed = h e l; is = input_is f e t }
+  input_in at (Many size r w f) t h e l = record { signal = _; listed = h e l; is = input_is f e t }
   input_in at (Chain r w first step) t h e l = absurd cc
+  input_in at (Chains count r w first step) t h e l = absurd cc
 
   inputs_until : (k : ℕ) → k ≤ inputs rows → (x : ℕ) → x < P k → HasInput m x
   inputs_until zero l x b = absurd (omega arith)

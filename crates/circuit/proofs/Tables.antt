@@ -1,7 +1,6 @@
--- What holds of each signal of a table holds row by row, and the other way round.
-use Rattle.std.proofs.Common.{◌≡◌, ℕ, zero, suc, ◌+◌, ◌-◌, ◌^◌, ◌<◌, ◌≤◌, ◌⊎◌, Bool, true, false, List, [], ◌∷◌, ◌++◌, length, Option, Some, slice_get, nat_eq, nat_lt}
-use Rattle.std.proofs.Common.{bit_and, bit_or, refl, sym, ap, ◌∙◌, subst, inl, inr, ⊎_elim, arith, add-zero, zero-add}
-use Rattle.std.specs.Prelude.{not, ◌&&◌}
+-- What holds of each signal of a list, by its place; and what an equation of a module says where its operands fit.
+use Rattle.std.proofs.Common.{◌≡◌, ℕ, zero, suc, ◌+◌, ◌^◌, ◌<◌, ◌≤◌, Bool, true, false, List, [], ◌∷◌, ◌++◌, length, Option, Some, slice_get, nat_eq, nat_lt}
+use Rattle.std.proofs.Common.{bit_and, bit_or, refl, sym, ap, ◌∙◌, subst, inl, inr, arith}
 use Rattle.std.proofs.lemmas.Bool.Decides.{nat_tests}
 use Rattle.std.proofs.Math.Nat.{mod-eq_of_lt}
 use Rattle.verilog_meaning.specs.Residues.{bit_of}
@@ -18,17 +17,8 @@ use Rattle.netlist.specs.declared.netlist.Memory.{Memory}
 use Rattle.netlist.specs.declared.netlist.Module.{Module}
 use Rattle.verilog_meaning.specs.Readings.{Reading, value, width, binary, signal_width}
 use Rattle.verilog_meaning.specs.Threads.{operands, IsOneOf}
-use Rattle.circuit.specs.declared.rows.Row.{Row}
-use Rattle.circuit.specs.declared.rows.Row.TheVariants as row
-use Rattle.circuit.specs.Rows.{EachOf, spread, signal_at, laid}
-use Rattle.circuit.specs.Modules.{Obeys, Has, HasInput, FitsValue, FitsBinary, FitsParts, Reads, IsSoundSource, IsSound, IsLeaf, FitsAction, FitsMemory, is_between}
-use Rattle.circuit.proofs.Growth.{length-spread}
-
--- P of each signal and its place, row by row
-abbrev pub EachRow : (ℕ → Signal → Type 0) → ℕ → List Row → Type 0
-EachRow P at [] = Unit {0}
-EachRow P at (row.One r w f ∷ rows) = P at (signal_at at r w f 0) × EachRow P (at + 1) rows
-EachRow P at (row.Each n r w f ∷ rows) = ((k : ℕ) → k < n → P (at + k) (signal_at (at + k) r w f k)) × EachRow P (at + n) rows
+use Rattle.circuit.specs.Rows.{spread}
+use Rattle.circuit.specs.Modules.{Obeys, Has, FitsValue, FitsBinary, FitsParts, Reads, IsSoundSource, IsSound, is_between}
 
 -- P of each signal of a list whose first has a place
 abbrev pub EachFrom : (ℕ → Signal → Type 0) → ℕ → List Signal → Type 0
@@ -83,40 +73,6 @@ spread-each P f at i (suc n) h =
           let a : at + suc k ≡ at + 1 + k = omega arith in let b : i + suc k ≡ i + 1 + k = omega arith in
           subst (λ x. P x (f (i + 1 + k))) a (subst (λ j. P (at + suc k) (f j)) b (h (suc k) (omega arith)))),
     )
-
-laid_each : (P : ℕ → Signal → Type 0) (at : ℕ) (rows : List Row) → EachFrom P at (laid at rows) → EachRow P at rows
-laid_each P at [] e = tt
-laid_each P at (row.One r w f ∷ rows) e = (e.0, laid_each P (at + 1) rows e.1)
-laid_each P at (row.Each n r w f ∷ rows) e =
-    let signals = λ (k : ℕ). signal_at (at + k) r w f k in
-    let p = EachFrom-append P at (spread signals 0 n) (laid (at + n) rows) e in (
-      (λ k l. subst (λ j. P (at + k) (signals j)) (zero-add k) (each-spread P signals at 0 n p.0 k l)),
-      laid_each P (at + n) rows (subst (λ c. EachFrom P (at + c) (laid (at + n) rows)) (length-spread signals 0 n) p.1),
-    )
-
-each_laid : (P : ℕ → Signal → Type 0) (at : ℕ) (rows : List Row) → EachRow P at rows → EachFrom P at (laid at rows)
-each_laid P at [] e = tt
-each_laid P at (row.One r w f ∷ rows) e = (e.0, each_laid P (at + 1) rows e.1)
-each_laid P at (row.Each n r w f ∷ rows) e =
-    let signals = λ (k : ℕ). signal_at (at + k) r w f k in
-    EachFrom-join P at (spread signals 0 n) (laid (at + n) rows)
-    (spread-each P signals at 0 n (λ k l. subst (λ j. P (at + k) (signals j)) (sym (zero-add k)) (e.0 k l)))
-    (subst (λ c. EachFrom P (at + c) (laid (at + n) rows)) (sym (length-spread signals 0 n)) (each_laid P (at + n) rows e.1))
-
-module _ (m : Module) (rows : List Row) (is : m.signals ≡ laid 0 rows) where
-  -- by rows
-  pub by_rows : (P : ℕ → Signal → Type 0) → ((x : ℕ) (s : Signal) → slice_get m.signals x ≡ Some s → P x s) → EachRow P 0 rows
-  by_rows P h = laid_each P 0 rows (subst (EachFrom P 0) is (each_from P 0 m.signals (λ x s e. subst (λ y. P y s) (sym (zero-add x)) (h x s e))))
-
-  -- by signals
-  pub by_signals : (P : ℕ → Signal → Type 0) → EachRow P 0 rows → (x : ℕ) (s : Signal) → slice_get m.signals x ≡ Some s → P x s
-  by_signals P e x s q = subst (λ y. P y s) (zero-add x) (each_at P 0 m.signals (subst (EachFrom P 0) (sym is) (each_laid P 0 rows e)) x s q)
-
-  abbrev pub IsListed : ℕ → Signal → Type 0
-  IsListed x s = slice_get m.signals x ≡ Some s
-
-  pub all_listed : EachRow IsListed 0 rows
-  all_listed = by_rows IsListed (λ x s e. e)
 
 -- ---- what a right side says, where its operands fit
 
@@ -278,7 +234,7 @@ module _ (P : ℕ → ℕ → Type 0) where
   operand_of memory w (Concatenation xs) f = some_of xs w f
   operand_of memory w (Replication n x) f = one_of_one x f.0 f.1
 
--- ---- a module of a table that is sound
+-- ---- a module whose signals are sound
 
 told : (m : Module) (r : Reading) (inputs : ℕ) (late : ℕ → Bool) (x w : ℕ) (source : Source) → Obeys m r → IsSoundSource m inputs late x w source → ((v : Value)
     → source ≡ Assigned v → r.signal x ≡ value m r v) → ToldBy m r x source
@@ -294,60 +250,16 @@ pub all_told_at : (m : Module) (inputs : ℕ) (late : ℕ → Bool) → ((x : �
     → (r : Reading) → Obeys m r → (x : ℕ) (s : Signal) → slice_get m.signals x ≡ Some s → Told m r x s
 all_told_at m inputs late sound r obeys x s e = told m r inputs late x s.width s.source obeys (sound x s e) (λ v q. obeys.equations x s v e q)
 
-module _ (m : Module) (rows : List Row) (is : m.signals ≡ laid 0 rows) (inputs : ℕ) (late : ℕ → Bool) (sound : EachRow (IsSound m inputs late) 0 rows) where
-  pub all_told : (r : Reading) → Obeys m r → EachRow (Told m r) 0 rows
-  all_told r obeys =
-      by_rows m rows is (Told m r)
-      (λ x s e. told m r inputs late x s.width s.source obeys (by_signals m rows is (IsSound m inputs late) sound x s e) (λ v q. obeys.equations x s v e q))
-
-  pub table_leaf : m.instances ≡ [] → ((x : ℕ) → x < inputs → HasInput m x) → EachOf (FitsAction m) m.actions → EachOf FitsMemory m.memories → IsLeaf m inputs late
-  table_leaf alone first acts begins = record { alone = alone; first = first; sound = by_signals m rows is (IsSound m inputs late) sound; acts = acts; begins = begins }
-
-pub no_inputs : (m : Module) (x : ℕ) → x < 0 → HasInput m x
-no_inputs m x l = absurd (omega arith)
-
-pub one_input : (m : Module) (at : ℕ) (s : Signal) → ((x : ℕ) → x < at → HasInput m x) → slice_get m.signals at ≡ Some s → s.source ≡ Input → (x : ℕ) → x < at + 1 → HasInput m x
-one_input m at s before listed is x l =
-    ⊎_elim (λ (b : x < at). before x b)
-    (λ (e : at ≡ x). record { signal = s; listed = ap (slice_get m.signals) (sym e) ∙ listed; is = is })
-    (let c : (x < at) ⊎ (at ≡ x) = grind (arith, nat_tests) in c)
-
-pub more_inputs : (m : Module) (at n : ℕ) (f : ℕ → Signal) → ((x : ℕ) → x < at → HasInput m x) → ((k : ℕ) → k < n → slice_get m.signals (at + k) ≡ Some (f k)) → ((k : ℕ)
-    → (f k).source ≡ Input) → (x : ℕ) → x < at + n → HasInput m x
-more_inputs m at n f before listed is x l =
-    ⊎_elim (λ (b : x < at). before x b)
-    (λ (b : at ≤ x). let z : at + (x - at) ≡ x = omega arith in record { signal = f (x - at); listed = ap (slice_get m.signals) (sym z) ∙ listed (x - at) (omega arith); is = is (x - at) })
-    (let c : (x < at) ⊎ (at ≤ x) = grind (arith, nat_tests) in c)
-
--- ---- widths and order of operands
+-- ---- widths
 
 pub has : (m : Module) (y : ℕ) (s : Signal) → slice_get m.signals y ≡ Some s → Has m y s.width
 has m y s e = record { signal = s; listed = e; wide = refl }
-
--- of a chain, which is one signal and then others
-pub chain_has : (m : Module) (at n w : ℕ) (s : Signal) (f : ℕ → Signal) → slice_get m.signals at ≡ Some s → s.width ≡ w → ((k : ℕ) → k < n
-    → slice_get m.signals (at + 1 + k) ≡ Some (f k)) → ((k : ℕ) → (f k).width ≡ w) → (k : ℕ) → k ≤ n → Has m (at + k) w
-chain_has m at n w s f e wide chain all zero l = record { signal = s; listed = ap (slice_get m.signals) (add-zero at) ∙ e; wide = wide }
-chain_has m at n w s f e wide chain all (suc k) l =
-    let z : at + suc k ≡ at + 1 + k = omega arith in
-    record { signal = f k; listed = ap (slice_get m.signals) z ∙ chain k (omega arith); wide = all k }
-
--- of a wide chain, which is a row of c signals and then n times as many
-pub wide_chain_has : (m : Module) (at c d w : ℕ) (f g : ℕ → Signal) → ((k : ℕ) → k < c → slice_get m.signals (at + k) ≡ Some (f k)) → ((k : ℕ) → (f k).width ≡ w) → ((k : ℕ) → k < d
-    → slice_get m.signals (at + c + k) ≡ Some (g k)) → ((k : ℕ) → (g k).width ≡ w) → (k : ℕ) → k < c + d → Has m (at + k) w
-wide_chain_has m at c d w f g e wide chain all k l =
-    ⊎_elim (λ (b : k < c). record { signal = f k; listed = e k b; wide = wide k })
-    (λ (b : c ≤ k). let z : at + k ≡ at + c + (k - c) = omega arith in record { signal = g (k - c); listed = ap (slice_get m.signals) z ∙ chain (k - c) (omega arith); wide = all (k - c) })
-    (let t : (k < c) ⊎ (c ≤ k) = grind (arith, nat_tests) in t)
 
 -- ---- early and late places
 
 pub between_on : (from until x : ℕ) → from ≤ x → x < until → is_between from until x ≡ true
 between_on from until x a b =
     let t : nat_lt x from ≡ false = grind (arith, nat_tests) in let u : nat_lt x until ≡ true = grind (arith, nat_tests) in rw (t, u)
-
-pub between_before : (from until x : ℕ) → x < from → is_between from until x ≡ false
-between_before from until x a = let t : nat_lt x from ≡ true = grind (arith, nat_tests) in ap (λ b. not b && nat_lt x until) t
 
 pub between_behind : (from until x : ℕ) → from ≤ x → until ≤ x → is_between from until x ≡ false
 between_behind from until x a b =

@@ -8,7 +8,7 @@ use Rattle.std.proofs.lemmas.List.{append-nil, length-replicate}
 use Rattle.netlist.specs.declared.netlist.Module.{Module}
 use Rattle.circuit.specs.Modules.{IsLeaf, is_between}
 use Rattle.circuit.specs.Interfaces.{first_of, HasInterface}
-use Rattle.circuit.proofs.Growth.{length-laid}
+use Rattle.circuit.proofs.TableRows.{length-laid}
 use Rattle.circuit.proofs.Tables.{between_on, between_behind}
 use Rattle.top_parts.specs.declared.layout.Group.{Group}
 use Rattle.top_parts.specs.declared.layout.Core.{Core}
@@ -19,7 +19,8 @@ use Rattle.top_wiring.specs.Leaves.{IsCoreLeaf}
 use Rattle.top_wiring.specs.Machine.{IsCoreAt}
 use Rattle.print_core.specs.declared.format.Part.{Part}
 use Rattle.print_core.specs.declared.printer.Shape.{Shape}
-use Rattle.print_core.specs.Printer.{grants, one, going, offers, rows}
+use Rattle.print_core.specs.Rows as row
+use Rattle.print_core.specs.Printer as printer
 use Rattle.print_core.specs.Machine.{printer_machine, printer_places, part_place, inputs, input_widths, output_widths, is_late}
 use Rattle.core_family.specs.Family.{Prints, IsCoreModule}
 use Rattle.core_tables.specs.Fits.{group, groups_of, core_of, FitsLayout}
@@ -31,6 +32,10 @@ module _ (layout : Layout) (number : ℕ) (name : List ℕ) (c : ℕ) (sites : L
 
   abbrev shape : Shape
   shape = record { threads = n; values = c; sites = sites }
+
+  -- where a row starts
+  abbrev P : ℕ → ℕ
+  P = printer.at shape
 
   abbrev core : Core
   core = core_of (Prints shape) number name
@@ -64,41 +69,41 @@ module _ (layout : Layout) (number : ℕ) (name : List ℕ) (c : ℕ) (sites : L
         subst (λ (l : List ℕ). HasInterface m l (core_outputs n core)) same_inputs
         (subst (λ (l : List ℕ). HasInterface m (input_widths shape) l) same_outputs is.stands.interface)
 
-    offers_first : first_of m (core_outputs n core) ≡ offers n c (length sites)
+    offers_first : first_of m (core_outputs n core) ≡ P row.offers
     offers_first =
-        let a = ap length is.table.signals in let b = length-laid 0 (rows n c (length sites)) in
+        let a = ap length is.table.signals in let b = length-laid n (printer.table_of shape) in
         let d = length-replicate {A = ℕ} n 1 in let e = ap length same_outputs in
         omega (arith, a, b, d, e)
 
-    first_at : (j i : ℕ) → j < 1 → i < n → part_place n c (0 + j) i ≡ 1 + (n * 0 + (i * 1 + j))
+    first_at : (j i : ℕ) → j < 1 → i < n → part_place shape (0 + j) i ≡ 1 + (n * 0 + (i * 1 + j))
     first_at zero i l il = omega arith
     first_at (suc j) i l il = absurd (omega arith)
 
-    site_at : (j i : ℕ) → j < 1 → i < n → part_place n c (1 + j) i ≡ 1 + (n * 1 + (i * 1 + j))
+    site_at : (j i : ℕ) → j < 1 → i < n → part_place shape (1 + j) i ≡ 1 + (n * 1 + (i * 1 + j))
     site_at zero i l il = omega arith
     site_at (suc j) i l il = absurd (omega arith)
 
-    value_at : (j i : ℕ) → j < c → i < n → part_place n c (2 + j) i ≡ 1 + (n * 2 + (i * c + j))
+    value_at : (j i : ℕ) → j < c → i < n → part_place shape (2 + j) i ≡ 1 + (n * 2 + (i * c + j))
     value_at j i l il =
         let e : 2 + j ≡ suc (suc j) = omega arith in
-        let f : 1 + n + n + (i * c + j) ≡ 1 + (n * 2 + (i * c + j)) = omega arith in
-        ap (λ k. part_place n c k i) e ∙ f
+        let f : P row.values + (i * c + j) ≡ 1 + (n * 2 + (i * c + j)) = omega arith in
+        ap (λ k. part_place shape k i) e ∙ f
 
     ask_at : (g j i : ℕ) (x : Group) → slice_get (groups_of (Prints shape)) g ≡ Some x → j < x.count → i < n
-        → part_place n c (length (group_widths (take g (groups_of (Prints shape)))) + j) i
+        → part_place shape (length (group_widths (take g (groups_of (Prints shape)))) + j) i
         ≡ 1 + (n * length (group_widths (take g (groups_of (Prints shape)))) + (i * x.count + j))
     ask_at zero j i x e =
-        subst (λ (z : Group). j < z.count → i < n → part_place n c (0 + j) i ≡ 1 + (n * 0 + (i * z.count + j))) (same_Some (group 1 1) x e) (first_at j i)
+        subst (λ (z : Group). j < z.count → i < n → part_place shape (0 + j) i ≡ 1 + (n * 0 + (i * z.count + j))) (same_Some (group 1 1) x e) (first_at j i)
     ask_at (suc zero) j i x e =
-        subst (λ (z : Group). j < z.count → i < n → part_place n c (1 + j) i ≡ 1 + (n * 1 + (i * z.count + j))) (same_Some (group 1 16) x e) (site_at j i)
+        subst (λ (z : Group). j < z.count → i < n → part_place shape (1 + j) i ≡ 1 + (n * 1 + (i * z.count + j))) (same_Some (group 1 16) x e) (site_at j i)
     ask_at (suc (suc zero)) j i x e =
-        subst (λ (z : Group). j < z.count → i < n → part_place n c (2 + j) i ≡ 1 + (n * 2 + (i * z.count + j))) (same_Some (group c 64) x e) (value_at j i)
+        subst (λ (z : Group). j < z.count → i < n → part_place shape (2 + j) i ≡ 1 + (n * 2 + (i * z.count + j))) (same_Some (group c 64) x e) (value_at j i)
     ask_at (suc (suc (suc g))) j i x e = absurd (none-some x e)
 
-    grant_place : (i : ℕ) → grants n c + i ≡ 1 + (n * length (group_widths (groups_of (Prints shape))) + i)
+    grant_place : (i : ℕ) → P row.grants + i ≡ 1 + (n * length (group_widths (groups_of (Prints shape))) + i)
     grant_place i =
         let a : n * (2 + c) ≡ n * 2 + n * c = mul-add n 2 c in
-        let b : grants n c + i ≡ 1 + (n * (2 + c) + i) = omega (arith, a) in
+        let b : P row.grants + i ≡ 1 + (n * (2 + c) + i) = omega (arith, a) in
         b ∙ ap (λ k. 1 + (n * k + i)) (sym value_count)
 
     at : IsCoreAt layout (printer_machine shape) (printer_places shape) core m
@@ -112,15 +117,15 @@ module _ (layout : Layout) (number : ℕ) (name : List ℕ) (c : ℕ) (sites : L
       tell = λ j i l il. absurd (omega arith);
     }
 
-    early : (x : ℕ) → offers n c (length sites) ≤ x → is_late shape x ≡ false
+    early : (x : ℕ) → P row.offers ≤ x → is_late shape x ≡ false
     early x l =
-        ap (λ b. b || is_between (going n c) (offers n c (length sites)) x) (between_behind (grants n c) (one n c) x (omega arith) (omega arith))
-        ∙ between_behind (going n c) (offers n c (length sites)) x (omega arith) l
+        ap (λ b. b || is_between (P row.going) (P row.offers) x) (between_behind (P row.grants) (P row.one) x (omega arith) (omega arith))
+        ∙ between_behind (P row.going) (P row.offers) x (omega arith) l
 
     grants_late : (i : ℕ) → i < n → is_late shape (1 + (n * length (group_widths (groups_of (Prints shape))) + i)) ≡ true
     grants_late i l =
         ap (is_late shape) (sym (grant_place i))
-        ∙ ap (λ b. b || is_between (going n c) (offers n c (length sites)) (grants n c + i)) (between_on (grants n c) (one n c) (grants n c + i) (omega arith) (omega arith))
+        ∙ ap (λ b. b || is_between (P row.going) (P row.offers) (P row.grants + i)) (between_on (P row.grants) (P row.one) (P row.grants + i) (omega arith) (omega arith))
 
     many : inputs shape ≡ length (input_widths shape)
     many =

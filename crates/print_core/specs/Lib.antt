@@ -1,3 +1,4 @@
 pub mod Format
+pub mod Rows
 pub mod Printer
 pub mod Machine

@@ -1,14 +1,15 @@
 -- The printer as a machine: a thread asks for a site with its values, and a grant writes them as the site says.
-use Rattle.std.specs.Prelude.{ℕ, zero, suc, ◌+◌, ◌*◌, Bool, ◌||◌, nat_lt, replicate, List, [], ◌∷◌, ◌++◌, Option, Some, None, slice_get, decimal, length}
+use Rattle.std.specs.Prelude.{ℕ, zero, suc, ◌+◌, ◌*◌, Bool, nat_lt, List, [], ◌∷◌, ◌++◌, Option, Some, None, slice_get, decimal}
 use Rattle.std.specs.Fmt.{signed_decimal}
 use Rattle.hls_ints.specs.Words.{signed_word}
 use Rattle.circuit.specs.Rows.{spread}
-use Rattle.circuit.specs.Modules.{is_between}
+use Rattle.circuit.specs.Fits as table
 use Rattle.circuit.specs.Machines.{CoreMachine, CorePlaces}
 use Rattle.print_core.specs.declared.format.Part.{Part}
 use Rattle.print_core.specs.declared.format.Part.TheVariants.{Text, Unsigned, Signed}
 use Rattle.print_core.specs.declared.printer.Shape.{Shape}
-use Rattle.print_core.specs.Printer.{asks, sites, values, grants, going, offers, one}
+use Rattle.print_core.specs.Rows as row
+use Rattle.print_core.specs.Printer.{table_of, at}
 
 pub record Ask : Type 0 where
   pub asks : Bool
@@ -48,35 +49,31 @@ printer_machine shape = record {
 }
 
 -- where the module has its ports
-abbrev pub part_place : ℕ → ℕ → ℕ → ℕ → ℕ
-part_place n c zero i = asks n c + i
-part_place n c (suc zero) i = sites n c + i
-part_place n c (suc (suc j)) i = values n c + (i * c + j)
+abbrev pub part_place : Shape → ℕ → ℕ → ℕ
+part_place shape zero i = at shape row.asks + i
+part_place shape (suc zero) i = at shape row.sites + i
+part_place shape (suc (suc j)) i = at shape row.values + (i * shape.values + j)
 
 abbrev pub printer_places : (shape : Shape) → CorePlaces (printer_machine shape)
 printer_places shape = record {
   shows = λ r s. Unit {0};
-  ask = part_place shape.threads shape.values;
-  offer = λ i. offers shape.threads shape.values (length shape.sites) + i;
-  grant = λ i. grants shape.threads shape.values + i;
+  ask = part_place shape;
+  offer = λ i. at shape row.offers + i;
+  grant = λ i. at shape row.grants + i;
   tell = λ j i. 0;
 }
 
--- the input ports stand before this place
+-- the input ports stand before this place: the clock, whether each thread asks, their sites, their values, and whether each is granted
 abbrev pub inputs : Shape → ℕ
-inputs shape = one shape.threads shape.values
+inputs shape = at shape (table.inputs (table_of shape))
 
--- the clock, whether each thread asks, their sites, their values, and whether each is granted
 abbrev pub input_widths : Shape → List ℕ
-input_widths shape =
-    1 ∷ (replicate shape.threads 1 ++ (replicate shape.threads 16 ++ (replicate (shape.threads * shape.values) 64 ++ replicate shape.threads 1)))
+input_widths shape = table.input_widths (table_of shape) shape.threads
 
 -- whether each may be granted
 abbrev pub output_widths : Shape → List ℕ
-output_widths shape = replicate shape.threads 1
+output_widths shape = table.output_widths (table_of shape) shape.threads
 
 -- the grants, and what follows from them
 abbrev pub is_late : Shape → ℕ → Bool
-is_late shape x =
-    is_between (grants shape.threads shape.values) (one shape.threads shape.values) x
-    || is_between (going shape.threads shape.values) (offers shape.threads shape.values (length shape.sites)) x
+is_late shape = table.is_late (table_of shape) shape.threads

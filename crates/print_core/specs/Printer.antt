@@ -1,81 +1,27 @@
 -- The printer's module: its table of rows and its $writes.
 use Rattle.std.specs.Prelude.{◌≡◌, ℕ, ◌+◌, ◌*◌, ◌^◌, ◌<◌, ◌≤◌, List, [], ◌∷◌, length, codes}
-use Rattle.verilog_tree.specs.declared.tree.BinaryOperator.TheVariants.{Equal, And}
 use Rattle.netlist.specs.declared.netlist.Action.{Action}
 use Rattle.netlist.specs.declared.netlist.Effect.TheVariants.{Write}
 use Rattle.netlist.specs.declared.netlist.Module.{Module}
-use Rattle.circuit.specs.declared.rows.Role.TheVariants as role
-use Rattle.circuit.specs.declared.rows.Operand.TheVariants.{Each, Fixed, Group}
-use Rattle.circuit.specs.declared.rows.Form.TheVariants.{Input, Constant, Count, Output, Binary, Conditional}
-use Rattle.circuit.specs.declared.rows.Row.{Row}
-use Rattle.circuit.specs.declared.rows.Row.TheVariants as row
-use Rattle.circuit.specs.Rows.{EachOf, laid}
+use Rattle.circuit.specs.declared.table.Row.{Row}
+use Rattle.circuit.specs.Rows.{EachOf}
+use Rattle.circuit.specs.Table.{place, laid}
 use Rattle.print_core.specs.declared.format.Part.{Part}
 use Rattle.print_core.specs.declared.printer.Shape.{Shape}
 use Rattle.print_core.specs.Format.{spelled, arguments_of, IsSite}
+use Rattle.print_core.specs.Rows as row
 
--- n threads, c values
-module _ (n c : ℕ) where
-  abbrev pub asks : ℕ
-  asks = 1
+-- the table of a shape
+abbrev pub table_of : Shape → List Row
+table_of s = row.rows s.values (length s.sites)
 
-  abbrev pub sites : ℕ
-  sites = asks + n
+-- where a row starts
+abbrev pub at : Shape → ℕ → ℕ
+at s k = place s.threads (table_of s) k
 
-  abbrev pub values : ℕ
-  values = sites + n
-
-  abbrev pub grants : ℕ
-  grants = values + n * c
-
-  abbrev pub one : ℕ
-  one = grants + n
-
-  abbrev pub going : ℕ
-  going = one + 1
-
-  abbrev pub site : ℕ
-  site = going + 1 + n
-
-  abbrev pub chains : ℕ
-  chains = site + 1 + n
-
-  abbrev pub results : ℕ
-  results = chains + n * c
-
-  abbrev pub numbers : ℕ
-  numbers = chains + c + n * c
-
--- s sites
-module _ (n c s : ℕ) where
-  abbrev pub equals : ℕ
-  equals = numbers n c + s
-
-  abbrev pub hits : ℕ
-  hits = equals + s
-
-  abbrev pub offers : ℕ
-  offers = hits + s
-
-  abbrev pub rows : List Row
-  rows =
-      row.One role.Clock 1 Input
-      ∷ row.Each n role.Ask 1 Input
-      ∷ row.Each n role.Site 16 Input
-      ∷ row.Each (n * c) role.Value 64 Input
-      ∷ row.Each n role.Grant 1 Input
-      ∷ row.One role.Wire 1 (Constant 1)
-      ∷ row.One role.Wire 1 (Constant 0)
-      ∷ row.Each n role.Wire 1 (Conditional (Each (grants n c)) (Fixed (one n c)) (Each (going n c)))
-      ∷ row.One role.Wire 16 (Constant 0)
-      ∷ row.Each n role.Wire 16 (Conditional (Each (grants n c)) (Each (sites n c)) (Each (site n c)))
-      ∷ row.Each c role.Wire 64 (Constant 0)
-      ∷ row.Each (n * c) role.Wire 64 (Conditional (Group (grants n c) c) (Each (values n c)) (Each (chains n c)))
-      ∷ row.Each s role.Wire 16 (Count 0)
-      ∷ row.Each s role.Wire 1 (Binary Equal (Fixed (site n c + n)) (Each (numbers n c)))
-      ∷ row.Each s role.Wire 1 (Binary And (Fixed (going n c + n)) (Each equals))
-      ∷ row.Each n role.Offer 1 (Output (Each (asks n c)))
-      ∷ []
+-- the first value of the granted thread, at the end of the chains
+abbrev pub results : Shape → ℕ
+results s = at s row.value + s.threads * s.values
 
 -- a $write under a wire, with values from a place on
 abbrev pub write : ℕ → ℕ → List Part → Action
@@ -95,7 +41,7 @@ pub record IsShape (s : Shape) : Type 0 where
 -- the module of a shape and nothing else
 pub record IsPrinter (s : Shape) (m : Module) : Type 0 where
   pub named : m.name ≡ codes "printer"
-  pub signals : m.signals ≡ laid 0 (rows s.threads s.values (length s.sites))
+  pub signals : m.signals ≡ laid s.threads (table_of s)
   pub memories : m.memories ≡ []
-  pub actions : m.actions ≡ writes_from (hits s.threads s.values (length s.sites)) (results s.threads s.values) 0 s.sites
+  pub actions : m.actions ≡ writes_from (at s row.hits) (results s) 0 s.sites
   pub instances : m.instances ≡ []

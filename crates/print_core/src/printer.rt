@@ -1,21 +1,27 @@
 // The printer's module.
 
-ghost use Rattle.std.specs.Prelude.{◌≡◌, ◌+◌, ◌*◌, ◌^◌, ◌<◌, ◌≤◌, ◌++◌, [], ◌∷◌, length, IfOk, OnOk};
-ghost use Rattle.circuit.specs.Rows.{EachOf, laid};
-ghost use Rattle.print_core.specs.Format.{IsSite};
+ghost use Rattle.std.specs.Prelude.{◌≡◌, ◌*◌, ◌^◌, ◌<◌, ◌≤◌, ◌++◌, [], ◌∷◌, IfOk, OnOk};
+ghost use Rattle.circuit.specs.Table.{laid};
 ghost use Rattle.circuit.specs.Modules.{IsLeaf};
 ghost use Rattle.circuit.specs.Interfaces.{IsTableModule};
 ghost use Rattle.circuit.specs.Machines.{IsCore};
+ghost use Rattle.print_core.specs.Format.{IsSite};
 ghost use Rattle.print_core.specs.Machine.{printer_machine, printer_places, inputs, input_widths, output_widths, is_late};
-ghost use Rattle.print_core.specs.Printer.{rows, results, hits, write, writes_from, IsShape, IsPrinter};
+ghost use Rattle.print_core.specs.Rows.{hits};
+ghost use Rattle.print_core.specs.Printer.{table_of, at, results, write, writes_from, IsShape, IsPrinter};
 
 use crate::format::{Part, arguments, string};
-use circuit::rows::{Form, Operand, Role, Row, lay};
+use circuit::rows::Role::{Ask, Clock, Grant, Offer, Site, Value, Wire};
+use circuit::table::Form::{Binary, Conditional, Constant, Count, Input, Output};
+use circuit::table::Operand::{Before, Group, Last, Only, Same};
+use circuit::table::Row::{Chain, Chains, Each, Many, One};
+use circuit::table::Size::{Fixed, PerThread};
+use circuit::table::{Row, lay, place};
 use netlist::netlist::{Action, Effect, Module, Signal};
 use sqlite_items::Items;
 use std::alloc::{AllocError, Global};
 use verilog_tree::name::Identifier;
-use verilog_tree::tree::BinaryOperator;
+use verilog_tree::tree::BinaryOperator::{And, Equal};
 
 /// The number of threads, of the values that a thread hands over with a request, and the print sites by their number.
 #[derive(Drop)]
@@ -45,7 +51,7 @@ fn table(alloc: Global, shape: &Shape) -> Result<Module, AllocError>
     requires { IsShape shape.now }
     ensures { IfOk result (IsPrinter shape.now) }
 {
-    let signals = signals(alloc, shape.threads, shape.values, shape.sites.len())?;
+    let signals = signals(alloc, shape)?;
     let actions = actions(alloc, shape)?;
     Ok(Module {
         name: Identifier::from_text(alloc, "printer")?,
@@ -59,11 +65,10 @@ fn table(alloc: Global, shape: &Shape) -> Result<Module, AllocError>
 /// One `$write` for each site, under the wire that says that it is asked for and granted.
 fn actions(alloc: Global, shape: &Shape) -> Result<Items<Action>, AllocError>
     requires { IsShape shape.now }
-    ensures { IfOk result (λ actions. actions ≡ writes_from (hits shape.now.threads shape.now.values (length shape.now.sites)) (results shape.now.threads shape.now.values) 0 shape.now.sites) }
+    ensures { IfOk result (λ actions. actions ≡ writes_from (at shape.now hits) (results shape.now) 0 shape.now.sites) }
 {
-    let count = products(shape.threads, shape.values);
-    let first = results_place(shape.threads, shape.values, count);
-    let hits = first + shape.values + 2 * shape.sites.len();
+    let hits = place(shape.threads, &rows(shape), HITS);
+    let first = results_place(shape);
     let mut actions = Items::new(alloc);
     for (site, parts) in shape.sites.as_slice().iter().enumerate() {
         push_write(alloc, &mut actions, hits + site, parts.as_slice(), first)?;
@@ -102,169 +107,72 @@ fn products(threads: usize, values: usize) -> usize
 }
 
 /// The place of the first value of the granted thread.
-fn results_place(threads: usize, values: usize, count: usize) -> usize
-    requires few { threads ≤ 64 }
-    requires few_values { values < 256 }
-    requires product { count ≡ threads * values }
-    requires small { count < 2 ^ 16 }
-    ensures place { result ≡ results threads values }
-    ensures low { result < 2 ^ 20 }
+fn results_place(shape: &Shape) -> usize
+    requires { IsShape shape.now }
+    ensures place { result ≡ results shape.now }
+    ensures low { result < 2 ^ 40 }
 {
-    let asks = 1;
-    let sites = asks + threads;
-    let values_at = sites + threads;
-    let grants = values_at + count;
-    let one = grants + threads;
-    let going = one + 1;
-    let site = going + 1 + threads;
-    let chains = site + 1 + threads;
-    chains + count
+    place(shape.threads, &rows(shape), VALUE) + products(shape.threads, shape.values)
 }
 
-/// A chain of wires hands on the site and each value of the granted thread; a site's wire is 1 where a thread is granted
-/// and asks for that site.
-fn signals(
-    alloc: Global,
-    threads: usize,
-    values: usize,
-    sites_count: usize,
-) -> Result<Items<Signal>, AllocError>
-    requires few { threads ≤ 64 }
-    requires few_values { values < 256 }
-    requires few_sites { sites_count < 2 ^ 16 }
-    ensures { IfOk result (λ signals. signals ≡ laid 0 (rows threads values sites_count)) }
+fn signals(alloc: Global, shape: &Shape) -> Result<Items<Signal>, AllocError>
+    requires { IsShape shape.now }
+    ensures { IfOk result (λ signals. signals ≡ laid shape.now.threads (table_of shape.now)) }
 {
-    let count = products(threads, values);
+    lay(alloc, shape.threads, &rows(shape))
+}
+
+// The rows that `$write`s name, by their numbers.
+const VALUE: usize = 8;
+
+const HITS: usize = 11;
+
+/// The table. Chains of wires hand on whether a thread is granted, and the site and each value of the granted thread; a site's wire is
+/// 1 where a thread is granted and asks for that site.
+fn rows(shape: &Shape) -> [Row; 13]
+    requires { IsShape shape.now }
+    ensures { result ≡ table_of shape.now }
+{
+    let count = shape.values as u16;
+    let of_sites = Fixed(shape.sites.len() as u16);
     let asks = 1;
-    let sites = asks + threads;
-    let values_at = sites + threads;
-    let grants = values_at + count;
-    let one = grants + threads;
-    let going = one + 1;
-    let site = going + 1 + threads;
-    let chains = site + 1 + threads;
-    let numbers = chains + values + count;
-    let equals = numbers + sites_count;
-    let rows = [
-        Row::One {
-            role: Role::Clock,
-            width: 1,
-            form: Form::Input,
-        },
-        Row::Each {
-            count: threads,
-            role: Role::Ask,
-            width: 1,
-            form: Form::Input,
-        },
-        Row::Each {
-            count: threads,
-            role: Role::Site,
-            width: 16,
-            form: Form::Input,
-        },
-        Row::Each {
+    let sites = 2;
+    let values = 3;
+    let grants = 4;
+    let one = 5;
+    let going = 6;
+    let site = 7;
+    let numbers = 9;
+    let equals = 10;
+    [
+        One(Clock, 1, Input),
+        Each(Ask, 1, Input),
+        Each(Site, 16, Input),
+        Many(PerThread(count), Value, 64, Input),
+        Each(Grant, 1, Input),
+        One(Wire, 1, Constant(1)),
+        Chain(
+            Wire,
+            1,
+            Constant(0),
+            Conditional(Same(grants), Only(one), Before(going)),
+        ),
+        Chain(
+            Wire,
+            16,
+            Constant(0),
+            Conditional(Same(grants), Same(sites), Before(site)),
+        ),
+        Chains(
             count,
-            role: Role::Value,
-            width: 64,
-            form: Form::Input,
-        },
-        Row::Each {
-            count: threads,
-            role: Role::Grant,
-            width: 1,
-            form: Form::Input,
-        },
-        Row::One {
-            role: Role::Wire,
-            width: 1,
-            form: Form::Constant { number: 1 },
-        },
-        Row::One {
-            role: Role::Wire,
-            width: 1,
-            form: Form::Constant { number: 0 },
-        },
-        Row::Each {
-            count: threads,
-            role: Role::Wire,
-            width: 1,
-            form: Form::Conditional {
-                condition: Operand::Each { first: grants },
-                if_true: Operand::Fixed { place: one },
-                if_false: Operand::Each { first: going },
-            },
-        },
-        Row::One {
-            role: Role::Wire,
-            width: 16,
-            form: Form::Constant { number: 0 },
-        },
-        Row::Each {
-            count: threads,
-            role: Role::Wire,
-            width: 16,
-            form: Form::Conditional {
-                condition: Operand::Each { first: grants },
-                if_true: Operand::Each { first: sites },
-                if_false: Operand::Each { first: site },
-            },
-        },
-        Row::Each {
-            count: values,
-            role: Role::Wire,
-            width: 64,
-            form: Form::Constant { number: 0 },
-        },
-        Row::Each {
-            count,
-            role: Role::Wire,
-            width: 64,
-            form: Form::Conditional {
-                condition: Operand::Group {
-                    first: grants,
-                    size: values,
-                },
-                if_true: Operand::Each { first: values_at },
-                if_false: Operand::Each { first: chains },
-            },
-        },
-        Row::Each {
-            count: sites_count,
-            role: Role::Wire,
-            width: 16,
-            form: Form::Count { first: 0 },
-        },
-        Row::Each {
-            count: sites_count,
-            role: Role::Wire,
-            width: 1,
-            form: Form::Binary {
-                operator: BinaryOperator::Equal,
-                left: Operand::Fixed {
-                    place: site + threads,
-                },
-                right: Operand::Each { first: numbers },
-            },
-        },
-        Row::Each {
-            count: sites_count,
-            role: Role::Wire,
-            width: 1,
-            form: Form::Binary {
-                operator: BinaryOperator::And,
-                left: Operand::Fixed {
-                    place: going + threads,
-                },
-                right: Operand::Each { first: equals },
-            },
-        },
-        Row::Each {
-            count: threads,
-            role: Role::Offer,
-            width: 1,
-            form: Form::Output(Operand::Each { first: asks }),
-        },
-    ];
-    lay(alloc, &rows)
+            Wire,
+            64,
+            Constant(0),
+            Conditional(Group(grants, count), Same(values), Before(VALUE)),
+        ),
+        Many(of_sites, Wire, 16, Count(0)),
+        Many(of_sites, Wire, 1, Binary(Equal, Last(site), Same(numbers))),
+        Many(of_sites, Wire, 1, Binary(And, Last(going), Same(equals))),
+        Each(Offer, 1, Output(Same(asks))),
+    ]
 }

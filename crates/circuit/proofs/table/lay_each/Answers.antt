@@ -5,13 +5,13 @@ use Rattle.circuit.specs.Table.{place, signal_at}
 use Rattle.circuit.proofs.Growth.{row_grows, length-spread}
 use Rattle.circuit.proofs.table.lay_each.Goals as goal
 
-pub loop-thread-preserved : goal.loop-thread-preserved
-loop-thread-preserved c =
+pub loop-number-preserved : goal.loop-number-preserved
+loop-number-preserved c =
     let before = c.args.signals.now in
     let starts = place c.args.threads c.args.rows.now in
     let f : ℕ → Signal = λ k. signal_at c.args.threads starts (length before + k) c.args.role c.args.width c.args.form k in
-    let n : length c.loop-thread.signals ≡ length before + c.loop-thread.thread =
-    ap length c.loop-thread.invariant ∙ length-append before (spread f 0 c.loop-thread.thread) ∙ ap (λ x. length before + x) (length-spread f 0 c.loop-thread.thread) in
-    row_grows before c.loop-thread.signals c.lay_signal.new.signals c.loop-thread.thread f c.loop-thread.invariant
+    let n : length c.loop-number.signals ≡ length before + c.loop-number.number =
+    ap length c.loop-number.invariant ∙ length-append before (spread f 0 c.loop-number.number) ∙ ap (λ x. length before + x) (length-spread f 0 c.loop-number.number) in
+    row_grows before c.loop-number.signals c.lay_signal.new.signals c.loop-number.number f c.loop-number.invariant
     (c.in_ok-lay_signal.ensures
-    ∙ ap (λ x. c.loop-thread.signals ++ signal_at c.args.threads starts x c.args.role c.args.width c.args.form c.loop-thread.thread ∷ []) n)
+    ∙ ap (λ x. c.loop-number.signals ++ signal_at c.args.threads starts x c.args.role c.args.width c.args.form c.loop-number.number ∷ []) n)

@@ -1,4 +1,4 @@
-use Rattle.std.proofs.Common.{◌≡◌, ◌+◌, ◌*◌, ◌++◌, [], ◌∷◌, List, length, slice_get, ◌≤◌, Some, sym, ap, ◌∙◌, arith}
+use Rattle.std.proofs.Common.{◌≡◌, ◌+◌, ◌++◌, [], ◌∷◌, List, length, slice_get, ◌≤◌, Some, sym, ap, ◌∙◌, arith}
 use Rattle.std.proofs.lemmas.Option.{slice_get-get_or}
 use Rattle.print_core.specs.declared.format.Part.{Part}
 use Rattle.print_core.specs.Printer.{write}
@@ -10,7 +10,7 @@ loop-site-preserved c =
     let sites = c.args.shape.now.sites in
     let i = c.loop-site.site in
     let first = c.results_place-first.result in
-    let hits = c.results_place-first.result + c.args.shape.now.values + 2 * c.len.result in
+    let hits = c.place-hits.result in
     let all : c.as_slice-parts-items.result.now ≡ sites = c.as_slice-parts-items.ensures in
     let e = slice_get-get_or c.as_slice-parts-items.result.now i _ c.loop-site-test.true ∙ ap Some (sym c.parts-item.is) in
     let at : slice_get sites i ≡ Some c.parts-item.result = sym (ap (λ (l : List (List Part)). slice_get l i) all) ∙ e in
