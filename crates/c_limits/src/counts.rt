@@ -1,14 +1,15 @@
-// The first count of a program that is above its limit.
+// What is counted of a program: the functions that threads run, its weight, and the first count that is above its limit.
 
 ghost use Rattle.std.specs.Prelude.{◌≡◌, ◌+◌, ◌++◌, IfOk, length, sum_by, map, filter, nat_lt};
 ghost use Rattle.std.specs.Option.{option_or};
 ghost use Rattle.c_program.specs.Plain.{program_of, statement_of, function_of, global_of};
 ghost use Rattle.c_program.specs.Limits.{thread_ids, mutex_elements, barrier_elements, global_elements, greatest, longest_local, longest_array, print_count, print_sites};
-ghost use Rattle.c_program.specs.Counting.{capped, number_at};
+ghost use Rattle.c_program.specs.Counting.{capped, number_at, IsTable};
+ghost use Rattle.c_program.specs.Weight.{own_weight, thread_functions, weight};
 ghost use Rattle.c_limits.specs.Counts.{length_of, over, over_objects, over_data, over_each, over_inlined, in_order, first_passed};
 
 use crate::limit::{Limit, Passed};
-use c_program::threads::thread_functions;
+use c_program::threads::{thread_functions, total};
 use c_program::tree::{
     BarrierObject, Function, GlobalVariable, MutexObject, Program, Statement, ThreadObject,
 };
@@ -226,22 +227,48 @@ fn in_order(alloc: Global, main: usize, functions: &[usize]) -> Result<Vec<usize
 }
 
 /// The first of the thread functions, in order of definition, that is above a limit with all that is inlined in it.
-fn over_inlined(alloc: Global, program: &Program) -> Result<Option<Passed>, AllocError>
+fn over_inlined(
+    alloc: Global,
+    program: &Program,
+    threads: &[usize],
+    weights: &[u32],
+) -> Result<Option<Passed>, AllocError>
+    requires threads { threads.now ≡ thread_functions (program_of program.now) }
+    requires weights { let P = program_of program.now in IsTable own_weight P.functions (length P.functions) weights.now }
     ensures { IfOk result (λ passed. passed ≡ over_inlined (program_of program.now)) }
 {
-    let threads = thread_functions(alloc, program)?;
-    let functions = in_order(alloc, program.main as usize, &threads)?;
+    let functions = in_order(alloc, program.main as usize, threads)?;
     let elements = inlined_amounts(alloc, program, Amount::LocalElements)?;
-    let weights = inlined_amounts(alloc, program, Amount::Weight)?;
     let of_elements = over_each(Limit::LocalElements, &elements, &functions);
-    Ok(first_of(of_elements, over_each(Limit::Weight, &weights, &functions)))
+    Ok(first_of(of_elements, over_each(Limit::Weight, weights, &functions)))
 }
 
-/// The first count of the program, in the order of the limits, that is above its limit. Of several thread functions
-/// that are above one, the first in order of definition is told.
-pub fn first_passed(alloc: Global, program: &Program) -> Result<Option<Passed>, AllocError>
-    ensures { IfOk result (λ passed. passed ≡ first_passed (program_of program.now)) }
+/// What is counted of a program before it is compiled.
+#[derive(Drop)]
+pub struct Measures {
+    /// The functions that threads run: main, and each start routine that a create names, in the order of their definitions.
+    pub functions: Vec<usize>,
+    /// The weight, which bounds the cycles between two steps of the program. It stops at 1,000,000.
+    pub weight: u32,
+    /// The first count, in the order of the limits, that is above its limit. Of several thread functions that are above one,
+    /// the first in order of definition is told.
+    pub first_passed: Option<Passed>,
+}
+
+/// The measures of a program. The only error is want of memory.
+pub fn measure(alloc: Global, program: &Program) -> Result<Measures, AllocError>
+    ensures functions { IfOk result (λ m. m.functions.items ≡ thread_functions (program_of program.now)) }
+    ensures weight { IfOk result (λ m. m.weight ≡ capped (weight (program_of program.now))) }
+    ensures passed { IfOk result (λ m. m.first_passed ≡ first_passed (program_of program.now)) }
 {
-    let inlined = over_inlined(alloc, program)?;
-    Ok(first_of(over_objects(program), first_of(over_data(program), inlined)))
+    let functions = thread_functions(alloc, program)?;
+    let weights = inlined_amounts(alloc, program, Amount::Weight)?;
+    let inlined = over_inlined(alloc, program, &functions, &weights)?;
+    let first_passed = first_of(over_objects(program), first_of(over_data(program), inlined));
+    let weight = total(&weights, &functions);
+    Ok(Measures {
+        functions,
+        weight,
+        first_passed,
+    })
 }

@@ -1,4 +1,4 @@
-//! The profile of C that the compiler takes: a text's program and its weight, or the first reason why it is refused.
+//! The profile of C that the compiler takes: a text's program, its thread functions and its weight, or the first reason why it is refused.
 #![tactic(auto)]
 
 pub mod law;

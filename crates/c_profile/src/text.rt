@@ -5,6 +5,7 @@ ghost use Rattle.c_token.specs.declared.token.Token as token;
 ghost use Rattle.c_lexer.specs.Texts.{LexesAs};
 ghost use Rattle.c_program.specs.Plain.{program_of};
 ghost use Rattle.c_program.specs.Tree as tree;
+ghost use Rattle.c_program.specs.Weight.{thread_functions};
 ghost use Rattle.grammar.specs.Sentences.{SentenceWithin};
 ghost use Rattle.c_tree.specs.Declarations.{unit};
 ghost use Rattle.c_profile.specs.Answers.{AcceptsOnly, RefusesOnly};
@@ -16,9 +17,8 @@ ghost use Rattle.c_accepted.specs.declared.refusal.Refusal.TheVariants as refusa
 
 use c_accepted::Refusal;
 use c_lexer::{LexFault, TextLimit};
-use c_limits::{Limit, Passed, first_passed};
+use c_limits::{Limit, Passed, measure};
 use c_parser::ParseError;
-use c_program::threads::weight;
 use c_program::tree::Program;
 use c_token::Token;
 use c_tree::TranslationUnit;
@@ -34,6 +34,8 @@ pub const MOST_BYTES: usize = 65_536;
 #[derive(Drop)]
 pub struct Accepted {
     pub program: Program,
+    /// The functions that threads run: main, and each start routine that a create names, in the order of their definitions.
+    pub functions: Vec<usize>,
     /// The weight, which bounds the cycles between two steps of the program. It stops at 1,000,000.
     pub weight: u32,
 }
@@ -105,17 +107,21 @@ fn tree_of(alloc: Global, text: &[u8]) -> Result<TranslationUnit, ProfileError>
     }
 }
 
-/// The program within the limits, with its weight.
+/// The program within the limits, with its thread functions and its weight.
 fn within(alloc: Global, program: Program) -> Result<Accepted, ProfileError>
     ensures same { IfOk result (λ a. program_of a.program ≡ program_of program) }
     ensures ok { IfOk result (λ a. IsWithin (program_of a.program) a.weight) }
+    ensures functions { IfOk result (λ a. a.functions.items ≡ thread_functions (program_of a.program)) }
     ensures refused { IfErr result (λ e. (r : refusal.Refusal) → e ≡ error.Refused r → IsPassed (program_of program) r) }
 {
-    match first_passed(alloc, &program) {
-        Ok(Some(passed)) => Err(ProfileError::Refused(Refusal::Limit(passed))),
-        Ok(None) => match weight(alloc, &program) {
-            Ok(weight) => Ok(Accepted { program, weight }),
-            Err(_) => Err(ProfileError::Memory),
+    match measure(alloc, &program) {
+        Ok(measures) => match measures.first_passed {
+            Some(passed) => Err(ProfileError::Refused(Refusal::Limit(passed))),
+            None => Ok(Accepted {
+                program,
+                functions: measures.functions,
+                weight: measures.weight,
+            }),
         },
         Err(_) => Err(ProfileError::Memory),
     }
@@ -134,9 +140,10 @@ fn answer_to(error: ResolveError) -> ProfileError
     }
 }
 
-/// The program of a text with its weight, or the first reason why it is refused.
+/// The program of a text with its thread functions and its weight, or the first reason why it is refused.
 fn program_or_refusal(alloc: Global, text: &[u8]) -> Result<Accepted, ProfileError>
     ensures ok { IfOk result (λ a. IsAccepted text.now (program_of a.program) a.weight) }
+    ensures functions { IfOk result (λ a. a.functions.items ≡ thread_functions (program_of a.program)) }
     ensures refused { IfErr result (λ e. (r : refusal.Refusal) → e ≡ error.Refused r → IsRefused text.now r) }
 {
     if text.len() > MOST_BYTES {
@@ -149,10 +156,11 @@ fn program_or_refusal(alloc: Global, text: &[u8]) -> Result<Accepted, ProfileErr
     }
 }
 
-/// The program of a text of the profile with its weight, or the first reason why the text is refused. A text that is accepted
-/// is answered only so, and so is one that is refused, but for want of memory.
+/// The program of a text of the profile with its thread functions and its weight, or the first reason why the text is refused. A
+/// text that is accepted is answered only so, and so is one that is refused, but for want of memory.
 pub fn accept(alloc: Global, text: &[u8]) -> Result<Accepted, ProfileError>
     ensures ok { IfOk result (λ a. IsAccepted text.now (program_of a.program) a.weight) }
+    ensures functions { IfOk result (λ a. a.functions.items ≡ thread_functions (program_of a.program)) }
     ensures refused { IfErr result (λ e. (r : refusal.Refusal) → e ≡ error.Refused r → IsRefused text.now r) }
     ensures accepts { (P : tree.Program) (w : ℕ) → IsAccepted text.now P w → AcceptsOnly P w result }
     ensures refuses { (r : refusal.Refusal) → IsRefused text.now r → RefusesOnly r result }

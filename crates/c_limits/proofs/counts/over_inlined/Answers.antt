@@ -4,7 +4,6 @@ use Rattle.c_limits.proofs.counts.over_inlined.Goals as goal
 
 pub returns : goal.returns
 returns c =
-    let ordered = rw c.deref.ensures.value at c.in_ok-functions.ensures in
-    let elements = rw (c.deref-2.ensures.value, c.deref-3.ensures.value) at c.over_each-of_elements.ensures in
-    let weights = rw (c.deref-4.ensures.value, c.deref-5.ensures.value) at c.over_each.ensures in
-    inlined_first (program_of c.args.program.now) _ _ _ _ _ _ _ c.in_ok-threads.ensures ordered c.in_ok-elements.ensures c.in_ok-weights.ensures elements weights c.first_of.ensures
+    let elements = rw (c.deref.ensures.value, c.deref-2.ensures.value) at c.over_each-of_elements.ensures in
+    let weights = rw c.deref-3.ensures.value at c.over_each.ensures in
+    inlined_first (program_of c.args.program.now) _ _ _ _ _ _ _ c.requires.threads c.in_ok-functions.ensures c.in_ok-elements.ensures c.requires.weights elements weights c.first_of.ensures
