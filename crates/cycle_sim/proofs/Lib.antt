@@ -21,6 +21,7 @@ pub mod Enables
 pub mod Elements
 pub mod TakenChoices
 pub mod PutNumbers
+pub mod DoneCone
 pub mod Events
 pub mod EdgeReads
 pub mod Levels

@@ -5,6 +5,7 @@ pub mod LaidOut
 pub mod Globals
 pub mod Putting
 pub mod Once
+pub mod DoneRun
 pub use Rattle.sim_layout.specs.Running
 pub use Rattle.sim_values.specs.Flat
 pub use Rattle.sim_values.specs.Order

@@ -14,25 +14,28 @@ ghost use Rattle.sim_layout.specs.Rounds.{threads_of, prefs_of};
 ghost use Rattle.verilog_meaning.specs.Names.{top_of};
 ghost use Rattle.cycle_sim.specs.Globals.{global_of, global_word, IsWord};
 ghost use Rattle.cycle_sim.specs.Lockstep.{TakesRounds, AreRounds, IsLockstep, IsCutOff};
-ghost use Rattle.sim_values.specs.Flat.{Flat, AreNarrow, all_numbers, all_words, all_written};
+ghost use Rattle.sim_values.specs.Flat.{Flat, AreNarrow, all_written};
 ghost use Rattle.sim_layout.specs.Running.{Running, Stands, running, flat, state_of, choice_of, Fits, IsSettledRun, IsSameNet, IsSameState, IsCycleOf, Prints, TellsDone, advanced};
 ghost use Rattle.sim_layout.specs.Print.{IsSomething};
+ghost use Rattle.cycle_sim.specs.DoneRun.{IsDoneRun};
 ghost use Rattle.cycle_sim.specs.Putting.{FitsAt, with_number, FitsWordAt, with_word};
 
 use crate::net::{done_number, enable_mask, pref_count, top_number};
 use global_banks::locate::{Location, locate};
 use hls_io::Bytes;
 use netlist::netlist::Module;
+use sim_events::cone::{cone, settle_cone};
+use sim_events::edge::{EdgeRow, edge_rows, pass_edge};
 use sim_events::fanout::{Fanout, fanout_of};
-use sim_events::pending::{all_pending, put, settle_again, take_over};
-use sim_events::steady::moving;
+use sim_events::operation::{Row, rows_of};
+use sim_events::pending::{Pending, all_pending, put, settle_again, take_over};
 use sim_layout::given::roots;
 use sim_layout::loops::first_loop;
 use sim_layout::order::order;
 use sim_layout::place::{Placed, place};
 use sim_layout::print::put_written;
 use sim_layout::wires::{base_at, further, module_signals, push_parts};
-use sim_values::edge::{Part, edge_numbers, edge_words, inner_spot, kind_at_root, set_word_at};
+use sim_values::edge::{Part, inner_spot, kind_at_root, set_word_at};
 use sim_values::settle::{Choice, Step};
 use sim_values::tree::tree_of;
 use sim_values::value::{Now, item_at, number_at, word_at};
@@ -42,15 +45,17 @@ use std::marker::Model;
 use thiserror::Error;
 
 /// A net at work: one word for each signal of each instance, in which each step gives one signal its number, and the
-/// words of all memories side by side. `mask` has a bit for each thread. A step that is not `pending`, and that hangs on no choice and on no
-/// memory (`moving`), holds in `numbers`; those that read or give a word stand in `fanout`.
+/// words of all memories side by side. `mask` has a bit for each thread. `rows` has each step as an operation on places, and `edge` what the
+/// clock edge does; `cone` has the steps that the output `done` hangs on. A step that is not `pending` holds in `numbers`; those that read or give a word stand in `fanout`.
 pub struct Sim<'a> {
     modules: &'a [Module],
     parts: Vec<Part>,
     steps: Vec<Step>,
+    rows: Vec<Row>,
+    edge: Vec<EdgeRow>,
+    cone: Vec<Step>,
     fanout: Fanout,
-    moving: Vec<bool>,
-    pending: Vec<bool>,
+    pending: Pending,
     numbers: Vec<u64>,
     next: Vec<u64>,
     words: Vec<u64>,
@@ -69,8 +74,10 @@ impl Drop for Sim<'_> {
             modules: _,
             parts: _,
             steps: _,
+            rows: _,
+            edge: _,
+            cone: _,
             fanout: _,
-            moving: _,
             pending: _,
             numbers: _,
             next: _,
@@ -88,7 +95,10 @@ impl<'a> Model for Sim<'a> {
     ghost use Rattle.std.specs.Prelude.{◌≡◌, ◌-◌, ◌^◌, length};
     ghost use Rattle.sim_layout.specs.Running.{Running, Stands, running};
     ghost use Rattle.sim_layout.specs.Rounds.{threads_of};
-    ghost use Rattle.sim_events.specs.Events.{IsKeeping, AreMoving};
+    ghost use Rattle.sim_events.specs.Cones.{IsCone};
+    ghost use Rattle.sim_events.specs.Edges.{edge_rows};
+    ghost use Rattle.sim_events.specs.Events.{AreFlagged, IsKeeping};
+    ghost use Rattle.sim_events.specs.Operations.{AreRows};
 
     ghost Value = { Running };
 
@@ -96,30 +106,9 @@ impl<'a> Model for Sim<'a> {
 
     ghost invariant = { λ s. Stands (running s.modules.now s.parts.items s.steps.items s.numbers.items s.words.items s.starts.items s.prefs s.done)
         × (length s.next.items ≡ length s.numbers.items) × (s.mask ≡ 2 ^ threads_of s.modules.now - 1)
-        × IsKeeping s.modules.now s.steps.items s.fanout.starts.items s.fanout.steps.items s.numbers.items s.pending.items × AreMoving s.modules.now s.steps.items s.moving.items };
-}
-
-/// What the edge leaves in settled words: the numbers in `next`, the words of memories where they stand.
-fn pass_edge(
-    modules: &[Module],
-    parts: &[Part],
-    numbers: &[u64],
-    next: &mut [u64],
-    words: &mut [u64],
-    starts: &[u64],
-)
-    requires { length next.old ≡ length numbers.now }
-    ensures next { next.new ≡ all_numbers modules.now (record { numbers = numbers.now; words = words.old; starts = starts.now }) numbers.now parts.now }
-    ensures words { words.new ≡ all_words modules.now (record { numbers = numbers.now; words = words.old; starts = starts.now }) parts.now }
-{
-    next.copy_from_slice(numbers);
-    let now = Now {
-        numbers,
-        words: &*words,
-        starts,
-    };
-    edge_numbers(modules, parts, &now, next);
-    edge_words(modules, parts, numbers, words, starts);
+        × IsKeeping s.modules.now s.steps.items s.fanout.starts.items s.fanout.steps.items s.numbers.items s.pending.steps.items
+        × AreFlagged s.pending.steps.items s.pending.blocks.items × AreRows s.modules.now s.starts.items s.steps.items s.rows.items
+        × (s.edge.items ≡ edge_rows s.modules.now s.starts.items s.parts.items) × IsCone s.modules.now s.steps.items (length s.numbers.items) s.done s.cone.items };
 }
 
 impl<'a> Sim<'a> {
@@ -131,12 +120,29 @@ impl<'a> Sim<'a> {
         settle_again(
             self.modules,
             self.steps.as_slice(),
+            self.rows.as_slice(),
             choice,
             self.numbers.as_mut_slice(),
             self.words.as_slice(),
             self.starts.as_slice(),
             &self.fanout,
-            self.moving.as_slice(),
+            &mut self.pending,
+        );
+    }
+
+    /// Gives the output `done` its number under a choice, and all that it hangs on. The state stays.
+    fn settle_done(&mut self, choice: &Choice)
+        requires { Fits self.old (choice_of choice.now) }
+        ensures { IsDoneRun (choice_of choice.now) self.old self.new }
+    {
+        settle_cone(
+            self.modules,
+            self.cone.as_slice(),
+            choice,
+            self.numbers.as_mut_slice(),
+            self.words.as_slice(),
+            self.starts.as_slice(),
+            &self.fanout,
             &mut self.pending,
         );
     }
@@ -160,12 +166,10 @@ impl<'a> Sim<'a> {
         ensures { self.new ≡ advanced self.old }
     {
         pass_edge(
-            self.modules,
-            self.parts.as_slice(),
+            self.edge.as_slice(),
             self.numbers.as_slice(),
             self.next.as_mut_slice(),
             self.words.as_mut_slice(),
-            self.starts.as_slice(),
         );
         take_over(
             &self.fanout,
@@ -198,7 +202,7 @@ impl<'a> Sim<'a> {
         ensures done { TellsDone (choice_of choice.now) self.old result }
         ensures state { IsSameState self.old self.new }
     {
-        self.settle_under(choice);
+        self.settle_done(choice);
         self.is_done()
     }
 
@@ -309,9 +313,11 @@ impl<'a> Sim<'a> {
             modules: self.modules,
             parts: self.parts.as_slice().to_vec(self.alloc)?,
             steps: self.steps.as_slice().to_vec(self.alloc)?,
+            rows: self.rows.as_slice().to_vec(self.alloc)?,
+            edge: self.edge.as_slice().to_vec(self.alloc)?,
+            cone: self.cone.as_slice().to_vec(self.alloc)?,
             fanout: self.fanout.copy(self.alloc)?,
-            moving: self.moving.as_slice().to_vec(self.alloc)?,
-            pending: self.pending.as_slice().to_vec(self.alloc)?,
+            pending: self.pending.copy(self.alloc)?,
             numbers: self.numbers.as_slice().to_vec(self.alloc)?,
             next: self.next.as_slice().to_vec(self.alloc)?,
             words: self.words.as_slice().to_vec(self.alloc)?,
@@ -508,7 +514,14 @@ impl<'a> Sim<'a> {
         let done = further(base_at(placed.parts.as_slice(), 0), number)?;
         let words = placed.numbers.len();
         let fanout = fanout_of(alloc, modules, steps.as_slice(), words)?;
-        let moving = moving(alloc, modules, steps.as_slice())?;
+        let rows = rows_of(alloc, modules, placed.starts.as_slice(), steps.as_slice())?;
+        let edge = edge_rows(
+            alloc,
+            modules,
+            placed.starts.as_slice(),
+            placed.parts.as_slice(),
+        )?;
+        let cone = cone(alloc, modules, steps.as_slice(), words, done)?;
         let pending = all_pending(alloc, steps.len())?;
         let next = vec![in alloc; 0u64; words]?;
         let Placed {
@@ -522,8 +535,10 @@ impl<'a> Sim<'a> {
             modules,
             parts,
             steps,
+            rows,
+            edge,
+            cone,
             fanout,
-            moving,
             pending,
             numbers,
             next,

@@ -2,5 +2,11 @@ pub mod Marks
 pub mod Touched
 pub mod Memoryless
 pub mod Settled
+pub mod Flags
 pub mod PendingSteps
 pub mod TakenNumbers
+pub mod OperationResults
+pub mod RowSteps
+pub mod EdgeEffects
+pub mod ConeMarks
+pub mod ConeNumbers

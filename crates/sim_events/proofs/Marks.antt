@@ -21,7 +21,7 @@ pub marking_none : (list : List ℕ) (from first : ℕ) (old : List Bool) (place
 marking_none list from first old place e =
     record { long = refl; marked = λ k j l m at n inside. absurd (omega (arith, e, l, m)); keeps = λ k is. is; before = λ k l. refl }
 
-keeps_set : (marks : List Bool) (n k : ℕ) → IsMarked marks k → IsMarked (slice_set marks n true) k
+pub keeps_set : (marks : List Bool) (n k : ℕ) → IsMarked marks k → IsMarked (slice_set marks n true) k
 keeps_set marks n k is = ⊎_elim
     (λ (e : k ≡ n). ⊎_elim
     (λ (inside : n < length marks). ap (λ z. slice_index_or (slice_set marks n true) z false) e ∙ get_or-set_same marks n true false inside)

@@ -1,5 +1,5 @@
 -- Which steps are to be taken again, and which hold whatever the choice and the memories.
-use Rattle.std.specs.Prelude.{◌≡◌, ℕ, ◌+◌, ◌<◌, ◌≤◌, ◌⊎◌, Bool, true, false, not, nat_le, List, length, Option, Some, None, slice_get, slice_index, slice_index_or, slice_set, if◌then◌else◌}
+use Rattle.std.specs.Prelude.{◌≡◌, ℕ, ◌+◌, ◌/◌, ◌<◌, ◌≤◌, ◌⊎◌, Bool, true, false, nat_le, List, length, Option, Some, None, slice_get, slice_index, slice_index_or, slice_set, if◌then◌else◌}
 use Rattle.netlist.specs.declared.netlist.Value.{Value}
 use Rattle.netlist.specs.declared.netlist.Value.TheVariants.{MemoryRead}
 use Rattle.netlist.specs.declared.netlist.Source.{Source}
@@ -12,7 +12,7 @@ use Rattle.sim_values.specs.declared.settle.Feed.{Feed}
 use Rattle.sim_values.specs.declared.settle.Feed.TheVariants.{Zero, Enables, Preferred, Copied, Computed}
 use Rattle.sim_values.specs.declared.settle.Step.{Step}
 use Rattle.sim_values.specs.Flat.{Flat, EachOf, fed}
-use Rattle.sim_values.specs.Order.{reads, InOrder, Takes}
+use Rattle.sim_values.specs.Order.{reads, InOrder, Takes, IsMarked}
 use Rattle.sim_values.specs.Stands.{IsFree}
 
 -- ---- which steps read or give a word
@@ -61,10 +61,6 @@ steady modules (Preferred k) = false
 steady modules (Copied from) = true
 steady modules (Computed k x spot) = steady_module x (slice_get modules k)
 
--- the steps that are not steady are marked
-abbrev pub AreMoving : List Module → List Step → List Bool → Type 0
-AreMoving modules steps moving = (k : ℕ) (s : Step) → slice_get steps k ≡ Some s → slice_index_or moving k false ≡ not (steady modules s.feed)
-
 -- ---- which steps hold
 
 -- the words of signals beside those of memories
@@ -84,11 +80,17 @@ abbrev pub AreKept : List Module → List Step → List ℕ → List Bool → Ty
 AreKept modules steps numbers pending =
     (k : ℕ) (s : Step) → slice_get steps k ≡ Some s → slice_index_or pending k false ≡ false → steady modules s.feed ≡ true → Holds modules numbers s
 
--- the fanout has the steps of each word, and each steady step that is not pending holds
+-- the fanout has the steps of each word, each steady step that is not pending holds, and those that are not steady are pending
 pub record IsKeeping (modules : List Module) (steps : List Step) (ends listed numbers : List ℕ) (pending : List Bool) : Type 0 where
   pub all : IsFanout modules steps (length numbers) ends listed
   pub long : length pending ≡ length steps
   pub kept : AreKept modules steps numbers pending
+  pub moving : (k : ℕ) (s : Step) → slice_get steps k ≡ Some s → steady modules s.feed ≡ false → IsMarked pending k
+
+-- a block of 16 steps of which one is pending is marked
+pub record AreFlagged (pending blocks : List Bool) : Type 0 where
+  pub room : (k : ℕ) → k < length pending → k / 16 < length blocks
+  pub flagged : (k : ℕ) → IsMarked pending k → IsMarked blocks (k / 16)
 
 -- the steps are in an order, and each gives one of so many words
 pub record AreOrdered (modules : List Module) (steps : List Step) (n : ℕ) : Type 0 where
@@ -102,4 +104,4 @@ pub record IsSettling (modules : List Module) (steps : List Step) (c : Choice) (
   pub long : length numbers ≡ length first
   pub same : (y : ℕ) → ((s : Step) → Takes steps s → s.target ≡ y → ⊥) → slice_index first y ≡ slice_index numbers y
   pub done : (k : ℕ) (s : Step) → k < i → slice_get steps k ≡ Some s → Gives modules c (flat_at numbers words starts) s
-  pub clear : (k : ℕ) → k < i → slice_index_or pending k false ≡ false
+  pub clear : (k : ℕ) (s : Step) → k < i → slice_get steps k ≡ Some s → steady modules s.feed ≡ true → slice_index_or pending k false ≡ false

@@ -1,1 +1,4 @@
 pub mod Events
+pub mod Operations
+pub mod Edges
+pub mod Cones

@@ -2,6 +2,9 @@
 //! order, and all others keep what they gave.
 #![tactic(auto)]
 
+pub mod cone;
+pub mod edge;
 pub mod fanout;
+pub mod operation;
 pub mod pending;
 pub mod steady;

@@ -1,13 +1,11 @@
 // Steps that hang on the words of signals alone: on no choice, and on no memory.
 
-ghost use Rattle.std.specs.Prelude.{◌≡◌, not, length, slice_get, IfOk};
-ghost use Rattle.sim_events.specs.Events.{steady, steady_value, steady_source, steady_module, AreMoving};
+ghost use Rattle.std.specs.Prelude.{◌≡◌, slice_get};
+ghost use Rattle.sim_events.specs.Events.{steady, steady_value, steady_source, steady_module};
 
-use crate::fanout::step_at;
 use netlist::netlist::{Module, Source, Value};
-use sim_values::settle::{Feed, Step};
+use sim_values::settle::Feed;
 use sqlite_items::at;
-use std::alloc::{AllocError, Global};
 
 fn is_steady_source(source: &Source) -> bool
     ensures { result ≡ steady_source source.now }
@@ -30,7 +28,8 @@ fn is_steady_signal(modules: &[Module], number: usize, signal: usize) -> bool
     }
 }
 
-fn is_steady(modules: &[Module], feed: Feed) -> bool
+/// Whether a feed hangs on the words of signals alone.
+pub(crate) fn is_steady(modules: &[Module], feed: Feed) -> bool
     ensures { result ≡ steady modules.now feed }
 {
     match feed {
@@ -38,16 +37,4 @@ fn is_steady(modules: &[Module], feed: Feed) -> bool
         Feed::Enables | Feed::Preferred(_) => false,
         Feed::Computed { module, signal, .. } => is_steady_signal(modules, module, signal),
     }
-}
-
-/// Of each step whether it hangs on a choice or on a memory.
-pub fn moving(alloc: Global, modules: &[Module], steps: &[Step]) -> Result<Vec<bool>, AllocError>
-    ensures moving { IfOk result (λ m. AreMoving modules.now steps.now m.items) }
-    ensures long { IfOk result (λ m. length m.items ≡ length steps.now) }
-{
-    let mut moving = Vec::with_capacity(alloc, steps.len())?;
-    for number in 0..steps.len() {
-        moving.push(!is_steady(modules, step_at(steps, number).feed))?;
-    }
-    Ok(moving)
 }

@@ -20,6 +20,7 @@ loop-place-preserved c =
             long = ap length w.put.ensures.numbers ∙ length-set numbers place c.item_at-number.result ∙ long;
             same = λ y l. ap (λ ns. slice_index ns y) w.put.ensures.numbers ∙ same_next numbers next place c.item_at-number.result (omega (arith, long)) c.item_at-number.ensures c.loop-place.invariant.same y l;
             keeping = λ modules steps is. w.put.ensures.keeping modules steps (c.loop-place.invariant.keeping modules steps is);
+            flagged = w.put.ensures.flagged;
           }))
       | else-is_other w ↦
           rw w.numbers-is
@@ -28,6 +29,7 @@ loop-place-preserved c =
             long = long;
             same = λ y l. same_still numbers next place (c.is_other.ensures w.if-is_other.false ∙ c.item_at-number.ensures) c.loop-place.invariant.same y l;
             keeping = c.loop-place.invariant.keeping;
+            flagged = c.loop-place.invariant.flagged;
           }))
     ]
 

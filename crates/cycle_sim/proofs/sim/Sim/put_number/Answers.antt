@@ -3,6 +3,7 @@ use Rattle.std.proofs.Math.ListN.{length-set}
 use Rattle.std.proofs.lemmas.List.{take_at}
 use Rattle.sim_layout.specs.Running.{Running, running, Stands}
 use Rattle.cycle_sim.specs.Putting.{FitsAt, with_number}
+use Rattle.sim_events.specs.Cones.{IsCone}
 use Rattle.cycle_sim.proofs.Events.{keeping_at}
 use Rattle.cycle_sim.proofs.PutNumbers.{put_stands}
 use Rattle.cycle_sim.proofs.sim.Sim.put_number.Goals as goal
@@ -20,10 +21,16 @@ invariant_of-self c =
     let left = take i.numbers.len (new ++ drop (length new) i.numbers.items) in
     let whole : left ≡ new = take_at new (drop (length new) i.numbers.items) i.numbers.len (omega (arith, i.numbers.ok.0)) in
     let stands : Stands (with_number r c.args.place c.args.number) = put_stands r c.self.invariant.0 c.args.place c.args.number fits in
-    let before = keeping_at r.modules r.steps r.steps i.fanout.starts.items i.fanout.steps.items i.numbers.items c.as_mut_slice.result.now i.pending.items refl c.as_mut_slice.ensures.value c.self.invariant.3 in (
+    let before = keeping_at r.modules r.steps r.steps i.fanout.starts.items i.fanout.steps.items i.numbers.items c.as_mut_slice.result.now i.pending.steps.items refl c.as_mut_slice.ensures.value c.self.invariant.3 in (
       subst (λ (ns : List ℕ). Stands (running r.modules r.parts r.steps ns r.words r.starts r.prefs r.done)) (sym (whole ∙ given)) stands,
       c.self.invariant.1 ∙ sym (ap length whole ∙ long),
       c.self.invariant.2,
-      keeping_at r.modules r.steps r.steps i.fanout.starts.items i.fanout.steps.items new left c.put.new.pending.items refl whole (c.put.ensures.keeping r.modules r.steps before),
-      c.self.invariant.4,
+      keeping_at r.modules r.steps r.steps i.fanout.starts.items i.fanout.steps.items new left c.put.new.pending.steps.items refl whole (c.put.ensures.keeping r.modules r.steps before),
+      c.put.ensures.flagged,
+      c.self.invariant.5,
+      c.self.invariant.6,
+      subst (λ n. IsCone r.modules r.steps n r.done i.cone.items) (sym (ap length whole ∙ long)) c.self.invariant.7,
     )
+
+pub put-requires : goal.put-requires
+put-requires c = c.self.invariant.4

@@ -4,7 +4,8 @@ use Rattle.verilog_meaning.specs.Cycles.{Choice}
 use Rattle.sim_values.specs.Flat.{settled}
 use Rattle.sim_layout.specs.Running.{Running, running, Stands, Fits, flat, choice_of, settled_run}
 use Rattle.cycle_sim.proofs.Cycles.{settled_stands}
-use Rattle.cycle_sim.proofs.Events.{ordered_at, moving_at, keeping_at}
+use Rattle.sim_events.specs.Cones.{IsCone}
+use Rattle.cycle_sim.proofs.Events.{ordered_at, rows_at, keeping_at}
 use Rattle.sim_values.proofs.Settles.{settled-length}
 use Rattle.cycle_sim.proofs.sim.Sim.settle_under.Goals as goal
 
@@ -14,15 +15,16 @@ settle_again-requires-clause-ordered c =
     ordered_at (running i.modules.now i.parts.items i.steps.items i.numbers.items i.words.items i.starts.items i.prefs i.done) c.as_slice.result.now c.as_mut_slice.result.now
     c.self.invariant.0 c.as_slice.ensures.value c.as_mut_slice.ensures.value
 
-pub settle_again-requires-clause-moving : goal.settle_again-requires-clause-moving
-settle_again-requires-clause-moving c =
+pub settle_again-requires-clause-rows : goal.settle_again-requires-clause-rows
+settle_again-requires-clause-rows c =
     let i = c.self.inside in
-    moving_at i.modules.now i.steps.items c.as_slice.result.now i.moving.items c.as_slice-4.result.now c.as_slice.ensures.value c.as_slice-4.ensures.value c.self.invariant.4
+    rows_at i.modules.now i.steps.items c.as_slice.result.now i.starts.items c.as_slice-4.result.now i.rows.items c.as_slice-2.result.now c.as_slice.ensures.value c.as_slice-4.ensures.value
+    c.as_slice-2.ensures.value c.self.invariant.5
 
 pub settle_again-requires-clause-keeping : goal.settle_again-requires-clause-keeping
 settle_again-requires-clause-keeping c =
     let i = c.self.inside in
-    keeping_at i.modules.now i.steps.items c.as_slice.result.now i.fanout.starts.items i.fanout.steps.items i.numbers.items c.as_mut_slice.result.now i.pending.items
+    keeping_at i.modules.now i.steps.items c.as_slice.result.now i.fanout.starts.items i.fanout.steps.items i.numbers.items c.as_mut_slice.result.now i.pending.steps.items
     c.as_slice.ensures.value c.as_mut_slice.ensures.value c.self.invariant.3
 
 pub invariant_of-self : goal.invariant_of-self
@@ -34,7 +36,7 @@ invariant_of-self c =
     let fits : Fits r choice = subst (λ (t : Running). Fits t choice) view c.requires in
     let new = c.settle_again.new.numbers in
     let given : new ≡ settled r.modules choice (flat r) r.steps =
-    (let a = c.settle_again.ensures.numbers in let b = c.as_slice.ensures.value in let d = c.as_mut_slice.ensures.value in let e = c.as_slice-2.ensures.value in let f = c.as_slice-3.ensures.value in cc) in
+    (let a = c.settle_again.ensures.numbers in let b = c.as_slice.ensures.value in let d = c.as_mut_slice.ensures.value in let e = c.as_slice-3.ensures.value in let f = c.as_slice-4.ensures.value in cc) in
     let long : length new ≡ length i.numbers.items = ap length given ∙ settled-length r.modules choice r.steps (flat r) in
     let left = take i.numbers.len (new ++ drop (length new) i.numbers.items) in
     let whole : left ≡ new = take_at new (drop (length new) i.numbers.items) i.numbers.len (omega (arith, i.numbers.ok.0)) in
@@ -42,7 +44,13 @@ invariant_of-self c =
       subst (λ (ns : List ℕ). Stands (running r.modules r.parts r.steps ns r.words r.starts r.prefs r.done)) (sym (whole ∙ given)) stands,
       c.self.invariant.1 ∙ sym (ap length whole ∙ long),
       c.self.invariant.2,
-      keeping_at r.modules c.as_slice.result.now i.steps.items i.fanout.starts.items i.fanout.steps.items new left c.settle_again.new.pending.items (sym c.as_slice.ensures.value) whole
+      keeping_at r.modules c.as_slice.result.now i.steps.items i.fanout.starts.items i.fanout.steps.items new left c.settle_again.new.pending.steps.items (sym c.as_slice.ensures.value) whole
           c.settle_again.ensures.keeping,
-      c.self.invariant.4,
+      c.settle_again.ensures.flagged,
+      c.self.invariant.5,
+      c.self.invariant.6,
+      subst (λ n. IsCone r.modules r.steps n r.done i.cone.items) (sym (ap length whole ∙ long)) c.self.invariant.7,
     )
+
+pub settle_again-requires-clause-flagged : goal.settle_again-requires-clause-flagged
+settle_again-requires-clause-flagged c = c.self.invariant.4
