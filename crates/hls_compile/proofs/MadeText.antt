@@ -9,9 +9,8 @@ use Rattle.lists.proofs.Places.{get_there, get_front, get_mapped}
 use Rattle.hls_ints.specs.Residues.{bit_of}
 use Rattle.c_program.specs.Tree.{Program}
 use Rattle.c_program.specs.Resolved.{IsResolved}
-use Rattle.c_program.specs.Weight.{thread_count, thread_functions, hardware_routines}
+use Rattle.c_program.specs.Weight.{thread_functions, hardware_routines}
 use Rattle.c_limits.specs.Counts.{first_passed}
-use Rattle.c_limits.proofs.Within.{within_limits}
 use Rattle.bank_partition.specs.declared.banks.Banks.{Banks}
 use Rattle.bank_partition.specs.declared.banks.Spread.{Spread}
 use Rattle.block_refine.specs.Routines.{RoutineCode}
@@ -34,10 +33,7 @@ use Rattle.program_bodies.proofs.Served.{codes_are_served}
 use Rattle.hls_compile.specs.Banks.{AreBanksOf}
 use Rattle.hls_compile.specs.Plans.{RunsPlanned, RunPlanned}
 use Rattle.program_bodies.proofs.FirstNamed.{first_named}
-
--- a program within the limits has few threads
-pub few_threads : (P : Program) → first_passed P ≡ None → thread_count P ≤ 64
-few_threads P limits = let ids = (within_limits P limits).threads in omega (arith, ids)
+use Rattle.program_cores.proofs.Cores.{few_threads}
 
 -- the code of a planned function stands at its place
 code_there : (plans : List PlannedFunction) (k : ℕ) (p : PlannedFunction) → slice_get plans k ≡ Some p → code_at (map routine_of plans) k ≡ routine_of p

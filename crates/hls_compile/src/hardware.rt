@@ -4,14 +4,13 @@ ghost use Rattle.std.specs.Prelude.{◌≡◌, None, IfOk};
 ghost use Rattle.c_limits.specs.Counts.{first_passed};
 ghost use Rattle.c_program.specs.Plain.{program_of};
 ghost use Rattle.c_program.specs.Resolved.{IsResolved};
+ghost use Rattle.c_program.specs.Weight.{thread_functions};
 ghost use Rattle.program_bodies.specs.Parts.{IsGoodText};
 ghost use Rattle.program_bodies.specs.Plans.{ArePlanned};
-ghost use Rattle.program_modules.specs.Numbers.{module_numbers};
 ghost use Rattle.hls_compile.specs.Banks.{AreBanksOf};
 ghost use Rattle.hls_compile.specs.Plans.{RunPlanned};
 
 use bank_partition::banks::{Banks, partition};
-use c_program::threads::thread_functions;
 use c_program::tree::Program;
 use global_naming::naming::naming_threads;
 use net_emitter::{Written, verilog};
@@ -32,22 +31,16 @@ fn banks(alloc: Global, program: &Program) -> Result<Banks, AllocError>
     Ok(banks)
 }
 
-/// For each hardware thread the number of its module.
-fn numbers(alloc: Global, program: &Program) -> Result<Items<usize>, AllocError>
-    ensures { IfOk result (λ numbers. numbers ≡ module_numbers (program_of program.now)) }
-{
-    let functions = thread_functions(alloc, program)?;
-    module_numbers(alloc, program, functions.as_slice())
-}
-
-/// The net of a resolved program within the limits, by the plans of its thread functions, and its Verilog.
+/// The net of a resolved program within the limits, by its thread functions and the plans of these, and its Verilog.
 pub fn written(
     alloc: Global,
     program: &Program,
+    functions: &[usize],
     plans: &[PlannedFunction],
 ) -> Result<Written, AllocError>
     requires resolved { IsResolved (program_of program.now) }
     requires limits { first_passed (program_of program.now) ≡ None }
+    requires threads { functions.now ≡ thread_functions (program_of program.now) }
     requires planned { ArePlanned (program_of program.now) plans.now }
     ensures good { IfOk result (λ w. IsGoodText (program_of program.now) w.net w.text) }
     ensures run { IfOk result (λ w. RunPlanned (program_of program.now) w.net plans.now) }
@@ -55,6 +48,6 @@ pub fn written(
     let banks = banks(alloc, program)?;
     let wanted = wanted(alloc, program, &banks)?;
     let modules = modules(alloc, program, banks.spreads.as_slice(), &wanted, plans)?;
-    let numbers = numbers(alloc, program)?;
+    let numbers = module_numbers(alloc, program, functions)?;
     verilog(alloc, numbers, modules, &wanted)
 }

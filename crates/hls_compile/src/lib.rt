@@ -24,6 +24,7 @@ ghost use Rattle.std.specs.Prelude.{◌≡◌, None, IfOk, IfErr};
 ghost use Rattle.c_limits.specs.Counts.{first_passed};
 ghost use Rattle.c_program.specs.Plain.{program_of};
 ghost use Rattle.c_program.specs.Resolved.{IsResolved};
+ghost use Rattle.c_program.specs.Weight.{thread_functions};
 ghost use Rattle.c_accepted.specs.declared.refusal.Refusal as refusal;
 ghost use Rattle.c_accepted.specs.Profile.{IsAccepted, IsRefused};
 ghost use Rattle.hls_compile.specs.Compiled.{IsCompiled};
@@ -79,6 +80,7 @@ fn program_in(alloc: Global, text: &[u8]) -> Result<Accepted, CompileError>
     ensures refused { IfErr result (λ e. (r : refusal.Refusal) → e ≡ error.Refused r → IsRefused text.now r) }
     ensures resolved { IfOk result (λ a. IsResolved (program_of a.program)) }
     ensures limits { IfOk result (λ a. first_passed (program_of a.program) ≡ None) }
+    ensures functions { IfOk result (λ a. a.functions.items ≡ thread_functions (program_of a.program)) }
 {
     match accept(alloc, text) {
         Ok(accepted) => Ok(accepted),
@@ -99,8 +101,20 @@ pub fn compile<R: Threads + Sync>(
     ensures refused { IfErr result (λ e. (r : refusal.Refusal) → e ≡ error.Refused r → IsRefused text.now r) }
 {
     let accepted = program_in(alloc, text)?;
-    let plans = plan_functions(rt, alloc, &accepted.program, jobs)?;
-    let written = hardware::written(alloc, &accepted.program, plans.as_slice())?;
+    let plans = plan_functions(
+        rt,
+        alloc,
+        &accepted.program,
+        &accepted.functions,
+        accepted.weight,
+        jobs,
+    )?;
+    let written = hardware::written(
+        alloc,
+        &accepted.program,
+        &accepted.functions,
+        plans.as_slice(),
+    )?;
     Ok(Compiled {
         text: written.text,
         net: written.net,

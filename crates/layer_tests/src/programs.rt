@@ -73,7 +73,14 @@ fn are_planned(planned: &[PlannedFunction], rows: &[Row]) -> bool {
 /// Whether so many threads plan the functions as they are in the table.
 fn plans_all<R: Threads + Sync>(rt: &R, alloc: Global, jobs: u32) -> Result<bool, Fail> {
     let accepted = accept(alloc, text().as_bytes())?;
-    let planned = plan_functions(rt, alloc, &accepted.program, jobs)?;
+    let planned = plan_functions(
+        rt,
+        alloc,
+        &accepted.program,
+        &accepted.functions,
+        accepted.weight,
+        jobs,
+    )?;
     Ok(are_planned(planned.as_slice(), rows()))
 }
 

@@ -11,7 +11,6 @@ ghost use Rattle.code_merge.specs.Maximal.{IsMaximal};
 ghost use Rattle.program_plans.specs.Steps.{AreCodes};
 
 use block_ir::code::ThreadCode;
-use c_program::threads::weight;
 use c_program::tree::Program;
 use code_blocks::fault::LoweringFault;
 use code_merge::{drop_empty, merge};
@@ -54,18 +53,19 @@ fn code(
     drop_empty(alloc, merged)
 }
 
-/// The codes of a program's thread functions, in their order, with maximal blocks.
+/// The codes of the thread functions of a program of this weight, in their order, with maximal blocks.
 pub fn codes(
     alloc: Global,
     program: &Program,
     functions: &[usize],
+    weight: u32,
 ) -> Result<Items<ThreadCode>, AllocError>
     requires resolved { IsResolved (program_of program.now) }
     requires limits { first_passed (program_of program.now) ≡ None }
     requires threads { functions.now ≡ thread_functions (program_of program.now) }
+    requires weight { weight ≡ capped (weight_of (program_of program.now)) }
     ensures { IfOk result (AreCodes (program_of program.now) functions.now) }
 {
-    let weight = weight(alloc, program)?;
     let mut codes = Items::new(alloc);
     for function in functions {
         let code = code(alloc, program, *function, weight)?;

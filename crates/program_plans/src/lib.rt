@@ -7,15 +7,16 @@ mod planned;
 
 ghost use Rattle.std.specs.Prelude.{◌≡◌, None, IfOk};
 ghost use Rattle.c_limits.specs.Counts.{first_passed};
+ghost use Rattle.c_program.specs.Counting.{capped};
 ghost use Rattle.c_program.specs.Plain.{program_of};
 ghost use Rattle.c_program.specs.Resolved.{IsResolved};
+ghost use Rattle.c_program.specs.Weight.{thread_functions, weight as weight_of};
 ghost use Rattle.program_plans.specs.Plans.{ArePlanned};
 
 use crate::codes::codes;
 use crate::planned::planned;
 use block_ir::code::ThreadCode;
 use block_ir::plan::Planned;
-use c_program::threads::thread_functions;
 use c_program::tree::Program;
 use fsm_plan::plan_all;
 use sqlite_items::Items;
@@ -32,21 +33,24 @@ pub struct PlannedFunction {
     pub plan: Planned,
 }
 
-/// Main and each start routine that a create names, in the order of their definitions, with their codes and the plans of these.
-/// At most `jobs` threads make the plans, that of the caller among them; they are the same for each number. The only error is
-/// want of memory.
+/// The functions that threads run, in the order that is given, with their codes and the plans of these, for a program of this
+/// weight. At most `jobs` threads make the plans, that of the caller among them; they are the same for each number. The only
+/// error is want of memory.
 pub fn plan_functions<R: Threads + Sync>(
     rt: &R,
     alloc: Global,
     program: &Program,
+    functions: &[usize],
+    weight: u32,
     jobs: u32,
 ) -> Result<Items<PlannedFunction>, AllocError>
     requires resolved { IsResolved (program_of program.now) }
     requires limits { first_passed (program_of program.now) ≡ None }
+    requires threads { functions.now ≡ thread_functions (program_of program.now) }
+    requires weight { weight ≡ capped (weight_of (program_of program.now)) }
     ensures { IfOk result (ArePlanned (program_of program.now)) }
 {
-    let functions = thread_functions(alloc, program)?;
-    let codes = codes(alloc, program, &functions)?;
+    let codes = codes(alloc, program, functions, weight)?;
     let plans = plan_all(rt, alloc, codes.as_slice(), jobs)?;
-    planned(alloc, program, &functions, codes, plans)
+    planned(alloc, program, functions, codes, plans)
 }

@@ -1,16 +1,23 @@
-use Rattle.std.proofs.Common.{subst, sym}
+use Rattle.std.proofs.Common.{subst, sym, ◌∙◌}
 use Rattle.c_program.specs.Plain.{program_of}
 use Rattle.program_bodies.specs.Plans.{ArePlanned}
 use Rattle.hls_compile.specs.Plans.{RunPlanned}
-use Rattle.hls_compile.proofs.MadeText.{few_threads}
+use Rattle.program_cores.proofs.Cores.{few_threads}
 use Rattle.hls_compile.proofs.compile.Goals as goal
 
 pub written-requires : goal.written-requires
 written-requires g c = record {
   resolved = c.in_ok-accepted.ensures.resolved;
   limits = c.in_ok-accepted.ensures.limits;
+  threads = c.deref-2.ensures.value ∙ c.in_ok-accepted.ensures.functions;
   planned = subst (ArePlanned (program_of c.in_ok-accepted.accepted.program)) (sym c.as_slice.ensures) c.in_ok-plans.ensures;
 }
+
+pub plan_functions-requires-clause-threads : goal.plan_functions-requires-clause-threads
+plan_functions-requires-clause-threads g c κs within = c.deref.ensures.value ∙ c.in_ok-accepted.ensures.functions
+
+pub plan_functions-requires-clause-weight : goal.plan_functions-requires-clause-weight
+plan_functions-requires-clause-weight g c κs within = c.in_ok-accepted.ensures.ok.within.weighs
 
 pub returns-clause-ok : goal.returns-clause-ok
 returns-clause-ok g c = record {

@@ -2,7 +2,7 @@ use Rattle.std.proofs.Common.{ℕ, List, arith, subst}
 use Rattle.c_program.specs.Plain.{program_of}
 use Rattle.c_limits.proofs.Within.{within_limits}
 use Rattle.bank_partition.specs.Partition.{IsPartition}
-use Rattle.hls_compile.proofs.MadeText.{few_threads}
+use Rattle.program_cores.proofs.Cores.{few_threads}
 use Rattle.hls_compile.proofs.hardware.banks.Goals as goal
 
 pub naming_threads-requires : goal.naming_threads-requires

@@ -14,6 +14,9 @@ wanted-requires c = record {
   parted = (c.in_ok-banks.ensures.counts, c.in_ok-banks.ensures.parted);
 }
 
+pub module_numbers-requires : goal.module_numbers-requires
+module_numbers-requires c = c.requires.threads
+
 pub modules-requires : goal.modules-requires
 modules-requires c = record {
   resolved = c.requires.resolved;

@@ -17,7 +17,7 @@ pub code-requires-clause-limits : goal.code-requires-clause-limits
 code-requires-clause-limits c = c.requires.limits
 
 pub code-requires-clause-weight : goal.code-requires-clause-weight
-code-requires-clause-weight c = c.in_ok-weight.ensures
+code-requires-clause-weight c = c.requires.weight
 
 pub code-requires-clause-runs : goal.code-requires-clause-runs
 code-requires-clause-runs c =
@@ -31,7 +31,7 @@ loop-function-preserved c =
     c.loop-function-test.true c.loop-function.invariant
     (record {
       code = c.in_ok-code.ensures.code;
-      maximal = subst (λ (w : ℕ). IsMaximal (4 * w) c.in_ok-code.code) c.in_ok-weight.ensures c.in_ok-code.ensures.maximal;
+      maximal = subst (λ (w : ℕ). IsMaximal (4 * w) c.in_ok-code.code) c.requires.weight c.in_ok-code.ensures.maximal;
     })
     c.in_ok-push.ensures.ok
 
