@@ -18,7 +18,7 @@ use Rattle.net_rules.proofs.Same.{turned}
 abbrev none_in : Names → Names → Bool
 none_in known xs = rule.all_right (λ x. not (is_known known x)) xs
 
-known_pushed : (known : Names) (x y : Name) → is_known (known ++ x ∷ []) y ≡ (is_known known y || bytes_eq y x)
+pub known_pushed : (known : Names) (x y : Name) → is_known (known ++ x ∷ []) y ≡ (is_known known y || bytes_eq y x)
 known_pushed [] x y = or-false (bytes_eq y x)
 known_pushed (k ∷ known) x y = ap (λ b. bytes_eq y k || b) (known_pushed known x y) ∙ or_assoc (bytes_eq y k) (is_known known y) (bytes_eq y x) where
   or_assoc : (a b c : Bool) → (a || (b || c)) ≡ ((a || b) || c)
@@ -61,7 +61,7 @@ known_once : (known : Names) (x y : Name) (b : Bool) → is_known known x ≡ tr
 known_once known x y true h e = let there : is_known known y ≡ true = ap (is_known known) ((bytes_eq-Decides y x).0 e) ∙ h in there ∙ sym (ap (λ b. b || true) there)
 known_once known x y false h e = sym (or-false (is_known known y))
 
-known_with_at : (known : Names) (x y : Name) (b : Bool) → is_known known x ≡ b → is_known (if b then known else known ++ x ∷ []) y ≡ (is_known known y || bytes_eq y x)
+pub known_with_at : (known : Names) (x y : Name) (b : Bool) → is_known known x ≡ b → is_known (if b then known else known ++ x ∷ []) y ≡ (is_known known y || bytes_eq y x)
 known_with_at known x y true h = known_once known x y (bytes_eq y x) h refl
 known_with_at known x y false h = known_pushed known x y
 

@@ -6,29 +6,19 @@ use Rattle.std.proofs.Common.{refl, sym, ap, ◌∙◌, get_or, add-one, below_m
 use Rattle.std.proofs.lemmas.Bool.{ltb-true, ltb-false, false_from_ne_true, not-false, not-true}
 use Rattle.std.proofs.lemmas.Slice.Eq.{bytes_eq-Decides}
 use Rattle.std.proofs.lemmas.List.{drop_more}
-use Rattle.std.proofs.Math.Bool.{or_assoc, or-true, or-false}
+use Rattle.std.proofs.Math.Bool.{or_assoc, or-false}
 use Rattle.verilog_tree.specs.declared.tree.Port.{Port}
 use Rattle.verilog_tree.specs.Scope.{Name, Names, is_known}
 use Rattle.verilog_tree.specs.Facts.{with_name}
 use Rattle.verilog_tree.specs.Rules.{port_named, has_port}
 use Rattle.verilog_reader.specs.Top.{pref}
 use Rattle.verilog_reader.specs.Ports.{prefs_below, AllKnown, ArePrefs}
+use Rattle.net_check.proofs.Distinct.{known_pushed, known_with_at}
 
 -- ---- one name more at the end
 
-pub known_pushed : (names : Names) (x y : Name) → is_known (names ++ x ∷ []) y ≡ (is_known names y || bytes_eq y x)
-known_pushed [] x y = or-false (bytes_eq y x)
-known_pushed (z ∷ names) x y = ap (λ b. bytes_eq y z || b) (known_pushed names x y) ∙ sym (or_assoc (bytes_eq y z) (is_known names y) (bytes_eq y x))
-
-known_with : (names : Names) (x y : Name) (b : Bool) → is_known names x ≡ b → is_known (if b then names else names ++ x ∷ []) y ≡ (is_known names y || bytes_eq y x)
-known_with names x y false e = known_pushed names x y
-known_with names x y true e = by (bytes_eq y x) refl where
-  by : (v : Bool) → bytes_eq y x ≡ v → is_known names y ≡ (is_known names y || v)
-  by false k = sym (or-false (is_known names y))
-  by true k = ap (is_known names) ((bytes_eq-Decides y x).0 k) ∙ e ∙ sym (or-true (is_known names y))
-
 known_more : (names : Names) (x y : Name) → is_known (with_name names x) y ≡ (is_known names y || bytes_eq y x)
-known_more names x y = known_with names x y (is_known names x) refl
+known_more names x y = known_with_at names x y (is_known names x) refl
 
 known_take : (xs : Names) (k : ℕ) (x y : Name) → x ≡ get_or xs k x → k < length xs → is_known (take (suc k) xs) y ≡ (is_known (take k xs) y || bytes_eq y x)
 known_take [] k x y e lt = absurd (omega arith)

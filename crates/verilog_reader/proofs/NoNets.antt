@@ -25,12 +25,7 @@ use Rattle.verilog_reader.specs.declared.read.Place.{Place}
 use Rattle.verilog_reader.specs.declared.read.Place.TheVariants as place
 use Rattle.verilog_reader.specs.Faults.{IsTopAt, IsRunnable, IsSimulated, IsWrong, Broken, Unwanted, IsFirstWrong, NoneWrong}
 use Rattle.verilog_reader.specs.Answers.{port_before, stands_before, IsBroken, or_unwanted, earlier, lacks_port, IsLacking, IsFaultAt, IsFaultOf}
-
-at_least : (a b : ℕ) → (b < a → ⊥) → a ≤ b
-at_least a b h = by (nat_lt b a) refl where
-  by : (v : Bool) → nat_lt b a ≡ v → a ≤ b
-  by true e = absurd (h (ltb-true b a e))
-  by false e = ltb-false b a e
+use Rattle.verilog_reader.proofs.Names.{at_least}
 
 -- a port that a `top` may not have stands at the first of them or behind it
 record IsBehind (at : ℕ × ℕ) (j i : ℕ) : Type 0 where
