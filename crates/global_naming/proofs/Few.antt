@@ -5,7 +5,8 @@ use Rattle.std.proofs.Common.{ℕ, ◌+◌, ◌≤◌, List, [], ◌∷◌, leng
 use Rattle.c_program.specs.Tree.{Program}
 use Rattle.c_program.specs.Weight.{hardware_routines}
 use Rattle.c_program.proofs.Runners.{routines_count}
-use Rattle.global_naming.specs.Naming.{one_if, names_global, runner_names, NoMoreThanThreads}
+use Rattle.global_naming.specs.Naming.{names_global, runner_names, NoMoreThanThreads}
+use Rattle.bank_partition.specs.Counts.{one_if}
 
 at_most_one : (b : Bool) → one_if b ≤ 1
 at_most_one true = omega arith

@@ -16,11 +16,12 @@ use Rattle.c_program.specs.Counting.{capped}
 use Rattle.c_program.specs.Weight.{inlined, thread_count}
 use Rattle.c_call_graph.specs.Graphs.{has}
 use Rattle.c_call_graph.specs.Reaching.{IsReach}
-use Rattle.global_naming.specs.Naming.{one_if, mentions, names_global, runner_names, naming_threads, AreCounts}
+use Rattle.global_naming.specs.Naming.{mentions, names_global, runner_names, naming_threads, AreCounts}
 use Rattle.global_naming.specs.Tables.{Running, IsCounted, share, sum_of, running, runners_by, object_runners, calls_from, named_to, all_runners}
 use Rattle.global_naming.proofs.Amounts.{positive_inside, found, positive}
 use Rattle.global_naming.proofs.Few.{no_more_than_threads}
 use Rattle.global_naming.proofs.Named.{named_by, is_named}
+use Rattle.bank_partition.specs.Counts.{one_if}
 
 at_most : (n : ℕ) → n ≤ 1000000 → capped n ≡ n
 at_most n le = omega (arith, le)

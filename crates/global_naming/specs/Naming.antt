@@ -1,14 +1,12 @@
 -- How many hardware threads name a global: those whose function does, or one that it calls, or one that that calls, and so on. A name counts also
 -- in a statement that is never reached; what a thread creates counts for the thread that is created alone.
-use Rattle.std.specs.Prelude.{◌≡◌, ◌<◌, ◌≤◌, ℕ, Bool, nat_eq, nat_lt, if◌then◌else◌, List, [], ◌∷◌, ◌++◌, length, filter, sum_by, Option, Some, None, slice_get}
+use Rattle.std.specs.Prelude.{◌≡◌, ◌<◌, ◌≤◌, ℕ, Bool, nat_eq, nat_lt, List, [], ◌∷◌, ◌++◌, length, filter, sum_by, Option, Some, None, slice_get}
 use Rattle.std.specs.List.{flat_map}
 use Rattle.c_program.specs.declared.tree.Storage.{Storage}
 use Rattle.c_program.specs.declared.tree.Storage.TheVariants.{Automatic, Static}
 use Rattle.c_program.specs.Tree.{Expression, Place, Condition, RightSide, ObjectPlace, ThreadCall, Statement, Function, Program}
 use Rattle.c_program.specs.Weight.{inlined, thread_count, hardware_routines}
-
-abbrev pub one_if : Bool → ℕ
-one_if b = if b then 1 else 0
+use Rattle.bank_partition.specs.Counts.{one_if}
 
 -- the globals that each names, once for each time, in the order of the text
 
