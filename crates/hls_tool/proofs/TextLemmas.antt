@@ -2,7 +2,7 @@
 use Rattle.std.proofs.Common.{◌≡◌, ℕ, zero, suc, ◌+◌, ◌<◌, true, false, List, length}
 use Rattle.std.proofs.Common.{drop, take, Option, Some, refl, sym, subst, ap, ◌∙◌, inl, inr, ⊎_elim, arith}
 use Rattle.std.specs.Prelude.{◌⊎◌}
-use Rattle.std.proofs.lemmas.Bool.{both_ways}
+use Rattle.std.proofs.lemmas.Bool.{both_ways, cases_order, cases_lt}
 use Rattle.lists.proofs.Places.{length_more}
 use Rattle.journal_text.specs.declared.entry.Entry.{Entry}
 use Rattle.journal_text.specs.Lines.{begins, line_long, Led}
@@ -19,10 +19,7 @@ abbrev AreMarked : List ℕ → ℕ → Type 0
 AreMarked text n = (k : ℕ) → k < n → begins (drop (place text k) text) ≡ true
 
 below_or_same : (k n : ℕ) → k < suc n → (k < n) ⊎ (k ≡ n)
-below_or_same zero zero l = inr refl
-below_or_same zero (suc n) l = inl (omega arith)
-below_or_same (suc k) zero l = absurd (omega (arith, l))
-below_or_same (suc k) (suc n) l = ⊎_elim (λ less. inl (omega (arith, less))) (λ same. inr (ap suc same)) (below_or_same k n (omega (arith, l)))
+below_or_same k n l = ⊎_elim (λ less. inl less) (λ back. inr (omega (arith, l, back))) (cases_lt k n)
 
 led_place : (text : List ℕ) (n : ℕ) (lines : List (List ℕ)) → Led text n lines → (n ≡ place text (length lines)) × AreMarked text (length lines)
 led_place text _ _ Led.start = (refl, λ k l. absurd (omega (arith, l)))
@@ -35,13 +32,6 @@ led_place text _ _ (Led.more {n} {lines} led marked) =
           (below_or_same k (length lines) (subst (λ (x : ℕ). k < x) long l)),
     )
 
-either_way : (n m : ℕ) → (n < m) ⊎ ((m < n) ⊎ (n ≡ m))
-either_way zero zero = inr (inr refl)
-either_way zero (suc m) = inl (omega arith)
-either_way (suc n) zero = inr (inl (omega arith))
-either_way (suc n) (suc m) =
-    ⊎_elim (λ a. inl (omega (arith, a))) (λ b. inr (⊎_elim (λ c. inl (omega (arith, c))) (λ d. inr (ap suc d)) b)) (either_way n m)
-
 -- no line begins so where the other reading ends
 never_past : (text : List ℕ) (n m rest : ℕ) → rest ≡ place text n → begins (drop rest text) ≡ false → AreMarked text m → n < m → ⊥
 never_past text n m rest e ends marked l = both_ways (begins (drop (place text n) text)) (subst (λ (x : ℕ). begins (drop x text) ≡ false) e ends) (marked n l)
@@ -50,9 +40,10 @@ pub one_rest : (text : List ℕ) (first second : List Entry) (a b : Option ℕ) 
 one_rest text first second a b n m x y =
     let p = led_place text n x.lines x.led in
     let q = led_place text m y.lines y.led in
-    ⊎_elim (λ less. absurd (never_past text (length x.lines) (length y.lines) n p.0 x.ends q.1 less))
-    (λ more. ⊎_elim (λ less. absurd (never_past text (length y.lines) (length x.lines) m q.0 y.ends p.1 less)) (λ same. p.0 ∙ ap (place text) same ∙ sym q.0) more)
-    (either_way (length x.lines) (length y.lines))
+    ⊎_elim (λ same. p.0 ∙ ap (place text) same ∙ sym q.0)
+    (λ other. ⊎_elim (λ less. absurd (never_past text (length x.lines) (length y.lines) n p.0 x.ends q.1 less))
+    (λ more. absurd (never_past text (length y.lines) (length x.lines) m q.0 y.ends p.1 more)) other)
+    (cases_order (length x.lines) (length y.lines))
 
 pub one_text : (whole : List ℕ) (first second : List Entry) (a b : Option ℕ) (text other : List ℕ) → GaveJournal (Some whole) first a text → GaveJournal (Some whole) second b other → text ≡ other
 one_text whole first second a b text other x y =
