@@ -53,7 +53,7 @@ first_named (y ∷ ys) name (suc i) x e q h =
     ∙ ap suc (first_named ys name i x e q (λ j z g l. h (suc j) z g (omega arith)))
 
 -- names that begin differently
-first_differs : (x y : List ℕ) (a b : ℕ) → get_or x 0 0 ≡ a → get_or y 0 0 ≡ b → (a ≡ b → ⊥) → x ≡ y → ⊥
+pub first_differs : (x y : List ℕ) (a b : ℕ) → get_or x 0 0 ≡ a → get_or y 0 0 ≡ b → (a ≡ b → ⊥) → x ≡ y → ⊥
 first_differs x y a b e f h g = h (sym e ∙ ap (λ z. get_or z 0 0) g ∙ f)
 
 module _ (layout : Layout) (modules : List Module) (n : Netlist) (w : IsWired modules layout n) (small : IsSmall layout) where

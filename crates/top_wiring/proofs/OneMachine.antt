@@ -1,5 +1,5 @@
 -- The net is one machine.
-use Rattle.std.proofs.Common.{◌≡◌, ℕ, ◌+◌, ◌≤◌, List, [], ◌∷◌, length, get_or, Some, refl, sym, ap, ◌∙◌, subst, arith}
+use Rattle.std.proofs.Common.{◌≡◌, ℕ, ◌+◌, ◌≤◌, List, [], ◌∷◌, length, Some, refl, sym, ap, ◌∙◌, subst, arith}
 use Rattle.std.specs.Prelude.{slice_get, codes, option_and_then}
 use Rattle.std.proofs.lemmas.Option.{same_Some, none-some}
 use Rattle.lists.proofs.Places.{get_there}
@@ -30,10 +30,7 @@ use Rattle.top_wiring.proofs.SignalKinds as signals
 use Rattle.top_wiring.proofs.SignalKinds.SignalKind.{clock, mask, chosen, wire, done}
 use Rattle.top_wiring.proofs.TopPlaces as standing
 use Rattle.top_wiring.proofs.WiredNet.{is_net, module_there, first_is}
-
--- names that begin differently
-first_differs : (x y : List ℕ) (a b : ℕ) → get_or x 0 0 ≡ a → get_or y 0 0 ≡ b → (a ≡ b → ⊥) → x ≡ y → ⊥
-first_differs x y a b e f h g = h (sym e ∙ ap (λ z. get_or z 0 0) g ∙ f)
+use Rattle.top_wiring.proofs.FoundParts.{first_differs}
 
 module _ (layout : Layout) (modules : List Module) (n : Netlist) (w : IsWired modules layout n) where
   abbrev T : ℕ
