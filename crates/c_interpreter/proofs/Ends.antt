@@ -1,9 +1,10 @@
 -- A list has one end of its walk, and one output.
 use Rattle.std.proofs.Common.{◌≡◌, ℕ, zero, suc, ◌+◌, ◌<◌, ◌≤◌, Bool, true, false, List, [], ◌∷◌, ◌++◌, refl, ap, sym, subst, ◌∙◌}
-use Rattle.std.proofs.Common.{length, take, drop, get_or, arith, Some, inl, inr, ◌⊎◌}
+use Rattle.std.proofs.Common.{length, take, drop, get_or, arith, Some, inl, inr}
 use Rattle.std.proofs.Math.Seq.{take-suc}
 use Rattle.std.proofs.lemmas.List.{take-take, take-append-drop}
 use Rattle.std.proofs.lemmas.Option.{slice_get_within, get_or_from_slice_get, slice_get-get_or}
+use Rattle.std.proofs.lemmas.Bool.{cases_order}
 use Rattle.std.specs.Prelude.{slice_get}
 use Rattle.c_program.specs.Tree.{Program}
 use Rattle.thread_semantics.specs.declared.cause.BlockedCause.{BlockedCause}
@@ -26,16 +27,6 @@ and_steps-prefix P [] (Undefines offset cause) (y ∷ ys) s e = absurd (let z : 
 and_steps-prefix P (x ∷ xs) (Steps t) ys s e = and_steps-prefix P xs (step P t x) ys s e
 and_steps-prefix P (x ∷ xs) (Blocks cause) ys s e = (s, e)
 and_steps-prefix P (x ∷ xs) (Undefines offset cause) ys s e = (s, e)
-
-order : (n m : ℕ) → (n < m) ⊎ ((n ≡ m) ⊎ (m < n))
-order zero zero = inr (inl refl)
-order zero (suc m) = inl (omega arith)
-order (suc n) zero = inr (inr (omega arith))
-order (suc n) (suc m) = elim (order n m) [
-  | inl h ↦ inl (omega arith)
-  | inr (inl e) ↦ inr (inl (ap suc e))
-  | inr (inr h) ↦ inr (inr (omega arith))
-]
 
 -- a step that leads to no state
 abbrev pub NeverSteps : Stepped → Type 0
@@ -60,9 +51,9 @@ module _ (P : Program) (list : List ℕ) where
 
   -- how many steps end main
   never_beyond : (n m : ℕ) (s t : State) → Takes P list n s → s.ended ≡ true → Takes P list m t → m ≤ n
-  never_beyond n m s t a ended b = elim (order n m) [
-    | inl h ↦ absurd (let z : true ≡ false = sym ended ∙ b.earlier n s h a.taken in cc)
-    | inr (inl e) ↦ omega (arith, e)
+  never_beyond n m s t a ended b = elim (cases_order n m) [
+    | inl e ↦ omega (arith, e)
+    | inr (inl h) ↦ absurd (let z : true ≡ false = sym ended ∙ b.earlier n s h a.taken in cc)
     | inr (inr h) ↦ omega (arith, h)
   ]
 
@@ -74,9 +65,9 @@ module _ (P : Program) (list : List ℕ) where
 
   -- no step that isn't taken stands before one that leads on
   never_stops : (n k i : ℕ) (s t : State) (stepped : Stepped) → Takes P list n s → Comes P list k i t stepped → NeverSteps stepped → n ≤ k
-  never_stops n k i s t stepped a b stops = elim (order k n) [
-    | inl h ↦ absurd (let c = is_taken_before n k i s t a.within a.taken h b.before.taken b.there in stops c.0 (sym b.answer ∙ c.1))
-    | inr (inl e) ↦ omega (arith, e)
+  never_stops n k i s t stepped a b stops = elim (cases_order k n) [
+    | inl e ↦ omega (arith, e)
+    | inr (inl h) ↦ absurd (let c = is_taken_before n k i s t a.within a.taken h b.before.taken b.there in stops c.0 (sym b.answer ∙ c.1))
     | inr (inr h) ↦ omega (arith, h)
   ]
 
