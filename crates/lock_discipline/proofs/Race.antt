@@ -1,5 +1,5 @@
 -- Where each thread stands so, no two race.
-use Rattle.std.proofs.Common.{◌≡◌, ◌≢◌, ℕ, zero, suc, ◌<◌, List, [], ◌∷◌, ◌++◌, length, refl, sym, ◌∙◌, ap, subst, arith}
+use Rattle.std.proofs.Common.{◌≡◌, ◌≢◌, ℕ, zero, suc, ◌<◌, List, [], ◌∷◌, length, refl, sym, ◌∙◌, ap, subst, arith}
 use Rattle.std.specs.Prelude.{Bool, true, false, ◌&&◌, ◌||◌, nat_eq, Some, slice_get, slice_index_or, Contains}
 use Rattle.std.specs.List.{AllByRecursion}
 use Rattle.std.proofs.lemmas.Bool.{and_parts, eqb-true}
@@ -43,10 +43,6 @@ contained Q xs a all c = go xs c.0 all c.1 c.2
 
 pub contained_none : {A : Type 0} (a : A) → Contains [] a → ⊥
 contained_none a c = omega (arith, c.1)
-
-all_told : {A : Type 0} (Q : A → Type 0) (xs ys : List A) → AllByRecursion Q xs → AllByRecursion Q ys → AllByRecursion Q (xs ++ ys)
-all_told Q [] ys p q = q
-all_told Q (x ∷ xs) ys p q = (p.0, all_told Q xs ys p.1 q)
 
 module _ (P : Program) where
   -- what a touch of thread i's next step is in the text

@@ -29,7 +29,7 @@ use Rattle.race_model.proofs.Works.{IsAct, AreWork, settled_is, decided_is, wait
 use Rattle.race_model.proofs.Settled.{TakesStep, InOrder, IsSettled, IsWaiting, onward_settled, decided_settled, waiting_in_order, resumed_settled}
 
 -- where an evaluation gives a value, that is so of the value
-abbrev Grants : {A : Type 0} → (A → Type 0) → Evaluation A → Type 0
+abbrev pub Grants : {A : Type 0} → (A → Type 0) → Evaluation A → Type 0
 Grants Q (Gives v reads) = Q v
 Grants Q (Fails cause) = Unit {0}
 
@@ -41,7 +41,7 @@ grants_after : {A : Type 0} (Q : A → Type 0) (r : List Location) (e : Evaluati
 grants_after Q r (Gives v reads) g = g
 grants_after Q r (Fails cause) g = tt
 
-grants_then : {A B : Type 0} (R : A → Type 0) (Q : B → Type 0) (e : Evaluation A) (next : A → Evaluation B) → Grants R e → ((v : A) → R v → Grants Q (next v)) →
+pub grants_then : {A B : Type 0} (R : A → Type 0) (Q : B → Type 0) (e : Evaluation A) (next : A → Evaluation B) → Grants R e → ((v : A) → R v → Grants Q (next v)) →
     Grants Q (and_then e next)
 grants_then R Q (Gives v reads) next g h = grants_after Q reads (next v) (h v g)
 grants_then R Q (Fails cause) next g h = tt
@@ -50,7 +50,7 @@ grants_then R Q (Fails cause) next g h = tt
 grants_next : {A B : Type 0} (Q : B → Type 0) (e : Evaluation A) (next : A → Evaluation B) → ((v : A) → Grants Q (next v)) → Grants Q (and_then e next)
 grants_next {A} Q e next h = grants_then (λ (v : A). Unit {0}) Q e next (grants_all (λ (v : A). Unit {0}) e (λ v. tt)) (λ v _. h v)
 
-index_below : (length : ℕ) (i : ℤ) → Grants (λ j. j < length) (checked_index length i)
+pub index_below : (length : ℕ) (i : ℤ) → Grants (λ j. j < length) (checked_index length i)
 index_below length (negsuc i) = tt
 index_below length (pos i) = go (nat_lt i length) refl
   where
