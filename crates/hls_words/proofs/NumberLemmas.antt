@@ -1,18 +1,15 @@
 -- A number option as the command line reads it.
-use Rattle.std.proofs.Common.{◌≡◌, ℕ, ◌<◌, ◌^◌, Bool, List, true, false, refl, sym, ap, ◌∙◌, [], ◌∷◌, length}
-use Rattle.std.specs.Prelude.{Option, Some, None, is_some, option_map, option_and_then, nat_lt, slice_get, ◌&&◌, if◌then◌else◌}
-use Rattle.std.proofs.lemmas.Bool.{ltb-true, lt-ltb, cond-true}
-use Rattle.std.specs.List.{list_all}
-use Rattle.std.specs.Char.{digit_value}
-use Rattle.std.specs.Str.Parse.{AllDigits, IsNumeral, ParsesUnsigned, ExplainsUnsignedError, HasUnsignedDigitsIfOk, digits_value, without_leading_plus}
-use Rattle.clap.specs.ValueTests.{is_numeral}
-use Rattle.clap.proofs.WalkLemmas.{both}
+use Rattle.std.proofs.Common.{◌≡◌, ℕ, List, refl, sym, ap, ◌∙◌}
+use Rattle.std.specs.Prelude.{Option, Some, None, is_some, option_map, option_and_then, slice_get}
+use Rattle.std.proofs.lemmas.Bool.{cond-true}
+use Rattle.std.specs.Str.Parse.{ParsesUnsigned, ExplainsUnsignedError, HasUnsignedDigitsIfOk, without_leading_plus}
 use Rattle.clap.specs.Words.{first_value, matched_of, one_text, read_as}
 use Rattle.clap.specs.Matches.{ReadsOne}
 use Rattle.clap.specs.declared.parser.matches.Found.{Found}
 use Rattle.clap.specs.declared.parser.matches.MatchedArg.{MatchedArg}
 use Rattle.std.specs.declared.num.ParseIntError.{ParseIntError}
 use Rattle.hls_words.specs.Line.{number_of}
+use Rattle.turns.proofs.Numbers.{passes, passed, dropped}
 
 pub is_some-map : {X Y : Type 0} (f : X → Y) (o : Option X) → is_some (option_map f o) ≡ is_some o
 is_some-map f None = refl
@@ -28,30 +25,8 @@ pub same_presence : (f : Found) (id : List ℕ) → is_some (first_value f id) �
 same_presence f id =
     same (λ (a : MatchedArg). slice_get a.vals.items 0) (λ a s. s.now) (λ a s. read_as a.reading s.now) (matched_of f id)
 
--- the test of `number_of` says that the text is a number of 32 bits
-passes_all : (ds : List ℕ) → AllDigits 10 ds → list_all (λ d. nat_lt (digit_value d) 10) ds ≡ true
-passes_all [] h = refl
-passes_all (d ∷ ds) h = rw (lt-ltb (digit_value d) 10 h.0) (passes_all ds h.1)
-
-passed_all : (ds : List ℕ) → list_all (λ d. nat_lt (digit_value d) 10) ds ≡ true → AllDigits 10 ds
-passed_all [] e = tt
-passed_all (d ∷ ds) e = let parts = both _ _ e in (ltb-true _ _ parts.0, passed_all ds parts.1)
-
-passes : (ds : List ℕ) → IsNumeral 10 ds → digits_value 10 ds < 2 ^ 32 → (is_numeral ds && nat_lt (digits_value 10 ds) (2 ^ 32)) ≡ true
-passes ds numeral below = rw (lt-ltb 0 (length ds) numeral.0, passes_all ds numeral.1, lt-ltb (digits_value 10 ds) (2 ^ 32) below) refl
-
-passed : (ds : List ℕ) → (is_numeral ds && nat_lt (digits_value 10 ds) (2 ^ 32)) ≡ true → IsNumeral 10 ds × (digits_value 10 ds < 2 ^ 32)
-passed ds e =
-    let parts = both _ _ e in
-    let numeral = both _ _ parts.0 in
-    ((ltb-true _ _ numeral.0, passed_all _ numeral.1), ltb-true _ _ parts.1)
-
 abbrev Gives : List ℕ → Option ℕ → Type 0
 Gives t r = ReadsOne {T = ℕ} {E = ParseIntError} (λ bs x. ParsesUnsigned 32 10 bs x × ExplainsUnsignedError 10 bs x × HasUnsignedDigitsIfOk bs x) t r
-
-dropped : (b : Bool) (n : ℕ) → ¬ (b ≡ true) → None ≡ (if b then Some n else None)
-dropped true n fails = absurd (fails refl)
-dropped false n fails = refl
 
 pub reads_number : (t : List ℕ) (r : Option ℕ) → Gives t r → r ≡ number_of t
 reads_number t None (e, gives) = dropped _ _ (λ e. gives.0 (passed (without_leading_plus t) e))
