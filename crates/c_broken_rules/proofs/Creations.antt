@@ -2,7 +2,6 @@
 use Rattle.std.proofs.Common.{◌≡◌, refl, sym, subst, ap, ◌∙◌, inl, inr, ℕ, ◌<◌, Bool, true, false, List, [], ◌∷◌, ◌++◌, length, Option, Some, None}
 use Rattle.std.proofs.Common.{append_assoc, append-nil, arith}
 use Rattle.std.specs.Prelude.{fold, not, is_none, nat_eq, if◌then◌else◌, option_map}
-use Rattle.std.proofs.lemmas.Bool.Decides.{nat_tests}
 use Rattle.std.proofs.lemmas.Option.{same_Some, none-some}
 use Rattle.std.proofs.lemmas.Bool.{eq-eqb, false≢true}
 use Rattle.c_tree.specs.declared.expression.Name.{Name}
@@ -44,13 +43,11 @@ use Rattle.c_broken_rules.proofs.Walks.{IsParameter, IsUsual, is_thread}
 use Rattle.c_broken_rules.proofs.Sights.{Agrees, Sees, sees, MeansIn, not_library, not_nothing, same_meaning}
 use Rattle.c_broken_rules.proofs.Quiets.{IsQuiet, OthersAreQuiet, CallsAreQuiet}
 use Rattle.c_broken_rules.proofs.ThreadNumbers.{first_index}
+use Rattle.c_broken_rules.proofs.Numbers.{less_apart}
 
 -- the number that stands for a misused object
 abbrev pub cap : ℕ
 cap = 0xffff_ffff
-
-apart : (m n : ℕ) → m < n → nat_eq m n ≡ false
-apart m n lt = grind (arith, nat_tests)
 
 -- ---- creates but of misused objects
 
@@ -479,7 +476,7 @@ module _ (D : List (List ℕ × ℕ)) (T : List (List ℕ)) where
         keeps = λ part h. h;
         finds = λ part h. bounded_part (Part.Creation w thread name) part below h;
         order =
-            one_more found.creations (creation t r name.offset) false (apart t cap (omega arith))
+            one_more found.creations (creation t r name.offset) false (less_apart t cap (omega arith))
             ∙ sym (ap (λ o. real found.creations ++ (of_option (made o (routine_number w name) name.offset) ++ [])) e
             ∙ ap (λ o. real found.creations ++ (of_option (made (Some t) o name.offset) ++ [])) f);
       };

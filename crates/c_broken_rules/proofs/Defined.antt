@@ -21,9 +21,7 @@ use Rattle.c_broken_rules.specs.Breaks.{IsNamed, IsDefinition, definitions, defi
 use Rattle.c_broken_rules.specs.Laws.{IsOfFew}
 use Rattle.c_broken_rules.proofs.Sights.{named_inserted}
 use Rattle.c_broken_rules.proofs.Unknown.{noted_by}
-
-abbrev most : ℕ
-most = 0xffff_ffff
+use Rattle.c_broken_rules.proofs.Numbers.{most}
 
 -- ---- the definitions one after another
 

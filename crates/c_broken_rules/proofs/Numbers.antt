@@ -21,7 +21,7 @@ use Rattle.c_broken_rules.specs.Breaks.{definitions, definition_in, definition_b
 use Rattle.c_broken_rules.proofs.Sights.{named_inserted}
 use Rattle.c_broken_rules.proofs.Unknown.{Defines, noted_by, all_here, all_back, from_nothing}
 
-abbrev most : ℕ
+abbrev pub most : ℕ
 most = 0xffff_ffff
 
 -- ---- one more declaration
@@ -111,11 +111,11 @@ body_here : (d : t.Noted) (f : Function) (o : Option Block) → is_some o ≡ tr
 body_here d f None h e = absurd (true≢false (sym h))
 body_here d f (Some body) h e = new_here d.0 f.name.bytes d.1 (is_some (named_in d.0 f.name.bytes)) refl e
 
-some_value : {A : Type 0} (o : Option A) → is_some o ≡ true → (v : A) × (o ≡ Some v)
+pub some_value : {A : Type 0} (o : Option A) → is_some o ≡ true → (v : A) × (o ≡ Some v)
 some_value (Some a) h = (a, refl)
 some_value None h = absurd (true≢false (sym h))
 
-less_apart : (v n : ℕ) → v < n → nat_eq v n ≡ false
+pub less_apart : (v n : ℕ) → v < n → nat_eq v n ≡ false
 less_apart v n lt = grind (arith, nat_tests)
 
 apart : (v n : ℕ) → v < n → n ≤ most → nat_eq v (min n most) ≡ false

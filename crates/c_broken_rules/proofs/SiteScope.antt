@@ -36,9 +36,7 @@ use Rattle.c_broken_rules.proofs.NameScope.{IsMeant}
 use Rattle.c_broken_rules.proofs.Quiets as q
 use Rattle.c_broken_rules.proofs.Sites as u
 use Rattle.c_broken_rules.proofs.Sites.{site_ledger, Stands, number_in, broken, others}
-
-abbrev most : ℕ
-most = 0xffff_ffff
+use Rattle.c_broken_rules.proofs.Numbers.{most}
 
 -- ---- how many functions are defined
 
@@ -55,7 +53,7 @@ more_definitions [] d = omega (arith, length-append (definition_in d) [])
 more_definitions (x ∷ xs) d =
     omega (arith, length-append (definition_in x) (definitions (xs ++ d ∷ [])), length-append (definition_in x) (definitions xs), more_definitions xs d)
 
-definitions_both : (xs ys : List ExternalDeclaration) → length (definitions (xs ++ ys)) ≡ length (definitions xs) + length (definitions ys)
+pub definitions_both : (xs ys : List ExternalDeclaration) → length (definitions (xs ++ ys)) ≡ length (definitions xs) + length (definitions ys)
 definitions_both [] ys = omega arith
 definitions_both (x ∷ xs) ys =
     omega (arith, length-append (definition_in x) (definitions (xs ++ ys)), length-append (definition_in x) (definitions xs), definitions_both xs ys)

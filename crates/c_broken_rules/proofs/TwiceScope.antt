@@ -39,6 +39,7 @@ use Rattle.c_broken_rules.proofs.Twice as u
 use Rattle.c_broken_rules.proofs.Twice.{IsTwice, twice_ledger}
 use Rattle.c_broken_rules.proofs.NameScope.{IsMeant}
 use Rattle.c_broken_rules.proofs.UnknownNames as m
+use Rattle.c_broken_rules.proofs.Numbers.{some_value}
 use Rattle.c_program.specs.Tree.{Expression}
 
 abbrev L : Ledger
@@ -89,10 +90,6 @@ events s w = record {
   initial = λ ty v. quiet L (Part.Initial v) (λ x k. k) (q.initial_is L constants ty (constancy v) (out-Expression v).offset);
   listed = λ size v n index is. quiet L (Part.Listed size index v) (λ x k. k) (q.broken_if L _ rule.Constant (out-Expression v).offset constants);
 }
-
-some_is : {A : Type 0} (o : Option A) → is_some o ≡ true → (x : A) × (o ≡ Some x)
-some_is (Some x) h = (x, refl)
-some_is None h = absurd (false≢true h)
 
 library_or : (o : Option LibraryFunction) → (is_some o ≡ true) ⊎ (o ≡ None)
 library_or None = inr refl
@@ -145,7 +142,7 @@ module _ (D : List (List ℕ × ℕ)) where
   taken_by s w name d m agrees means (inl k) taken = inl k
   taken_by s w name d m agrees means (inr own) (inl k) = inl k
   taken_by s w name d m agrees means (inr own) (inr k) =
-      let o = some_is (named_in s.inner name.bytes) k in
+      let o = some_value (named_in s.inner name.bytes) k in
       let e = same_some s.headers (named_in (innermost w.scopes) name.bytes) (named_in s.inner name.bytes) (inner_same s w name.bytes own agrees) o.0 o.1 in
       inr (inl (record { earlier = e.0; first = e.1; no_functions = and_right (is_function e.0) (is_function d) (no_function_is d m means) }))
 

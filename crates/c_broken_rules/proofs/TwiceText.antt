@@ -29,7 +29,6 @@ use Rattle.std.proofs.Common.{suc, ◌<◌, ◌≤◌, append_assoc, append-nil,
 use Rattle.std.specs.Prelude.{◌+◌, ◌^◌}
 use Rattle.std.specs.List.{flat_map}
 use Rattle.std.proofs.lemmas.List.Elements.{Contains-append_left, Contains-append_right, Contains-append_cases, Contains-push_cases}
-use Rattle.std.proofs.lemmas.List.{length-append}
 use Rattle.lists.proofs.Places.{in_none}
 use Rattle.c_tree.specs.declared.declaration.ExternalDeclaration.{ExternalDeclaration}
 use Rattle.c_tree.specs.declared.declaration.ExternalDeclaration.TheVariants as external
@@ -42,14 +41,12 @@ use Rattle.c_broken_rules.specs.Laws.{FaultsAreBrokenOfFew, BrokenAreFaultsOfFew
 use Rattle.c_broken_rules.specs.Parts.{names_of, number_behind, objects_names}
 use Rattle.c_broken_rules.proofs.NameScope as n
 use Rattle.c_broken_rules.proofs.Unknown.{Defines, noted_by, all_here, all_back, from_nothing, any_split, any_left, any_right}
-use Rattle.c_broken_rules.proofs.Numbers.{first_number, second_number}
+use Rattle.c_broken_rules.proofs.Numbers.{first_number, second_number, most}
 use Rattle.c_broken_rules.proofs.TwiceScope as h
 use Rattle.c_broken_rules.proofs.TwiceScope.{IsSecondBy}
 use Rattle.c_broken_rules.proofs.FaultLedgers.{fault_of}
 use Rattle.c_broken_rules.proofs.JudgedParts.{IsPart, first_part, part_reached, at_place, not_behind}
-
-abbrev most : ℕ
-most = 0xffff_ffff
+use Rattle.c_broken_rules.proofs.SiteScope.{definitions_both}
 
 abbrev Named : Type 0
 Named = List ℕ × Declared
@@ -147,11 +144,6 @@ flat_append : (xs : List ExternalDeclaration) (d : ExternalDeclaration) → flat
 flat_append [] d = append-nil (names_of d)
 flat_append (x ∷ xs) d = ap (λ l. names_of x ++ l) (flat_append xs d) ∙ sym (append_assoc (names_of x) (flat_map names_of xs) (names_of d))
 
-definitions_append : (xs ys : List ExternalDeclaration) → length (definitions (xs ++ ys)) ≡ length (definitions xs) + length (definitions ys)
-definitions_append [] ys = omega arith
-definitions_append (x ∷ xs) ys =
-    omega (arith, length-append (definition_in x) (definitions (xs ++ ys)), length-append (definition_in x) (definitions xs), definitions_append xs ys)
-
 one_number : (f : Function) (n : ℕ) (b : Bool) → (if b then suc n else n) ≡ n + length (definition_by f b ++ [])
 one_number f n true = omega arith
 one_number f n false = omega arith
@@ -175,7 +167,7 @@ module _ (tree : TranslationUnit) (few : IsOfFew tree) where
     before = h.before ++ d ∷ [];
     text = append_assoc h.before (d ∷ []) more ∙ h.text;
     scope = ap (with_names (names_of d)) h.scope ∙ ap (λ l. l ∷ []) (sym (flat_append h.before d));
-    count = number_is d n ∙ ap (λ k. k + length (definitions (d ∷ []))) h.count ∙ sym (definitions_append h.before (d ∷ []));
+    count = number_is d n ∙ ap (λ k. k + length (definitions (d ∷ []))) h.count ∙ sym (definitions_both h.before (d ∷ []));
   }
 
   abbrev Second : Function → Header → ℕ → Bool
@@ -203,7 +195,7 @@ module _ (tree : TranslationUnit) (few : IsOfFew tree) where
   few_before : (before list : List ExternalDeclaration) (n : ℕ) → before ++ list ≡ tree.declarations → n ≡ length (definitions before) → n ≤ most
   few_before before list n text count =
       let all : length (definitions (before ++ list)) < 2 ^ 32 = subst (λ l. length (definitions l) < 2 ^ 32) (sym text) few in
-      omega (arith, definitions_append before list)
+      omega (arith, definitions_both before list)
 
   second_is : (w : Where) (n : ℕ) (f : Function) (h : Header) (rest : List ExternalDeclaration) → At w n (external.Function f ∷ rest) → h ≡ header_in D f → IsSecondBy D w
       f (Second f h n)

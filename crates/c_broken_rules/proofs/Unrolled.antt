@@ -1,5 +1,5 @@
 -- The parts of a tree by those of its own parts.
-use Rattle.std.proofs.Common.{◌≡◌, refl, ap, ◌∙◌, ℕ, List, [], ◌∷◌, ◌++◌, map, Option, Some, None}
+use Rattle.std.proofs.Common.{◌≡◌, refl, ap, ◌∙◌, ℕ, ◌∷◌, map, Option, Some, None}
 use Rattle.std.specs.Prelude.{option_map}
 use Rattle.c_tree.specs.declared.expression.Name.{Name}
 use Rattle.c_tree.specs.declared.expression.Argument.{Argument as ArgumentTree, out-Argument}
@@ -16,11 +16,8 @@ use Rattle.c_tree.specs.declared.expression.Argument.TheFolds.{fold-Form, fold-C
 use Rattle.c_tree.specs.declared.expression.Argument.TheFolds.{fold_out-Argument, fold_out-Form, fold_out-Call, fold_out-Expression, fold_out-Place, fold_out-Pointer}
 use Rattle.c_broken_rules.specs.Sight.{Where}
 use Rattle.c_broken_rules.specs.Parts as p
-use Rattle.c_broken_rules.specs.Parts.{Part, Parts, Parted, Indexed, all_of, of_each, of_any, if_any}
-
-pub each_part : {A : Type 0} (of : A → Parts) (list : List A) → all_of (map of list) ≡ of_each of list
-each_part of [] = refl
-each_part of (a ∷ list) = ap (λ ps. of a ++ ps) (each_part of list)
+use Rattle.c_broken_rules.specs.Parts.{Part, Parts, Parted, Indexed, of_any}
+use Rattle.c_broken_rules.proofs.Values.{each_part}
 
 module _ (w : Where) where
   abbrev form_parts : FormTree → Parted

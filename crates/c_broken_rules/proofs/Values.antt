@@ -47,7 +47,7 @@ abbrev pub is_argument_name : Scope → Option (List ℕ) → Bool
 is_argument_name s None = false
 is_argument_name s (Some name) = is_argument (look_up s name)
 
-each_part : {A : Type 0} (of : A → Parts) (list : List A) → all_of (map of list) ≡ of_each of list
+pub each_part : {A : Type 0} (of : A → Parts) (list : List A) → all_of (map of list) ≡ of_each of list
 each_part of [] = refl
 each_part of (a ∷ list) = ap (λ ps. of a ++ ps) (each_part of list)
 
