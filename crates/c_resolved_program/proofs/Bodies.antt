@@ -3,7 +3,7 @@ use Rattle.std.proofs.Common.{◌≡◌, refl, sym, subst, ◌∙◌, inl, inr, 
 use Rattle.std.specs.Prelude.{◌^◌, slice_get}
 use Rattle.std.specs.List.{AllByRecursion}
 use Rattle.std.proofs.Math.Nat.{le_of_lt}
-use Rattle.lists.proofs.Places.{get_pushed}
+use Rattle.lists.proofs.Places.{get_pushed, all_front}
 use Rattle.c_tree.specs.declared.statement.Block.{Block}
 use Rattle.c_tree.specs.declared.declaration.Function.{Function as FunctionTree}
 use Rattle.c_program.specs.Tree.{Function, Program}
@@ -15,7 +15,6 @@ use Rattle.c_resolution.specs.Files.{File, Tables}
 use Rattle.c_resolution.specs.Functions as y
 use Rattle.c_resolved_program.specs.Leaves.{AreValid, block_leaves, of_any}
 use Rattle.c_resolved_program.specs.Orders.{left, IsFront, IsHeader, IsPartOf, GivesRoutines}
-use Rattle.c_resolved_program.proofs.Trees.{all_left}
 use Rattle.c_resolved_program.proofs.Locals.{number_is}
 use Rattle.c_resolved_program.proofs.Functions.{defined_at, definition_is}
 use Rattle.c_resolved_program.proofs.Definitions.{IsDefined}
@@ -39,8 +38,8 @@ bodies_more whole P functions code holds is number other at =
           (subst (λ c. (h : Header) × IsDefined whole P (length functions) h c) last.1 is)
     ]
 
-pub all_front : {A : Type 0} (Is : A → Type 0) (xs list : List A) → IsFront xs list → AllByRecursion Is list → AllByRecursion Is xs
-all_front Is xs list front all = all_left Is xs front.0 (subst (λ l. AllByRecursion Is l) (sym front.1) all)
+pub all_in_front : {A : Type 0} (Is : A → Type 0) (xs list : List A) → IsFront xs list → AllByRecursion Is list → AllByRecursion Is xs
+all_in_front Is xs list front all = all_front Is xs front.0 (subst (λ l. AllByRecursion Is l) (sym front.1) all)
 
 module _ (whole : Findings) (P : Program) (given_routines : GivesRoutines whole P) (f : FunctionTree) (h : Header) (x z : File)
     (scope : IsFileScope P x.scope) (parameters : h.parameters ≡ map y.parameter_type (y.written f)) (is : left (y.function_by f h x) ≡ z)

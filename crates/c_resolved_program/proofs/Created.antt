@@ -1,6 +1,6 @@
 -- Each create that is found at file scope is one of a function of the program.
-use Rattle.std.proofs.Common.{◌≡◌, refl, sym, ap, subst, inl, inr, ℕ, zero, suc, ◌<◌, Bool, List, [], ◌∷◌, ◌++◌, length, Option, Some, None, arith}
-use Rattle.std.specs.Prelude.{Contains, slice_get, slice_index_or}
+use Rattle.std.proofs.Common.{◌≡◌, refl, sym, subst, inl, inr, Bool, List, [], ◌∷◌, ◌++◌, length, Option, Some, None, arith}
+use Rattle.std.specs.Prelude.{Contains}
 use Rattle.std.proofs.lemmas.List.Elements.{Contains-append_left, Contains-append_right}
 use Rattle.c_tree.specs.declared.statement.Block.{Block}
 use Rattle.c_tree.specs.declared.declaration.Function.{Function as FunctionTree}
@@ -76,11 +76,3 @@ object_creates words pointer d x same holds c inside =
     subst (λ l. IsCreatedIn l c) (sym same) (holds c (global_silent words pointer d x c inside))
 
 -- ---- an element of a list
-
-pub element_at : {A : Type 0} (list : List A) (a : A) → Contains list a → (k : ℕ) × (slice_get list k ≡ Some a)
-element_at list a inside = (inside.0, by list inside.0 inside.1 inside.2)
-  where
-    by : (list : List _) (k : ℕ) → k < length list → slice_index_or list k a ≡ a → slice_get list k ≡ Some a
-    by [] k lt is = absurd (omega arith)
-    by (x ∷ list) zero lt is = ap Some is
-    by (x ∷ list) (suc k) lt is = by list k (omega arith) is

@@ -4,7 +4,7 @@ use Rattle.std.proofs.Common.{◌++◌, length, Option, Some, None, append_assoc
 use Rattle.std.specs.Prelude.{◌⊎◌, ◌^◌, fold, slice_get, unwrap_or}
 use Rattle.std.specs.List.{AllByRecursion}
 use Rattle.std.proofs.Math.Nat.{le_of_lt}
-use Rattle.lists.proofs.Places.{all_back}
+use Rattle.lists.proofs.Places.{all_back, all_front}
 use Rattle.c_tree.specs.declared.statement.Block.{Block}
 use Rattle.c_tree.specs.declared.declaration.Function.{Function as FunctionTree}
 use Rattle.c_tree.specs.declared.declaration.GlobalDeclarator.{GlobalDeclarator}
@@ -30,7 +30,6 @@ use Rattle.c_resolved_program.specs.Orders.{left, given, IsFront, GivesRoutines}
 use Rattle.c_resolved_program.proofs.Walks.{outcome, turn, IfAny}
 use Rattle.c_resolved_program.proofs.Arguments.{element_is}
 use Rattle.c_resolved_program.proofs.Steps.{next_in}
-use Rattle.c_resolved_program.proofs.Trees.{all_left}
 use Rattle.c_resolved_program.proofs.Functions.{defined_at}
 use Rattle.c_resolved_program.proofs.Filed.{headed}
 use Rattle.c_resolved_program.proofs.GrownScope.{front_same, front_on}
@@ -161,7 +160,7 @@ module _ (X : File) (main : ℕ) (numbered : IsNumbered (program_at X main)) (gi
   global_left_is words pointer d x valid within =
       let size = of_any expression_leaves d.length in
       let values = of_any initializer_leaves d.initializer in
-      global_left X.found P nobody words pointer d x (all_left _ size values valid.1) (all_back _ size values valid.1) within.found
+      global_left X.found P nobody words pointer d x (all_front _ size values valid.1) (all_back _ size values valid.1) within.found
 
   global_within : (words : Spelled) (pointer : Bool) (d : GlobalDeclarator) (x : File) → AreValid (global_leaves d) →
       IsWithin X (left (g.global words pointer d x)) → IsWithin X x
@@ -192,7 +191,7 @@ module _ (X : File) (main : ℕ) (numbered : IsNumbered (program_at X main)) (gi
   each_global h [] valid = tt
   each_global h (d ∷ list) valid =
       let more = of_each global_leaves list in
-      (h d (all_left _ (global_leaves d) more valid), each_global h list (all_back _ (global_leaves d) more valid))
+      (h d (all_front _ (global_leaves d) more valid), each_global h list (all_back _ (global_leaves d) more valid))
 
   module _ (L : List ExternalDeclaration) (K : List ExternalDeclaration → File → Type 0) (kept : IsKept L K) where
     next_carries : (done : List ExternalDeclaration) (words : Spelled) (d : GlobalDeclarator) → AreValid (global_leaves d) → (pointer : Bool) →
@@ -239,7 +238,7 @@ module _ (X : File) (main : ℕ) (numbered : IsNumbered (program_at X main)) (gi
         let more = of_each external_leaves list in
         let later = walk (done ++ d ∷ []) list (append_assoc done (d ∷ []) list ∙ is) (all_back _ (external_leaves d) more valid) (given o) (left o)
         (subst (λ (z : Outcome File (Unit {0})). IsWithin X (left z)) e within) in
-        let first = one_carries done list d is (all_left _ (external_leaves d) more valid) x later.0 in
+        let first = one_carries done list d is (all_front _ (external_leaves d) more valid) x later.0 in
         (first.0, λ k. subst (λ (z : Outcome File (Unit {0})). K L (left z)) (sym e) (later.1 (first.1 k)))
 
     pub all_kept : AreValid (of_each external_leaves L) → (x : File) → IsWithin X (left (declarations L x)) → K [] x → K L (left (declarations L x))

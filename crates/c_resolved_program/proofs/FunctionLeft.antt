@@ -1,6 +1,6 @@
 -- What a function at file scope leaves: the scope behind its name, and one function more where it has a body.
 use Rattle.std.proofs.Common.{◌≡◌, refl, sym, ap, subst, ◌∙◌, ℕ, ◌≤◌, false, List, [], ◌∷◌, ◌++◌, length, Option, Some, None, append-nil, arith}
-use Rattle.std.specs.Prelude.{◌^◌, ◌-◌, is_some, slice_get}
+use Rattle.std.specs.Prelude.{◌^◌, ◌-◌, is_some}
 use Rattle.std.proofs.lemmas.Option.{same_Some, none-some}
 use Rattle.std.proofs.Math.Nat.{le_refl}
 use Rattle.c_tree.specs.declared.statement.Block.{Block}
@@ -11,7 +11,7 @@ use Rattle.c_program.specs.Tree.{Statement, Function, Program}
 use Rattle.c_rules.specs.declared.findings.Findings.{Findings}
 use Rattle.c_rules.specs.declared.names.Header.{Header}
 use Rattle.c_rules.specs.declared.names.Scope.{Scope}
-use Rattle.c_rules.specs.Names.{Names, opened, closed, closed_to, is_start_routine}
+use Rattle.c_rules.specs.Names.{opened, closed, is_start_routine}
 use Rattle.c_rules.specs.Walks.{Outcome, place_in_tree, ◌>>◌}
 use Rattle.c_resolution.specs.States.{State, state, scoping}
 use Rattle.c_resolution.specs.Statements.{items}
@@ -25,7 +25,7 @@ use Rattle.c_resolved_program.proofs.Statements.{block_claim}
 use Rattle.c_resolved_program.proofs.Parameters.{parameters_add}
 use Rattle.c_resolved_program.proofs.Functions.{in_file_is, named, inside, head_is, before_body, defined_at, definition_is, moving_parameters}
 use Rattle.c_resolved_program.proofs.Filed.{headed, function_left}
-use Rattle.c_resolved_program.proofs.LocalCounts.{opened_locals}
+use Rattle.c_resolved_program.proofs.LocalCounts.{opened_locals, closed_same}
 use Rattle.c_resolved_program.proofs.Steps.{front_le}
 
 -- ---- scopes
@@ -37,14 +37,6 @@ pub record Keeps (s t : Scope) : Type 0 where
   pub headers : t.headers ≡ s.headers
   pub definitions : t.definitions ≡ s.definitions
   pub locals : t.locals ≡ []
-
-closed_to_locals : (level : Option Names) (t : Scope) → (closed_to level t).locals ≡ t.locals
-closed_to_locals None t = refl
-closed_to_locals (Some level) t = refl
-
-closed_locals : (t : Scope) → (closed t).locals ≡ t.locals
-unfolding closed
-closed_locals t = closed_to_locals (slice_get t.outer (length t.outer - 1)) t
 
 -- behind a scope within, in which no other scope is open
 closed_keeps : (s t : Scope) → t.outer ≡ s.outer ++ s.inner ∷ [] → t.headers ≡ s.headers → t.definitions ≡ s.definitions → t.locals ≡ [] → Keeps s (closed t)
@@ -64,7 +56,7 @@ closed_keeps s t outer headers definitions locals =
       outer = both.0.outer;
       headers = both.0.headers;
       definitions = both.0.definitions;
-      locals = closed_locals t ∙ locals;
+      locals = closed_same t ∙ locals;
     }
 
 opened_outer : (s : Scope) → (opened s).outer ≡ s.outer ++ s.inner ∷ []

@@ -3,7 +3,7 @@ use Rattle.std.proofs.Common.{◌≡◌, refl, ℕ, ◌<◌, ◌≤◌, Bool, tr
 use Rattle.std.specs.Prelude.{◌&&◌, nat_le, is_none, unwrap_or, if◌then◌else◌, ⊤}
 use Rattle.std.specs.List.{AllByRecursion}
 use Rattle.std.proofs.lemmas.Bool.{and_parts}
-use Rattle.lists.proofs.Places.{all_back, length_more}
+use Rattle.lists.proofs.Places.{all_back, length_more, all_front}
 use Rattle.hls_ints.specs.Types.{IntegerType, Width, bits_8, bits_16, bits_32, bits_64, HasType, wrapped}
 use Rattle.hls_ints.proofs.Conversions.{wrapped-range}
 use Rattle.c_tree.specs.declared.expression.Name.{Name}
@@ -28,7 +28,7 @@ use Rattle.c_resolution.specs.Locals as l
 use Rattle.c_resolution.specs.Globals as g
 use Rattle.c_resolved_program.specs.Leaves.{AreValid, expression_leaves, initializer_leaves, of_any, of_each}
 use Rattle.c_resolved_program.proofs.Walks.{Shows, shows_pure, shows_then, shows_as, shows_broken, shows_if, shows_through, shows_visited, all_more, IfAny}
-use Rattle.c_resolved_program.proofs.Trees.{value_shows, all_left}
+use Rattle.c_resolved_program.proofs.Trees.{value_shows}
 use Rattle.c_resolved_program.proofs.Locals.{length_from_shows}
 
 zero_at : (signed : Bool) (w : Width) → HasType (record { width = w; signed = signed }) (pos 0)
@@ -98,7 +98,7 @@ module _ (whole : Findings) (P : Program) (f : Function) (s : Scope) where
   each_valid : (list : List ExpressionTree) → AreValid (of_each expression_leaves list) → AllByRecursion (λ e. AreValid (expression_leaves e)) list
   each_valid [] valid = tt
   each_valid (e ∷ list) valid =
-      (all_left _ (expression_leaves e) (of_each expression_leaves list) valid, each_valid list (all_back _ (expression_leaves e) (of_each expression_leaves list) valid))
+      (all_front _ (expression_leaves e) (of_each expression_leaves list) valid, each_valid list (all_back _ (expression_leaves e) (of_each expression_leaves list) valid))
 
   initial_values_show : (ty : IntegerType) (size : ℕ) (list : List ExpressionTree) → AreValid (of_each expression_leaves list) →
       Shows whole ⊤ (AreInitial ty size) (g.initial_values ty size list s)
@@ -116,7 +116,7 @@ module _ (whole : Findings) (P : Program) (f : Function) (s : Scope) where
   each_looked : (list : List ExpressionTree) → AreValid (of_each expression_leaves list) → AllByRecursion (λ e. Shows whole ⊤ (λ _. ⊤) (g.looked_value s e)) list
   each_looked [] valid = tt
   each_looked (e ∷ list) valid = (
-    looked_value_shows e (all_left _ (expression_leaves e) (of_each expression_leaves list) valid),
+    looked_value_shows e (all_front _ (expression_leaves e) (of_each expression_leaves list) valid),
     each_looked list
         (all_back _ (expression_leaves e) (of_each expression_leaves list) valid),
   )

@@ -38,11 +38,12 @@ use Rattle.c_resolved_program.proofs.FileHolds.{FileHolds, holds_on, function_ke
 use Rattle.c_resolved_program.proofs.ObjectKeeps.{object_keeps, same_functions}
 use Rattle.c_resolved_program.proofs.ObjectsHold.{ObjectsHold, function_objects, object_objects, one_global}
 use Rattle.c_resolved_program.proofs.FunctionPlaced.{placed, placed_grows}
-use Rattle.c_resolved_program.proofs.Created.{CreatesHold, function_creates, object_creates, element_at}
-use Rattle.c_resolved_program.proofs.Bodies.{BodiesHold, all_front, bodies_keep}
+use Rattle.c_resolved_program.proofs.Created.{CreatesHold, function_creates, object_creates}
+use Rattle.c_resolved_program.proofs.Bodies.{BodiesHold, all_in_front, bodies_keep}
 use Rattle.c_resolved_program.proofs.DeclarationWalk.{IsKept, code_small, all_kept}
 use Rattle.c_resolved_program.proofs.Apart.{all_from, distinct}
 use Rattle.c_resolved_program.proofs.Mains.{IsMainOf, main_is, main_returns, no_parameters}
+use Rattle.c_call_graph.proofs.Marks.{at_Contains}
 
 after_is : {S A : Type 0} (o : Outcome S A) → z.after o ≡ left o
 after_is (Outcome.Gives a s) = refl
@@ -228,7 +229,7 @@ module _ (L : List ExternalDeclaration) (main : ℕ) (valid : AreValid (of_each 
           file = function_keeps X.found P D done rest f x w k.file (ap definitions (sym is)) valid.0 is_left small;
           bodies =
               bodies_keep X.found P given_routines f h x w k.file.scope refl (is_function f x) is_left inside.found
-              (all_front (IsHeader P) w.scope.headers X.scope.headers inside.headers headers) valid.1 small k.bodies;
+              (all_in_front (IsHeader P) w.scope.headers X.scope.headers inside.headers headers) valid.1 small k.bodies;
         };
   }
 
@@ -271,7 +272,7 @@ module _ (L : List ExternalDeclaration) (main : ℕ) (valid : AreValid (of_each 
     barriers = first.objects.others.barriers;
     routines = λ c inside.
         let made = first.creates c inside in
-        let place = element_at X.tables.functions made.0 made.1 in
+        let place = at_Contains X.tables.functions made.0 made.1 in
         pointer_routine c.routine ((bodies place.0 made.0 place.1).1.body.creates c.thread c.routine made.2).0;
     creations = λ c inside.
         let made = first.creates c inside in

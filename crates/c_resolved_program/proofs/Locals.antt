@@ -3,7 +3,7 @@ use Rattle.std.proofs.Common.{◌≡◌, refl, ap, ◌∙◌, ℕ, zero, suc, �
 use Rattle.std.specs.Prelude.{◌^◌, min, slice_get, unwrap_or, if◌then◌else◌, ⊤}
 use Rattle.std.specs.List.{AllByRecursion}
 use Rattle.std.proofs.lemmas.Option.{slice_get_within}
-use Rattle.lists.proofs.Places.{all_back}
+use Rattle.lists.proofs.Places.{all_back, all_front}
 use Rattle.c_tree.specs.declared.expression.Name.{Name}
 use Rattle.c_tree.specs.declared.expression.Expression.{Expression as ExpressionTree, out-Expression}
 use Rattle.c_tree.specs.declared.declaration.Declaration.{Declaration}
@@ -34,7 +34,7 @@ use Rattle.c_resolved_program.specs.Leaves.{AreValid, expression_leaves, declara
 use Rattle.c_resolved_program.specs.Orders.{IsMeant, IsOrderly, IsInOrder, GivesRoutines}
 use Rattle.c_resolved_program.proofs.Walks.{Shows, shows_pure, shows_then, shows_as, shows_broken, shows_if, IfAny, all_more}
 use Rattle.c_resolved_program.proofs.Calls as k
-use Rattle.c_resolved_program.proofs.Trees.{value_shows, all_left}
+use Rattle.c_resolved_program.proofs.Trees.{value_shows}
 use Rattle.c_resolved_program.proofs.Simple as z
 use Rattle.c_resolved_program.proofs.Steps.{Does, does_pure, does_then, does_as, does_finding, declare_does, does_through, next_in, front_before, front_length}
 
@@ -192,7 +192,7 @@ module _ (whole : Findings) (P : Program) (number : ℕ) (f : Function) (given_r
   declarator_does : (words : Spelled) (d : Declarator) → AreValid (declarator_leaves d) → Does whole P number f in_loop ⊤ InOrder (y.declarator words d)
   unfolding y.declarator
   declarator_does words d valid =
-      let sized = all_left _ (of_any expression_leaves d.length) (of_any expression_leaves d.initializer) valid in
+      let sized = all_front _ (of_any expression_leaves d.length) (of_any expression_leaves d.initializer) valid in
       let begun = all_back _ (of_any expression_leaves d.length) (of_any expression_leaves d.initializer) valid in
       let stepping = λ (m : Meaning). finding (y.declared_step d m d.initializer) in
       let declaring = λ (m : Meaning). y.declare d.name m >> stepping m in
@@ -207,7 +207,7 @@ module _ (whole : Findings) (P : Program) (number : ℕ) (f : Function) (given_r
   each_declarator : (list : List Declarator) → AreValid (of_each declarator_leaves list) → AllByRecursion (λ d. AreValid (declarator_leaves d)) list
   each_declarator [] valid = tt
   each_declarator (d ∷ list) valid =
-      (all_left _ (declarator_leaves d) (of_each declarator_leaves list) valid, each_declarator list (all_back _ (declarator_leaves d) (of_each declarator_leaves list) valid))
+      (all_front _ (declarator_leaves d) (of_each declarator_leaves list) valid, each_declarator list (all_back _ (declarator_leaves d) (of_each declarator_leaves list) valid))
 
   abbrev pub AllInOrder : List Statement → Type 0
   AllInOrder steps = AllByRecursion InOrder steps

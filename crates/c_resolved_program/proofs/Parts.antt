@@ -1,7 +1,7 @@
 -- The leaves of a tree's parts are among its own.
 use Rattle.std.proofs.Common.{subst, ℕ, List, [], ◌∷◌, map, Option, Some, None}
 use Rattle.std.specs.List.{AllByRecursion}
-use Rattle.lists.proofs.Places.{all_back}
+use Rattle.lists.proofs.Places.{all_back, all_front}
 use Rattle.c_tree.specs.declared.expression.Argument.{Argument as ArgumentTree, out-Argument}
 use Rattle.c_tree.specs.declared.expression.Form.{Form as FormTree, out-Form}
 use Rattle.c_tree.specs.declared.expression.Call.{Call as CallTree, out-Call}
@@ -18,7 +18,6 @@ use Rattle.c_resolved_program.specs.Leaves.{Leaves, AreValid, all_of, argument_l
 use Rattle.c_resolved_program.specs.Leaves.{argument_leaves, form_leaves, call_leaves, choice_leaves, expression_leaves, place_leaves, pointer_leaves, term_leaves}
 use Rattle.c_resolved_program.proofs.Walks.{IfAny}
 use Rattle.c_resolved_program.proofs.Pieces.{AreText}
-use Rattle.c_resolved_program.proofs.Trees.{all_left}
 
 -- ---- arguments
 
@@ -48,7 +47,7 @@ argument_valid x valid = valid_layer (out-Argument x)
 each_valid : (list : List ArgumentTree) → AreValid (all_of (map argument_leaves list)) → AllByRecursion (λ x. AreValid (argument_leaves x)) list
 each_valid [] valid = tt
 each_valid (x ∷ list) valid =
-    (all_left _ (argument_leaves x) (all_of (map argument_leaves list)) valid, each_valid list (all_back _ (argument_leaves x) (all_of (map argument_leaves list)) valid))
+    (all_front _ (argument_leaves x) (all_of (map argument_leaves list)) valid, each_valid list (all_back _ (argument_leaves x) (all_of (map argument_leaves list)) valid))
 
 operand_valid : (offset : ℕ) (operand : Option ExpressionTree) → let y : Pointer-F ArgumentTree FormTree CallTree ChoiceTree ExpressionTree PlaceTree PointerTree TermTree = record
     { offset = offset; operand = operand } in

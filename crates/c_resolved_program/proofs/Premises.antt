@@ -1,22 +1,17 @@
 -- The two premises of the law of programs that trees spell, for the tree of a text's tokens.
-use Rattle.std.proofs.Common.{◌≡◌, refl, sym, ap, subst, ◌∙◌, ℕ, suc, ◌+◌, ◌<◌, ◌≤◌, List, [], ◌∷◌, length, Option, Some, None, arith}
-use Rattle.std.specs.Prelude.{◌^◌, fold, slice_get}
+use Rattle.std.proofs.Common.{◌≡◌, refl, sym, ap, subst, ℕ, suc, ◌+◌, ◌<◌, ◌≤◌, List, [], ◌∷◌, length, None, arith}
+use Rattle.std.specs.Prelude.{◌^◌}
 use Rattle.std.specs.List.{AllByRecursion}
-use Rattle.std.proofs.lemmas.List.{length-set}
 use Rattle.c_token.specs.declared.token.Token.{Token}
 use Rattle.grammar.specs.Rules.{Placed}
 use Rattle.grammar.specs.Sentences.{plain, SentenceWithin}
 use Rattle.c_tree.specs.declared.declaration.ExternalDeclaration.{ExternalDeclaration}
 use Rattle.c_tree.specs.declared.declaration.TranslationUnit.{TranslationUnit}
 use Rattle.c_tree.specs.Declarations.{unit}
-use Rattle.c_program.specs.declared.tree.ThreadObject.{ThreadObject}
 use Rattle.c_program.specs.Tree.{Function, Program}
-use Rattle.c_rules.specs.declared.fault.Fault.{Fault}
-use Rattle.c_rules.specs.declared.findings.Creation.{Creation}
 use Rattle.c_rules.specs.Walks.{Outcome}
 use Rattle.c_resolution.specs.Files.{File}
 use Rattle.c_resolution.specs.Texts.{declarations}
-use Rattle.c_resolution.specs.Routines as y
 use Rattle.c_resolution.specs.Resolving.{Spells, before, behind, program_at}
 use Rattle.c_resolved_program.specs.Leaves.{HasValidLeaves}
 use Rattle.c_resolved_program.specs.Laws.{IsNumbered}
@@ -25,6 +20,7 @@ use Rattle.c_resolved_program.proofs.Tokens.{IsValidToken}
 use Rattle.c_resolved_program.proofs.Texts.{AreTokens, AreFew}
 use Rattle.c_resolved_program.proofs.FileCounts.{IsSmall}
 use Rattle.c_resolved_program.proofs.DeclarationLeaves.{IsUnit, unit_gives}
+use Rattle.c_resolved_program.proofs.Lengths.{given_count}
 
 -- ---- the tokens with their nesting
 
@@ -66,20 +62,6 @@ small_behind : (tree : TranslationUnit) (h : IsFewTokens tree) → IsSmall (0 + 
 unfolding behind declarations
 small_behind tree h = h.unit.1 0 (Outcome.Gives tt (before tree.declarations)) (small_at_start tree.declarations)
 
-given_to_length : (c : Creation) (object : ThreadObject) (o : Option ℕ) (threads : List ThreadObject) → length (y.given_to c object o threads).0 ≡ length threads
-given_to_length c object None threads = length-set threads c.thread (record { length = object.length; routine = Some c.routine })
-given_to_length c object (Some routine) threads = refl
-
-given_at_length : (c : Creation) (o : Option ThreadObject) (threads : List ThreadObject) → length (y.given_at c o threads).0 ≡ length threads
-given_at_length c None threads = refl
-given_at_length c (Some object) threads = given_to_length c object object.routine threads
-
-all_given_length : (list : List Creation) (threads : List ThreadObject) (fault : Option Fault) → length (fold y.next_given (threads, fault) list).0 ≡ length threads
-all_given_length [] threads fault = refl
-all_given_length (c ∷ list) threads fault =
-    let next : y.Given = y.next_given (threads, fault) c in
-    all_given_length list next.0 next.1 ∙ given_at_length c (slice_get threads c.thread) threads
-
 all_less : (m n : ℕ) → m < n → (list : List Function) → AllByRecursion (λ (f : Function). length f.locals ≤ m) list → AllByRecursion (λ (f : Function). length f.locals < n) list
 all_less m n l [] all = tt
 all_less m n l (f ∷ list) all = (omega (arith, all.0, l), all_less m n l list all.1)
@@ -89,7 +71,7 @@ program_numbered x main n le h = record {
   functions = omega (arith, h.tables.functions, le);
   locals = all_less n (2 ^ 32) le x.tables.functions h.tables.locals;
   globals = omega (arith, h.tables.globals, le);
-  threads = omega (arith, h.tables.threads, le, all_given_length x.found.creations x.tables.threads None);
+  threads = omega (arith, h.tables.threads, le, given_count x.found.creations x.tables.threads None);
   mutexes = omega (arith, h.tables.mutexes, le);
   barriers = omega (arith, h.tables.barriers, le);
 }

@@ -2,7 +2,7 @@
 use Rattle.std.proofs.Common.{◌≡◌, refl, sym, subst, ℕ, Bool, true, false, Option, Some, None}
 use Rattle.std.specs.Prelude.{not, if◌then◌else◌, Contains, ⊤}
 use Rattle.std.proofs.lemmas.Bool.{not-false}
-use Rattle.lists.proofs.Places.{in_none, all_back}
+use Rattle.lists.proofs.Places.{in_none, all_back, all_front}
 use Rattle.c_tree.specs.declared.expression.BinaryOperator.{BinaryOperator}
 use Rattle.c_tree.specs.declared.expression.Argument.TheOpen.{Form-F}
 use Rattle.c_tree.specs.declared.expression.Form.{out-Form}
@@ -41,7 +41,7 @@ use Rattle.c_resolved_program.proofs.Walks.{Shows, shows_pure, shows_then, shows
 use Rattle.c_resolved_program.proofs.Known.{Is}
 use Rattle.c_resolved_program.proofs.Arguments.{target_shows, pointer_value_shows}
 use Rattle.c_resolved_program.proofs.Calls as k
-use Rattle.c_resolved_program.proofs.Trees.{value_shows, all_left}
+use Rattle.c_resolved_program.proofs.Trees.{value_shows}
 
 comparison_by : (b : Bool) (o : ResolvedBinary) → r.is_comparison o ≡ b → IfAny (λ o. r.is_comparison o ≡ false) (if b then None else Some o)
 comparison_by true o is = tt
@@ -131,7 +131,7 @@ module _ (whole : Findings) (P : Program) (number : ℕ) (f : Function) (s : Sco
 
   simple_form_shows : (at : ℕ) (x : SimpleForm) → AreValid (simple_form_leaves x) → Shows whole Now InOrder (y.simple_form s at x)
   simple_form_shows at (form.Assign q o e) valid =
-      assign_shows at q o e (all_left _ (place_leaves q) (expression_leaves e) valid) (all_back _ (place_leaves q) (expression_leaves e) valid)
+      assign_shows at q o e (all_front _ (place_leaves q) (expression_leaves e) valid) (all_back _ (place_leaves q) (expression_leaves e) valid)
   simple_form_shows at (form.Step q way) valid = step_shows at q way valid
   simple_form_shows at (form.Call x) valid = k.call_shows whole P number f s given_routines in_loop (place_in_tree at) x valid
 

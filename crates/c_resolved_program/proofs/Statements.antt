@@ -3,7 +3,7 @@ use Rattle.std.proofs.Common.{◌≡◌, refl, sym, ap, subst, ℕ, ◌≤◌, B
 use Rattle.std.specs.Prelude.{◌+◌, ◌-◌, ◌^◌, min, nat_eq, ⊤}
 use Rattle.std.specs.List.{AllByRecursion}
 use Rattle.std.proofs.lemmas.Bool.{both_ways}
-use Rattle.lists.proofs.Places.{all_back}
+use Rattle.lists.proofs.Places.{all_back, all_front}
 use denote.Hole.Holds.{Such}
 use Rattle.c_tree.specs.declared.expression.Expression.{Expression as ExpressionTree}
 use Rattle.c_tree.specs.declared.statement.SimpleStatement.{SimpleStatement}
@@ -33,7 +33,7 @@ use Rattle.c_resolved_program.specs.Leaves.{item_layer, statement_layer, block_l
 use Rattle.c_resolved_program.specs.Orders.{left, given, IsInOrder, IsAhead, Holds, GivesRoutines}
 use Rattle.c_resolved_program.proofs.Walks.{shows_pure, shows_as, shows_if, turn, all_more}
 use Rattle.c_resolved_program.proofs.Calls as k
-use Rattle.c_resolved_program.proofs.Trees.{condition_shows, all_left}
+use Rattle.c_resolved_program.proofs.Trees.{condition_shows}
 use Rattle.c_resolved_program.proofs.Simple.{simple_shows, returned_shows}
 use Rattle.c_resolved_program.proofs.Steps.{Does, does_pure, does_then, does_as, does_finding, does_finding_in, does_opened, does_closed, does_through}
 use Rattle.c_resolved_program.proofs.Locals.{declaration_does}
@@ -236,7 +236,7 @@ module _ (whole : Findings) (P : Program) (number : ℕ) (f : Function) (given_r
   each_item b [] valid = tt
   each_item b (x ∷ list) valid =
       let more = all_of (map item_leaves (map (λ e. e.0) list)) in
-      (x.1.does (all_left _ (item_leaves x.0) more valid) b, each_item b list (all_back _ (item_leaves x.0) more valid))
+      (x.1.does (all_front _ (item_leaves x.0) more valid) b, each_item b list (all_back _ (item_leaves x.0) more valid))
 
   each_moves : (list : List SomeBlockItem) → AllByRecursion (λ (w : Adds). (steps : List Statement) → m.IsMoving (w steps)) (map item (map (λ e. e.0) list))
   each_moves [] = tt
@@ -293,10 +293,10 @@ module _ (whole : Findings) (P : Program) (number : ℕ) (f : Function) (given_r
         stays = m.staying_then (finding (λ s. condition s test)) next (m.staying_finding (λ s. condition s test))
             (λ c. m.staying_then consequent (last c) h.stays (λ x. m.staying_then alternative (λ z. pure (y.if_of c x z)) k.stays (λ z. m.staying_pure (y.if_of c x z))));
         does = λ valid b.
-            let first = all_left _ (expression_leaves test) (leaves ++ others) valid in
+            let first = all_front _ (expression_leaves test) (leaves ++ others) valid in
             let more = all_back _ (expression_leaves test) (leaves ++ others) valid in
             does_then (finding (λ s. condition s test)) next (condition_does b test first)
-            (λ c. does_then consequent (last c) (does_as consequent (λ _. tt) (λ _ _ is. is) (h.does (all_left _ leaves others more) b))
+            (λ c. does_then consequent (last c) (does_as consequent (λ _. tt) (λ _ _ is. is) (h.does (all_front _ leaves others more) b))
             (λ x. does_then alternative (λ z. pure (y.if_of c x z)) (does_as alternative (λ _. tt) (λ _ _ is. is) (k.does (all_back _ leaves others more) b))
             (λ z. does_pure (y.if_of c x z) (λ d. q.if_is whole P number f b c x z d.0.0.1 d.0.1 d.1))));
       }
@@ -312,7 +312,7 @@ module _ (whole : Findings) (P : Program) (number : ℕ) (f : Function) (given_r
         stays = m.staying_then (finding (λ s. condition s test)) next (m.staying_finding (λ s. condition s test))
             (λ c. m.staying_then (y.loop_body body) (λ x. pure (y.while_of c x)) (m.in_loop_body body h.stays) (λ x. m.staying_pure (y.while_of c x)));
         does = λ valid b.
-            does_then (finding (λ s. condition s test)) next (condition_does b test (all_left _ (expression_leaves test) leaves valid))
+            does_then (finding (λ s. condition s test)) next (condition_does b test (all_front _ (expression_leaves test) leaves valid))
             (λ c. does_then (y.loop_body body) (λ x. pure (y.while_of c x)) (loop_body_does b body h.stays (h.does (all_back _ (expression_leaves test) leaves valid) true))
             (λ x. does_pure (y.while_of c x) (λ d. q.while_is whole P number f b c x d.0.1 d.1)));
       }
@@ -325,7 +325,7 @@ module _ (whole : Findings) (P : Program) (number : ℕ) (f : Function) (given_r
             (λ x. m.staying_then (finding (λ s. condition s test)) (λ c. pure (y.do_while_of x c)) (m.staying_finding (λ s. condition s test))
             (λ c. m.staying_pure (y.do_while_of x c)));
         does = λ valid b.
-            does_then (y.loop_body body) next (loop_body_does b body h.stays (h.does (all_left _ leaves (expression_leaves test) valid) true))
+            does_then (y.loop_body body) next (loop_body_does b body h.stays (h.does (all_front _ leaves (expression_leaves test) valid) true))
             (λ x. does_then (finding (λ s. condition s test)) (λ c. pure (y.do_while_of x c)) (condition_does b test (all_back _ leaves (expression_leaves test) valid))
             (λ c. does_pure (y.do_while_of x c) (λ d. q.do_while_is whole P number f b x c d.0.1 d.1)));
       }
@@ -342,11 +342,11 @@ module _ (whole : Findings) (P : Program) (number : ℕ) (f : Function) (given_r
         does = λ valid b.
             let rest = of_any expression_leaves test ++ (of_any simple_leaves step ++ leaves) in
             let last = of_any simple_leaves step ++ leaves in
-            let h0 = all_left _ (start_leaves begin) rest valid in
+            let h0 = all_front _ (start_leaves begin) rest valid in
             let v1 = all_back _ (start_leaves begin) rest valid in
-            let h1 = all_left _ (of_any expression_leaves test) last v1 in
+            let h1 = all_front _ (of_any expression_leaves test) last v1 in
             let v2 = all_back _ (of_any expression_leaves test) last v1 in
-            let h2 = all_left _ (of_any simple_leaves step) leaves v2 in
+            let h2 = all_front _ (of_any simple_leaves step) leaves v2 in
             let h3 = all_back _ (of_any simple_leaves step) leaves v2 in
             does_then (scoping opened) (λ _. y.for_head begin test step >>= next) does_opened
             (λ _. does_then (y.for_head begin test step) next (for_head_does b begin test step h0 h1 h2)

@@ -18,6 +18,7 @@ use Rattle.c_resolved_program.proofs.Meanings.{AreConstants, IsAction, IsEffect,
 use Rattle.c_resolved_program.proofs.Lexemes.{facts}
 use Rattle.c_resolved_program.specs.Leaves.{IsValidConstant}
 use Rattle.c_resolved_program.proofs.Walks.{IfAny}
+use Rattle.c_lexer.proofs.Whole.{count_more}
 
 abbrev pub AreTokens : List Token → Type 0
 AreTokens ts = AllByRecursion IsValidToken ts
@@ -48,12 +49,6 @@ unfolding start
 none_at_start = tt
 
 -- ---- how many
-
-count_more : (at : ℕ) (a : Action) (ts : List Token) → length (with_token at a ts) ≡ length (with_token 0 a []) + length ts
-count_more at action.Nothing ts = omega arith
-count_more at (action.Token k) ts = omega arith
-count_more at action.Name ts = omega arith
-count_more at (action.Value n) ts = omega arith
 
 not_passed : (n : ℕ) (b : Bool) (o : Option Passed) (x : Passed) → nat_lt n max_tokens ≡ b → (if b then o else Some x) ≡ None → n < max_tokens
 not_passed n true o x is e = ltb-true n max_tokens is

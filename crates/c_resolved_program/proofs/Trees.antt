@@ -1,7 +1,7 @@
 -- What each tree of an expression gives, in a scope that is in order, where its leaves are valid.
-use Rattle.std.proofs.Common.{◌≡◌, sym, subst, ℕ, List, [], ◌∷◌, ◌++◌, map, Option, Some, None}
+use Rattle.std.proofs.Common.{◌≡◌, sym, subst, ℕ, List, [], ◌∷◌, map, Option, Some, None}
 use Rattle.std.specs.List.{AllByRecursion}
-use Rattle.lists.proofs.Places.{all_back}
+use Rattle.lists.proofs.Places.{all_back, all_front}
 use denote.Hole.Holds.{Such}
 use Rattle.c_tree.specs.declared.expression.Argument.{Argument as ArgumentTree, roll-Argument}
 use Rattle.c_tree.specs.declared.expression.Name.{Name}
@@ -33,10 +33,6 @@ use Rattle.c_resolved_program.proofs.Known.{Is, IsIndex}
 use Rattle.c_resolved_program.proofs.Layers as l
 
 -- ---- parts of valid leaves
-
-pub all_left : {A : Type 0} (Is : A → Type 0) (xs ys : List A) → AllByRecursion Is (xs ++ ys) → AllByRecursion Is xs
-all_left Is [] ys all = tt
-all_left Is (x ∷ xs) ys all = (all.0, all_left Is xs ys all.1)
 
 module _ (whole : Findings) (P : Program) (number : ℕ) (f : Function) (s : Scope) where
   abbrev formed : FormTree → Formed
@@ -107,7 +103,7 @@ module _ (whole : Findings) (P : Program) (number : ℕ) (f : Function) (s : Sco
       (map (term s) (map (λ e. e.0) list))
   are_terms [] valid = tt
   are_terms (x ∷ list) valid = (
-    x.1 (all_left _ (term_leaves x.0) (all_of (map term_leaves (map (λ e. e.0) list))) valid),
+    x.1 (all_front _ (term_leaves x.0) (all_of (map term_leaves (map (λ e. e.0) list))) valid),
     are_terms list (all_back _ (term_leaves x.0) (all_of (map term_leaves (map (λ e. e.0) list))) valid),
   )
 
@@ -115,7 +111,7 @@ module _ (whole : Findings) (P : Program) (number : ℕ) (f : Function) (s : Sco
       (map (choice s) (map (λ e. e.0) list))
   are_choices [] valid = tt
   are_choices (x ∷ list) valid = (
-    x.1 (all_left _ (choice_leaves x.0) (all_of (map choice_leaves (map (λ e. e.0) list))) valid),
+    x.1 (all_front _ (choice_leaves x.0) (all_of (map choice_leaves (map (λ e. e.0) list))) valid),
     are_choices list (all_back _ (choice_leaves x.0) (all_of (map choice_leaves (map (λ e. e.0) list))) valid),
   )
 
@@ -123,7 +119,7 @@ module _ (whole : Findings) (P : Program) (number : ℕ) (f : Function) (s : Sco
       (map (argument s) (map (λ e. e.0) list))
   are_arguments [] valid = tt
   are_arguments (x ∷ list) valid = (
-    x.1 (all_left _ (argument_leaves x.0) (all_of (map argument_leaves (map (λ e. e.0) list))) valid),
+    x.1 (all_front _ (argument_leaves x.0) (all_of (map argument_leaves (map (λ e. e.0) list))) valid),
     are_arguments list (all_back _ (argument_leaves x.0) (all_of (map argument_leaves (map (λ e. e.0) list))) valid),
   )
 
@@ -258,10 +254,10 @@ module _ (whole : Findings) (P : Program) (number : ℕ) (f : Function) (s : Sco
   form_parts (Form-F.Cast words x) valid = x.1 valid
   form_parts (Form-F.Binary first terms) valid =
       let more = all_of (map term_leaves (map (λ e. e.0) terms)) in
-      (first.1 (all_left _ (expression_leaves first.0) more valid), are_terms terms (all_back _ (expression_leaves first.0) more valid))
+      (first.1 (all_front _ (expression_leaves first.0) more valid), are_terms terms (all_back _ (expression_leaves first.0) more valid))
   form_parts (Form-F.Conditional first choices) valid =
       let more = all_of (map choice_leaves (map (λ e. e.0) choices)) in
-      (first.1 (all_left _ (expression_leaves first.0) more valid), are_choices choices (all_back _ (expression_leaves first.0) more valid))
+      (first.1 (all_front _ (expression_leaves first.0) more valid), are_choices choices (all_back _ (expression_leaves first.0) more valid))
 
   argument_parts : (y : Argument-F SomeArgument SomeForm SomeCall SomeChoice SomeExpression SomePlace SomePointer SomeTerm) →
       AreValid (argument_layer (leaves_in_argument (seen_argument y))) → l.AreArgument whole P number f s (parts_in_argument (seen_argument y))
@@ -330,7 +326,7 @@ module _ (whole : Findings) (P : Program) (number : ℕ) (f : Function) (s : Sco
   choice_case : (y : Choice-F SomeArgument SomeForm SomeCall SomeChoice SomeExpression SomePlace SomePointer SomeTerm) →
       AreValid (choice_layer (leaves_in_choice (seen_choice y))) → l.IsLooked whole P number f s (choice_step s (parts_in_choice (seen_choice y)))
   choice_case y valid = l.choice_is whole P number f s (parts_in_choice (seen_choice y)) (y.condition.1
-      (all_left _ (expression_leaves y.condition.0) (expression_leaves y.otherwise.0) valid))
+      (all_front _ (expression_leaves y.condition.0) (expression_leaves y.otherwise.0) valid))
       (y.otherwise.1 (all_back _ (expression_leaves y.condition.0) (expression_leaves y.otherwise.0) valid))
 
   choice_induct : (x : Choice-F ArgumentTree FormTree CallTree ChoiceTree ExpressionTree PlaceTree PointerTree TermTree)
