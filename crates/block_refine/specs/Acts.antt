@@ -1,7 +1,6 @@
 -- What the acts of the code of a thread are to the program: the steps of the thread that are no moves.
-use Rattle.std.specs.Prelude.{◌≡◌, ◌≢◌, ℕ, List, [], ◌∷◌, ◌++◌, map, length, ℤ, decimal, true, false, if◌then◌else◌}
+use Rattle.std.specs.Prelude.{◌≡◌, ◌≢◌, ℕ, List, [], ◌∷◌, ◌++◌, length, ℤ, decimal, true, false, if◌then◌else◌}
 use Rattle.std.specs.Fmt.{signed_decimal}
-use Rattle.hls_ints.specs.Residues.{residue_of}
 use Rattle.hls_ints.specs.Words.{signed_word}
 use Rattle.c_program.specs.Tree.{Piece, Program}
 use Rattle.thread_semantics.specs.State.{State}
@@ -9,7 +8,7 @@ use Rattle.thread_semantics.specs.Step.{printed, is_live}
 use Rattle.block_ir.specs.declared.code.ActOperand.{ActOperand}
 use Rattle.interleaving.specs.Source.{Undefined}
 use Rattle.race_model.specs.Source.{local_of, c_source}
-use Rattle.block_ir.specs.Asked.{act_value}
+use Rattle.block_ir.specs.Asked.{operand_words}
 use Rattle.code_following.specs.Following.{AreValues, conversions_of, converted_values}
 
 -- the next step of thread i, if it lives, is not undefined
@@ -26,10 +25,6 @@ pub record KeepsOthers (s : State) (i : ℕ) (t : State) : Type 0 where
 
 -- ---- a printf
 
--- the operands as words of 64 bits
-abbrev pub words_of : (ℕ → ℤ) → List ActOperand → List ℕ
-words_of variables values = map (λ (o : ActOperand). residue_of 64 (act_value variables o)) values
-
 -- what the format prints of words of 64 bits: the number that a word spells in two's complement where the conversion is
 -- signed, and the word itself where it is not
 abbrev pub printed_words : List Piece → List ℕ → List ℕ
@@ -42,4 +37,4 @@ printed_words (Piece.Conversion ty ∷ pieces) (w ∷ ws) = (if ty.signed then s
 abbrev pub WordsPrint : Type 0
 WordsPrint =
     (variables : ℕ → ℤ) (values : List ActOperand) (format : List Piece) (operands : List ℤ) →
-    AreValues variables values (converted_values (conversions_of format) operands) → printed format operands ≡ printed_words format (words_of variables values)
+    AreValues variables values (converted_values (conversions_of format) operands) → printed format operands ≡ printed_words format (operand_words variables values)

@@ -1,11 +1,9 @@
 -- A printf is always granted, and the printer has its bytes.
-use Rattle.std.specs.Prelude.{Bool, true, false, if◌then◌else◌, decimal, ℤ, Option, Some, slice_get, slice_set}
+use Rattle.std.specs.Prelude.{Bool, true, false, if◌then◌else◌, ℤ, Option, Some, slice_get, slice_set}
 use Rattle.std.specs.List.{list_any}
-use Rattle.std.specs.Fmt.{signed_decimal}
-use Rattle.std.proofs.Common.{◌≡◌, ◌≢◌, ℕ, List, [], ◌∷◌, ◌++◌, refl, sym, ap, ◌∙◌, subst, arith}
+use Rattle.std.proofs.Common.{◌≡◌, ◌≢◌, ℕ, List, ◌++◌, refl, sym, ap, ◌∙◌, subst, arith}
 use Rattle.std.proofs.lemmas.Option.{slice_get_within}
 use Rattle.lists.proofs.Places.{set_there, set_elsewhere}
-use Rattle.hls_ints.specs.Words.{signed_word}
 use Rattle.c_program.specs.Tree.{Piece, Program}
 use Rattle.c_program.specs.Resolved.{IsResolved}
 use Rattle.thread_semantics.specs.State.{Running, State}
@@ -18,22 +16,13 @@ use Rattle.block_ir.specs.declared.code.ActOperand.{ActOperand}
 use Rattle.race_model.specs.Source.{Local, local_of, running, outcome_of}
 use Rattle.code_following.specs.Following.{print_formats, SameAct}
 use Rattle.block_ir.specs.Asked.{Asked, Prints, operand_words, Numbers, mutex_core, barrier_core, ids_core, printer_core}
-use Rattle.law_threads.specs.Cores.{Core, OfPrinter, may_grant, printed_words, text_at, status_in, argument_in, waits_in}
+use Rattle.law_threads.specs.Cores.{Core, OfPrinter, may_grant, text_at, status_in, argument_in, waits_in}
 use Rattle.block_refine.specs.Routines.{Codes, Starts}
 use Rattle.block_refine.specs.RoutineActs.{IsStepOf}
 use Rattle.law_threads.specs.Requests.{AreNumbers, StandsAtAct, Serves, Same, cores_after}
 use Rattle.law_threads.proofs.ActByAct.{RequestIsStep}
 use Rattle.law_threads.proofs.Common.{status_kept, other_core, same_core}
-use Rattle.block_refine.specs.Acts as acts
 use Rattle.block_refine.proofs.Words.{words_print}
-
--- the text of words by either definition
-same_text : (format : List Piece) (ws : List ℕ) → acts.printed_words format ws ≡ printed_words format ws
-same_text [] ws = refl
-same_text (Piece.Text bytes ∷ pieces) ws = ap (λ (rest : List ℕ). bytes ++ rest) (same_text pieces ws)
-same_text (Piece.Conversion ty ∷ pieces) [] = same_text pieces []
-same_text (Piece.Conversion ty ∷ pieces) (w ∷ ws) =
-    ap (λ (rest : List ℕ). (if ty.signed then signed_decimal (signed_word 64 w) else decimal w) ++ rest) (same_text pieces ws)
 
 module _ (P : Program) (codes : Codes) (N : Numbers) (T : ℕ) (R : IsResolved P) (numbers : AreNumbers P N T) (site : ℕ) (values : List ActOperand) (s : State) (i f l next : ℕ)
     (variables : ℕ → ℤ) (arrays : Memory ℤ) (c : ℕ → Core) (ask : Asked) (at : StandsAtAct P codes N T s i f l next variables arrays (act.Print site values) ask c)
@@ -139,7 +128,7 @@ module _ (P : Program) (codes : Codes) (N : Numbers) (T : ℕ) (R : IsResolved P
           Serves P codes N T s i f next variables arrays (act.Print site values) ask c
       go (Act.Print format) same e =
           subst (λ z. Serves P codes N T s i f next variables arrays (act.Print site values) z c) same_ask
-          (prints format step_of.operands same.0 (words_print variables values format step_of.operands same.1 ∙ same_text format (operand_words variables values)) e)
+          (prints format step_of.operands same.0 (words_print variables values format step_of.operands same.1) e)
       go a same e = absurd same
 
 pub prints_are_steps : (site : ℕ) (values : List ActOperand) → RequestIsStep (act.Print site values)

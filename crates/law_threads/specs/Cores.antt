@@ -1,10 +1,9 @@
 -- The cores as the theory of planned hardware has them, by the machine's numbers: when one may grant what an act asks, what a grant does, and
 -- what a thread is told.
-use Rattle.std.specs.Prelude.{ℕ, Bool, true, false, nat_eq, nat_lt, if◌then◌else◌, List, [], ◌∷◌, ◌++◌, decimal, Option, Some, None, slice_get, slice_index}
-use Rattle.std.specs.Fmt.{signed_decimal}
-use Rattle.hls_ints.specs.Words.{signed_word}
+use Rattle.std.specs.Prelude.{ℕ, Bool, true, false, nat_eq, nat_lt, if◌then◌else◌, List, [], ◌++◌, Option, Some, None, slice_get, slice_index}
 use Rattle.c_program.specs.Tree.{Piece}
 use Rattle.block_ir.specs.Asked.{Asked, Numbers, barrier_core, ids_core, first_word, second_word}
+pub use Rattle.block_refine.specs.Acts.{printed_words}
 use Rattle.core_states.specs.Machines.{Lock, lock_eligible, lock_after, Gate, gate_eligible, gate_after, IdTable, ids_eligible, ids_after}
 
 -- of a bank nothing is said: what banks have is the memory and the words of slots
@@ -16,14 +15,6 @@ pub data Core : Type 0 where
   OfPrinter : (bytes : List ℕ) → Core
 
 -- ---- what is granted, and what a grant does
-
--- what a format prints of words of 64 bits: the number that a word spells in two's complement where the conversion is
--- signed, and the word itself where it is not
-abbrev pub printed_words : List Piece → List ℕ → List ℕ
-printed_words [] ws = []
-printed_words (Piece.Text bytes ∷ pieces) ws = bytes ++ printed_words pieces ws
-printed_words (Piece.Conversion ty ∷ pieces) [] = printed_words pieces []
-printed_words (Piece.Conversion ty ∷ pieces) (w ∷ ws) = (if ty.signed then signed_decimal (signed_word 64 w) else decimal w) ++ printed_words pieces ws
 
 -- where there is such a format
 abbrev pub text_at : Option (List Piece) → List ℕ → List ℕ
