@@ -47,7 +47,7 @@ use Rattle.netlist_text.proofs.Ties.{connections_right}
 use Rattle.netlist_text.proofs.Initials.{place_decides, constants_new, register_given, word_given, constants_right, words_known}
 use Rattle.netlist_text.proofs.Fronts.{split_at, any_front, each_append, each_at, each_flat, each_map, each_block}
 
-positive : (w : ℕ) → 1 ≤ w → nat_lt 0 w ≡ true
+pub positive : (w : ℕ) → 1 ≤ w → nat_lt 0 w ≡ true
 positive w h = grind (arith, nat_tests)
 
 module _ (all before : List Module) (m : Module) (known : AreBefore all before) (fits : IsLaidModule before m) (ok : IsSoundModule m before) (f : Facts) (knows : KnowsModules f.modules before)

@@ -57,7 +57,7 @@ front_step : (k : Interface) (mods ys : List Interface) (z : Name) (x : Interfac
 front_step k mods ys z x next true h = h
 front_step k mods ys z x next false h = next h
 
-named_front : (mods ys : List Interface) (z : Name) (x : Interface) → interface_named mods z ≡ Some x → interface_named (mods ++ ys) z ≡ Some x
+pub named_front : (mods ys : List Interface) (z : Name) (x : Interface) → interface_named mods z ≡ Some x → interface_named (mods ++ ys) z ≡ Some x
 named_front [] ys z x h = absurd (none-some x h)
 named_front (k ∷ mods) ys z x h = front_step k mods ys z x (named_front mods ys z x) (bytes_eq z k.name) h
 
@@ -66,7 +66,7 @@ back_step : (k : Interface) (mods ys : List Interface) (z : Name) → (interface
 back_step k mods ys z next true h = absurd (none-some k (sym h))
 back_step k mods ys z next false h = next h
 
-named_back : (mods ys : List Interface) (z : Name) → interface_named mods z ≡ None → interface_named (mods ++ ys) z ≡ interface_named ys z
+pub named_back : (mods ys : List Interface) (z : Name) → interface_named mods z ≡ None → interface_named (mods ++ ys) z ≡ interface_named ys z
 named_back [] ys z h = refl
 named_back (k ∷ mods) ys z h = back_step k mods ys z (named_back mods ys z) (bytes_eq z k.name) h
 

@@ -1,10 +1,9 @@
 -- The ports of a module are well formed, and a module with something clocked has the clock.
-use Rattle.std.proofs.Common.{◌≡◌, ℕ, ◌<◌, ◌≤◌, List, [], ◌∷◌, ◌++◌, Bool, true, false, Some, refl, sym, ap, ◌∙◌, inl, inr, length, map, arith}
+use Rattle.std.proofs.Common.{◌≡◌, ℕ, ◌<◌, List, [], ◌∷◌, ◌++◌, Bool, true, false, Some, refl, sym, ap, ◌∙◌, inl, inr, length, map, arith}
 use Rattle.std.specs.Prelude.{slice_get, is_some, not, nat_lt, ◌==◌, ◌&&◌, ◌||◌, if◌then◌else◌}
 use Rattle.std.specs.List.{flat_map, list_any}
 use Rattle.std.specs.Str.{bytes_eq}
 use Rattle.std.proofs.lemmas.Bool.{eq-eqb}
-use Rattle.std.proofs.lemmas.Bool.Decides.{nat_tests}
 use Rattle.std.proofs.lemmas.Option.{slice_get_within}
 use Rattle.std.proofs.lemmas.Slice.Eq.{bytes_eq-Decides}
 use Rattle.lists.proofs.Places.{get_front}
@@ -12,7 +11,7 @@ use Rattle.verilog_tree.specs.declared.tree.Port.{Port}
 use Rattle.verilog_tree.specs.declared.tree.Item.TheVariants as i
 use Rattle.verilog_tree.specs.Grammar.{clk}
 use Rattle.verilog_tree.specs.Scope as scope
-use Rattle.verilog_tree.specs.Scope.{Name, Scope, is_known, is_clk, kind_of, port_declaration}
+use Rattle.verilog_tree.specs.Scope.{Name, Scope, is_clk, kind_of, port_declaration}
 use Rattle.verilog_tree.specs.Rules.{port_named, has_port}
 use Rattle.verilog_tree.specs.Facts.{Facts, Interface, ports_of, after, after_port, with_declaration, head_facts}
 use Rattle.verilog_tree.specs.WellFormed.{EachAfter, IsPort, is_clocked}
@@ -33,14 +32,11 @@ use Rattle.netlist_text.proofs.Widths.{IsPlain, width_of_high, no_clock_assigned
 use Rattle.netlist_text.proofs.Interfaces.{KnowsModules, port_from, port_found}
 use Rattle.netlist_text.proofs.Drives.{assigned_known, port_known}
 use Rattle.netlist_text.proofs.Fronts.{split_at, any_front, each_flat}
-use Rattle.netlist_text.proofs.Formed.{whole, plain}
+use Rattle.netlist_text.proofs.Formed.{whole, plain, positive}
 
 pub implied : (a b : Bool) → (a ≡ true → b ≡ true) → (not a || b) ≡ true
 implied true b h = h refl
 implied false b h = refl
-
-positive : (w : ℕ) → 1 ≤ w → nat_lt 0 w ≡ true
-positive w h = grind (arith, nat_tests)
 
 module _ (all before : List Module) (m : Module) (known : AreBefore all before) (fits : IsLaidModule before m) (ok : IsSoundModule m before) (f : Facts) (knows : KnowsModules f.modules before)
     (plain_before : (j : ℕ) (x : Module) → slice_get before j ≡ Some x → (k : ℕ) (s : Signal) → slice_get x.signals k ≡ Some s → IsPlain s) where

@@ -26,7 +26,7 @@ use Rattle.netlist_text.proofs.Places.{get_either}
 use Rattle.netlist_text.proofs.Members.{In, Entry, in_none, in_cons, in_one, in_front, in_back, in_either, in_unmap, in_unflat}
 use Rattle.well_formed_net.proofs.Tests.{both}
 use Rattle.well_formed_net.proofs.Lists.{some_in}
-use Rattle.well_formed_net.proofs.Declarations.{new_by, with_comes, after_kept}
+use Rattle.well_formed_net.proofs.Declarations.{new_by, with_comes, after_kept, of_port}
 use Rattle.well_formed_net.proofs.Signals.{IsTold, told, told_kind, class_of, inner_declarations}
 
 -- ---- names that stand apart
@@ -102,9 +102,6 @@ map_some h (Some a) ys = refl
 map_flat : {A B C : Type 0} (h : B → C) (g : A → Option B) (xs : List A) → map h (flat_map (λ x. n.some (g x)) xs) ≡ flat_map (λ x. n.some (option_map h (g x))) xs
 map_flat h g [] = refl
 map_flat h g (x ∷ xs) = map_some h (g x) (flat_map (λ y. n.some (g y)) xs) ∙ ap (λ l. n.some (option_map h (g x)) ++ l) (map_flat h g xs)
-
-abbrev of_port : Port → Option Entry
-of_port p = Some (port_declaration p)
 
 abbrev name_of : n.Declaration → Name
 name_of d = d.name

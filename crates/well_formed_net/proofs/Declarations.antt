@@ -107,7 +107,7 @@ module _ {A : Type 0} (step : Facts → A → Facts) (declares : A → Option En
     | inr p ↦ inr (record { at = suc p.at; x = p.x; found = p.found; entry = p.entry; declared = p.declared; name = p.name; kind = p.kind })
   ]
 
-abbrev of_port : Port → Option Entry
+abbrev pub of_port : Port → Option Entry
 of_port p = Some (port_declaration p)
 
 port_step : (f : Facts) (p : Port) → (after_port f p).scope ≡ after_declaration f.scope (of_port p)

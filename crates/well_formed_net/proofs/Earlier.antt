@@ -11,31 +11,14 @@ use Rattle.verilog_tree.specs.Facts.{Facts, Interface, interface_named, interfac
 use Rattle.netlist.specs.declared.netlist.Module as netlist_module
 use Rattle.netlist.specs.NetlistOf as n
 use Rattle.netlist.specs.NetlistOf.{place}
+use Rattle.netlist_text.proofs.NetFormed.{named_front, named_back}
 
 -- ---- interfaces by name
-
-kept_by : (k : Interface) (xs ys : List Interface) (z : Name) (x : Interface) → (interface_named xs z ≡ Some x → interface_named (xs ++ ys) z ≡ Some x) → (b : Bool)
-    → (if b then Some k else interface_named xs z) ≡ Some x → (if b then Some k else interface_named (xs ++ ys) z) ≡ Some x
-kept_by k xs ys z x next true e = e
-kept_by k xs ys z x next false e = next e
-
-named_kept : (xs ys : List Interface) (z : Name) (x : Interface) → interface_named xs z ≡ Some x → interface_named (xs ++ ys) z ≡ Some x
-named_kept [] ys z x e = absurd (none-some x e)
-named_kept (k ∷ xs) ys z x e = kept_by k xs ys z x (named_kept xs ys z x) (bytes_eq z k.name) e
-
-none_by : (k : Interface) (xs ys : List Interface) (z : Name) → (interface_named xs z ≡ None → interface_named (xs ++ ys) z ≡ interface_named ys z) → (b : Bool)
-    → (if b then Some k else interface_named xs z) ≡ None → (if b then Some k else interface_named (xs ++ ys) z) ≡ interface_named ys z
-none_by k xs ys z next true e = absurd (none-some k (sym e))
-none_by k xs ys z next false e = next e
-
-pub named_none : (xs ys : List Interface) (z : Name) → interface_named xs z ≡ None → interface_named (xs ++ ys) z ≡ interface_named ys z
-named_none [] ys z e = refl
-named_none (k ∷ xs) ys z e = none_by k xs ys z (named_none xs ys z) (bytes_eq z k.name) e
 
 -- what is known of a module stays known
 pub modules_kept : (ms : List Module) (f : Facts) (z : Name) (x : Interface) → interface_named f.modules z ≡ Some x → interface_named (after after_module f ms).modules z ≡ Some x
 modules_kept [] f z x e = e
-modules_kept (m ∷ ms) f z x e = modules_kept ms (after_module f m) z x (named_kept f.modules (interface_of f.modules m ∷ []) z x e)
+modules_kept (m ∷ ms) f z x e = modules_kept ms (after_module f m) z x (named_front f.modules (interface_of f.modules m ∷ []) z x e)
 
 -- the module of a name, and what instances of it see
 pub record IsEarlier (f : Facts) (ms : List Module) (z : Name) (x : Interface) : Type 0 where
@@ -56,7 +39,7 @@ module _ (m : Module) (ms : List Module) (f : Facts) (z : Name) (x : Interface) 
   earlier_by : interface_named f.modules z ≡ None → interface_named (after after_module (after_module f m) ms).modules z ≡ Some x → (b : Bool) → bytes_eq z m.name ≡ b
       → (interface_named (f.modules ++ mine ∷ []) z ≡ None → IsEarlier (after_module f m) ms z x) → IsEarlier f (m ∷ ms) z x
   earlier_by none e true q next =
-      let here : interface_named (f.modules ++ mine ∷ []) z ≡ Some mine = named_none f.modules (mine ∷ []) z none ∙ ap (λ b. if b then Some mine else None) q in
+      let here : interface_named (f.modules ++ mine ∷ []) z ≡ Some mine = named_back f.modules (mine ∷ []) z none ∙ ap (λ b. if b then Some mine else None) q in
       record {
         number = 0;
         place_is = place_at true q;
@@ -66,7 +49,7 @@ module _ (m : Module) (ms : List Module) (f : Facts) (z : Name) (x : Interface) 
         is = same_Some x mine (sym e ∙ modules_kept ms (after_module f m) z mine here);
       }
   earlier_by none e false q next =
-      let r = next (named_none f.modules (mine ∷ []) z none ∙ ap (λ b. if b then Some mine else None) q) in
+      let r = next (named_back f.modules (mine ∷ []) z none ∙ ap (λ b. if b then Some mine else None) q) in
       let number_is = r.place_is in
       let step : 1 + place (n.module_names ms) z ≡ suc r.number = omega (arith, number_is) in
       record { number = suc r.number; place_is = place_at false q ∙ step; of = r.of; listed = r.listed; name = r.name; is = r.is }

@@ -10,7 +10,8 @@ use Rattle.verilog_tree.specs.Scope.{Name}
 use Rattle.verilog_tree.specs.Facts.{Facts, Interface, interface_named, interface_of, nothing, after, after_module}
 use Rattle.verilog_tree.specs.WellFormed.{EachAfter, IsModule}
 use Rattle.well_formed_net.proofs.Lists.{each_at, each_take}
-use Rattle.well_formed_net.proofs.Earlier.{modules_kept, named_none}
+use Rattle.well_formed_net.proofs.Earlier.{modules_kept}
+use Rattle.netlist_text.proofs.NetFormed.{named_back}
 
 pub take_get : {A : Type 0} (xs : List A) (k i : ℕ) (x : A) → i < k → slice_get xs i ≡ Some x → slice_get (take k xs) i ≡ Some x
 take_get [] zero i x l e = absurd (none-some x e)
@@ -32,7 +33,7 @@ module _ (whole : Facts) where
       ≡ Some (interface_of f.modules m)
   here m ms f is =
       modules_kept ms (after_module f m) m.name (interface_of f.modules m)
-      (named_none f.modules (interface_of f.modules m ∷ []) m.name (none_of (interface_named f.modules m.name) is.new)
+      (named_back f.modules (interface_of f.modules m ∷ []) m.name (none_of (interface_named f.modules m.name) is.new)
       ∙ ap (λ b. if b then Some (interface_of f.modules m) else None) ((bytes_eq-Decides m.name m.name).1 refl))
 
   -- a module is the one of its name

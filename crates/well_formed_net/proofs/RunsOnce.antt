@@ -1,7 +1,8 @@
 -- Two runs of a net that settles each state in one way end alike.
-use Rattle.std.proofs.Common.{◌≡◌, ℕ, zero, suc, ◌<◌, ◌≤◌, Bool, false, List, [], Some, ap, arith, inl, inr, refl, sym, subst, ◌∙◌, ⊎_elim}
+use Rattle.std.proofs.Common.{◌≡◌, ℕ, ◌<◌, ◌≤◌, Bool, false, List, [], Some, ap, arith, sym, subst, ◌∙◌, ⊎_elim}
 use Rattle.std.specs.Prelude.{◌⊎◌, nat_eq}
 use Rattle.std.proofs.lemmas.Option.{same_Some}
+use Rattle.std.proofs.lemmas.Bool.{cases_order}
 use Rattle.netlist.specs.declared.netlist.Module.{Module}
 use Rattle.netlist.specs.NetlistOf.{netlist_of}
 use Rattle.verilog_meaning.specs.Names.{top_of}
@@ -16,13 +17,6 @@ use Rattle.well_formed_net.proofs.Right.{right}
 use Rattle.sim_layout.specs.Rounds.{IsGoing, Tells, prefs_of}
 use Rattle.cycle_sim.specs.Round.{IsRound, turns}
 use Rattle.well_formed_net.specs.ReadAgain.{RunsOnce}
-
-in_order : (n m : ℕ) → (n < m) ⊎ ((m < n) ⊎ (n ≡ m))
-in_order zero zero = inr (inr refl)
-in_order zero (suc m) = inl (omega arith)
-in_order (suc n) zero = inr (inl (omega arith))
-in_order (suc n) (suc m) =
-    ⊎_elim (λ a. inl (omega (arith, a))) (λ b. inr (⊎_elim (λ c. inl (omega (arith, c))) (λ d. inr (ap suc d)) b)) (in_order n m)
 
 module _ (modules : List Module) (top : Module) (is_top : top_of modules ≡ Some top) (threads most : ℕ) (determined : IsDetermined modules top threads)
     (statements : FitsStatements modules top) where
@@ -74,12 +68,12 @@ module _ (modules : List Module) (top : Module) (is_top : top_of modules ≡ Som
 
   once : (n k : ℕ) (done shown : Bool) (out more : List ℕ) → Ran n done out → Ran k shown more → (n ≡ k) × (done ≡ shown) × (out ≡ more)
   once n k done shown out more a b =
-      ⊎_elim (λ less. absurd (never_less n k done shown out more a b less))
-      (λ other. ⊎_elim (λ less. absurd (never_less k n shown done more out b a less))
+      ⊎_elim
       (λ same.
       let ends = alike n done shown out more a (subst (λ (x : ℕ). Ran x shown more) (sym same) b) in
-      (same, ends.0, ends.1)) other)
-      (in_order n k)
+      (same, ends.0, ends.1))
+      (λ other. ⊎_elim (λ less. absurd (never_less n k done shown out more a b less)) (λ less. absurd (never_less k n shown done more out b a less)) other)
+      (cases_order n k)
 
 pub runs_alike : RunsOnce
 runs_alike net top threads most formed is_top determined n k done shown out more a b =
