@@ -1,5 +1,5 @@
 -- States that differ in the order of the waiters at barriers and in the output alone: each thread's step does the same.
-use Rattle.std.proofs.Common.{◌≡◌, ℕ, zero, suc, ◌+◌, List, [], ◌∷◌, ◌++◌, length, refl, ap, ap₂, sym, ◌∙◌, subst}
+use Rattle.std.proofs.Common.{◌≡◌, ℕ, zero, suc, List, [], ◌∷◌, ◌++◌, length, refl, ap, ap₂, sym, ◌∙◌, subst}
 use Rattle.std.specs.Prelude.{Bool, true, ◌||◌, if◌then◌else◌, nat_eq, Some, slice_get, slice_set, ℤ}
 use Rattle.std.specs.List.{list_any, list_all}
 use Rattle.c_program.specs.Tree.{Program}

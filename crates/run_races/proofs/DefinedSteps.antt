@@ -13,7 +13,7 @@ use Rattle.thread_semantics.specs.Move.{Move, move}
 use Rattle.thread_semantics.specs.Step.{Steps, Blocks, Undefines, is_waiter, is_running, is_live, moved, slot_step, step}
 use Rattle.race_model.proofs.Depends.{IsDefined}
 use Rattle.race_model.proofs.Lists.{list_any_at}
-use Rattle.race_model.proofs.Sound.{IsSound, goes, step_moved, step_sound}
+use Rattle.race_model.proofs.Sound.{IsSound, step_moved, step_sound}
 use Rattle.run_races.specs.Order.{move_in, next_move, awaited, told, waits_in, Meet, Depends, AllOrderedBy, AllOrdered}
 use Rattle.run_races.specs.Clean.{IsClean}
 use Rattle.run_races.proofs.StandingThreads.{Stands, step_stands}

@@ -18,7 +18,7 @@ use Rattle.run_races.proofs.Meetings.{or_swap, opens, both_come, heard_there, me
 use Rattle.run_races.proofs.AlikeStates.{AlikeBarriers, Alike, all_alike, alike_set}
 use Rattle.run_races.proofs.SameMoves.{write_in, written_touched}
 use Rattle.run_races.proofs.Commutation.{sets_again, elements_commute}
-use Rattle.run_races.proofs.Changes.{Change, Sets, changed, place, AreApart, changes_commute, changed_elsewhere, own_slot, slot_change, mutex_change}
+use Rattle.run_races.proofs.Changes.{Change, Sets, changed, AreApart, changes_commute, changed_elsewhere, own_slot, slot_change, mutex_change}
 use Rattle.run_races.proofs.Changes.{met, barrier_change, output_behind, is_main, slot_place, mutex_place, barrier_place, moved_left}
 use Rattle.run_races.proofs.ToldThreads.{id_idle, told_commutes, none_told}
 

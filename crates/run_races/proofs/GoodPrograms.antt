@@ -1,6 +1,6 @@
 -- What each step of an interleaving keeps holds of every state that is reached; where that is that a clean run goes on, the
 -- program is good.
-use Rattle.std.proofs.Common.{◌≡◌, ◌≢◌, ℕ, List, [], ◌∷◌, ◌++◌, refl, ap, ◌∙◌, subst}
+use Rattle.std.proofs.Common.{suc, ◌+◌, length, arith, ◌≡◌, ◌≢◌, ℕ, List, [], ◌∷◌, ◌++◌, refl, ap, ◌∙◌, subst}
 use Rattle.std.specs.Prelude.{false}
 use Rattle.c_program.specs.Tree.{Program}
 use Rattle.c_program.specs.Resolved.{IsResolved}
@@ -31,10 +31,14 @@ one_more P (k ∷ L) (Undefines offset cause) s i e = absurd cc
 pub one_step : (P : Program) (s t : State) (i : ℕ) → IsReached P s → step P s i ≡ Steps t → IsReached P t
 one_step P s t i x e = (x.0 ++ i ∷ [], one_more P x.0 (Steps (start P)) s i x.1 ∙ e)
 
-module _ (P : Program) (K : State → Type 0) (stays : (s t : State) (i : ℕ) → K s → step P s i ≡ Steps t → K t) where
-  pub kept_by_steps : (list : List ℕ) (s t : State) → K s → and_steps P (Steps s) list ≡ Steps t → K t
-  kept_by_steps [] s t x e = let same : s ≡ t = cc in subst K same x
-  kept_by_steps (i ∷ list) s t x e = go (step P s i) refl e (λ u y q. kept_by_steps list u t y q)
+module _ (P : Program) (K : ℕ → State → Type 0) (stays : (n : ℕ) (s t : State) (i : ℕ) → K n s → step P s i ≡ Steps t → K (suc n) t) where
+  -- n: how many steps were taken
+  pub kept_by_steps : (list : List ℕ) (n : ℕ) (s t : State) → K n s → and_steps P (Steps s) list ≡ Steps t → K (length list + n) t
+  kept_by_steps [] n s t x e =
+      let same : s ≡ t = cc in
+      let none : n ≡ 0 + n = omega arith in
+      subst (λ k. K k t) none (subst (K n) same x)
+  kept_by_steps (i ∷ list) n s t x e = go (step P s i) refl e (λ u y q. kept_by_steps list (suc n) u t y q)
     where
       none : (list : List ℕ) (o : Stepped) → and_steps P o list ≡ Steps t → ((u : State) → o ≢ Steps u) → ⊥
       none [] o q never = never t q
@@ -42,8 +46,11 @@ module _ (P : Program) (K : State → Type 0) (stays : (s t : State) (i : ℕ) �
       none (k ∷ list) (Blocks cause) q never = cc
       none (k ∷ list) (Undefines offset cause) q never = cc
 
-      go : (o : Stepped) → step P s i ≡ o → and_steps P o list ≡ Steps t → ((u : State) → K u → and_steps P (Steps u) list ≡ Steps t → K t) → K t
-      go (Steps u) q more later = later u (stays s u i x q) more
+      go : (o : Stepped) → step P s i ≡ o → and_steps P o list ≡ Steps t → ((u : State) → K (suc n) u → and_steps P (Steps u) list ≡ Steps t → K (length list + suc n) t) →
+          K (suc (length list) + n) t
+      go (Steps u) q more later =
+          let count : length list + suc n ≡ suc (length list) + n = omega arith in
+          subst (λ k. K k t) count (later u (stays n s u i x q) more)
       go (Blocks cause) q more later = absurd (none list (Blocks cause) more (λ u n. cc))
       go (Undefines offset cause) q more later = absurd (none list (Undefines offset cause) more (λ u n. cc))
 
@@ -64,7 +71,7 @@ module _ (P : Program) (R : IsResolved P) (stays : (s t : State) (i : ℕ) → G
     where
       there : (l : List ℕ) (s : State) → after P l ≡ Steps s → GoesOn Depends P s
       there l s at =
-          kept_by_steps P (GoesOn Depends P) stays l (start P) s
+          kept_by_steps P (λ n u. GoesOn Depends P u) (λ n u t i x e. stays u t i x e) l 0 (start P) s
           (record { sound = start_sound P R; reached = ([], refl); rest = list; ordered = clean }) at
 
       defined : (l : List ℕ) (s : State) (i offset : ℕ) (cause : UndefinedCause) → after P l ≡ Steps s → s.ended ≡ false → step P s i ≢ Undefines offset cause

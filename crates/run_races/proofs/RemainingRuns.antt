@@ -1,6 +1,6 @@
 -- A step of an interleaving leaves a clean run: the rest of the one that there was, of which the thread's first step is taken
 -- out; where that step can be exchanged with each one before it.
-use Rattle.std.proofs.Common.{◌≡◌, ◌≢◌, ℕ, List, [], ◌∷◌, refl, ap, sym, ◌∙◌, subst, ⊎_elim, inl, inr}
+use Rattle.std.proofs.Common.{◌≡◌, ◌≢◌, ℕ, suc, List, length, [], ◌∷◌, refl, ap, sym, ◌∙◌, subst, ⊎_elim, inl, inr}
 use Rattle.std.specs.Prelude.{◌⊎◌, Bool, true, false, ◌||◌, nat_eq, Some}
 use Rattle.std.proofs.lemmas.Bool.{cases_eq, ne_eqb}
 use Rattle.c_program.specs.Tree.{Program}
@@ -112,6 +112,7 @@ pub record Remainder (D : Move → ℕ → Move → Type 0) (P : Program) (s a :
   pub ordered : (k : ℕ) (m : Move) (heard : ℕ → Bool) (again : Bool) → AllOrderedBy D P k m heard again s list →
       AllOrderedBy D P k m (told s i (next_move P s i) heard) (again || nat_eq i k) a rest
   pub output : Counts D → (last : List ℕ) → EndsWith P s list last → EndsWith P a rest last
+  pub count : length list ≡ suc (length rest)
 
 module _ (D : Move → ℕ → Move → Type 0) (P : Program) (s a t : State) (i j : ℕ) (list : List ℕ) (x : Swap P s a t i j) where
   -- behind both steps
@@ -161,6 +162,7 @@ module _ (D : Move → ℕ → Move → Type 0) (P : Program) (s a t : State) (i
     output = λ counts last ends w e.
         subst (λ q. EndsWith P q r.rest last) (same_state w e)
         (ends_alike P r.rest x.last x.other last x.alike (x.output (silent counts)) (r.output counts last (ends t steps)));
+    count = ap suc r.count;
   }
     where
       own_ordered : AllOrderedBy D P j (next_move P a j) (told a j (next_move P a j) (nat_eq j)) false x.other r.rest
@@ -202,6 +204,7 @@ module _ (D : Move → ℕ → Move → Type 0) (weaker : (m : Move) (j : ℕ) (
             ordered = λ k m heard again o.
                 subst (λ n. AllOrderedBy D P k m (told s n (next_move P s n) heard) (again || nat_eq n k) a list) (sym same) (o.1 a at_j);
             output = λ counts last ends. ends a at_j;
+            count = refl;
           }
 
       other : i ≢ j → (IsSound P clean.0 → IsReached P clean.0 → (u : State) → step P clean.0 i ≡ Steps u → Remainder D P clean.0 u i list) → Remainder D P s a i (j ∷ list)
@@ -220,3 +223,7 @@ module _ (D : Move → ℕ → Move → Type 0) (weaker : (m : Move) (j : ℕ) (
   pub still_prints : (s t : State) (i : ℕ) (x : GoesOn D P s) (e : step P s i ≡ Steps t) (last : List ℕ) → Counts D → EndsWith P s x.rest last →
       EndsWith P t (still_ordered s t i x e).rest last
   still_prints s t i x e last counts ends = (go_on x.rest s t i x.sound x.reached x.ordered e).output counts last ends
+
+  -- in one step less
+  pub one_fewer : (s t : State) (i : ℕ) (x : GoesOn D P s) (e : step P s i ≡ Steps t) → length x.rest ≡ suc (length (still_ordered s t i x e).rest)
+  one_fewer s t i x e = (go_on x.rest s t i x.sound x.reached x.ordered e).count

@@ -1,10 +1,10 @@
 -- One run of a program that shows all its interleavings.
-use Rattle.std.specs.Prelude.{◌≡◌, ℕ, true, false, nat_eq, List, [], ◌∷◌}
+use Rattle.std.specs.Prelude.{◌≡◌, ℕ, ◌≤◌, true, false, nat_eq, List, [], ◌∷◌, length}
 use Rattle.c_program.specs.Tree.{Program}
 use Rattle.c_program.specs.Resolved.{IsResolved}
 use Rattle.thread_semantics.specs.State.{State, start}
 use Rattle.thread_semantics.specs.Move.{Move}
-use Rattle.thread_semantics.specs.Step.{Steps, step, after}
+use Rattle.thread_semantics.specs.Step.{Steps, step, after, IsDeadlocked}
 use Rattle.thread_semantics.specs.Races.{IsGood}
 use Rattle.run_races.specs.Order.{next_move, told, Depends, DependsOrPrints, AllOrderedBy}
 
@@ -27,6 +27,13 @@ IsOrdered P s list = IsOrderedBy DependsOrPrints P s list
 -- one such run, and the program is good
 abbrev pub CleanIsGood : Type 0
 CleanIsGood = (P : Program) → IsResolved P → (list : List ℕ) → IsClean P (start P) list → IsGood P
+
+-- and no interleaving takes more steps than that run, or comes to a state in which no thread can go on: each, carried on,
+-- comes to main's return
+abbrev pub CleanEnds : Type 0
+CleanEnds =
+    (P : Program) → IsResolved P → (list : List ℕ) → IsClean P (start P) list → (other : List ℕ) (s : State) → after P other ≡ Steps s →
+    (length other ≤ length list) × (IsDeadlocked P s → ⊥)
 
 -- one whose prints are ordered, and each interleaving that comes to main's return prints what it prints
 abbrev pub OrderedPrintsOnce : Type 0

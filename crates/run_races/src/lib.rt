@@ -2,11 +2,16 @@
 //! on one another are ordered by happens-before. Each function takes and answers nothing: its contract is the law.
 #![tactic(auto)]
 
-ghost use Rattle.run_races.specs.Clean.{CleanIsGood, OrderedPrintsOnce};
+ghost use Rattle.run_races.specs.Clean.{CleanIsGood, CleanEnds, OrderedPrintsOnce};
 
 /// A resolved program with such a run is good.
 pub fn clean_is_good()
     ensures { CleanIsGood }
+{}
+
+/// Each of its interleavings, carried on, comes to main's return, within as many steps as the run has: none deadlocks.
+pub fn clean_ends()
+    ensures { CleanEnds }
 {}
 
 /// Where the prints are ordered so too, each interleaving that comes to main's return prints what the run prints.
