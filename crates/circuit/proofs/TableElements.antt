@@ -1,6 +1,6 @@
 -- What a table's test says of each signal of its rows.
-use Rattle.std.proofs.Common.{◌≡◌, ℕ, zero, suc, ◌+◌, ◌*◌, ◌<◌, ◌≤◌, Bool, true, false, nat_eq, nat_lt, if◌then◌else◌, List, [], ◌∷◌, Option, Some, None, slice_get, refl, sym, ◌∙◌, subst, arith}
-use Rattle.std.proofs.Common.{add-zero}
+use Rattle.std.proofs.Common.{◌≡◌, ℕ, zero, suc, ◌+◌, ◌*◌, ◌<◌, ◌≤◌, Bool, true, false, nat_eq, nat_lt, if◌then◌else◌, List, [], ◌∷◌, Option, Some, None, slice_get}
+use Rattle.std.proofs.Common.{refl, sym, ◌∙◌, subst, arith, add-zero}
 use Rattle.std.specs.Prelude.{not, ◌&&◌, nat_le}
 use Rattle.std.proofs.lemmas.Bool.{ltb-true, leb-true, eqb-true, not-true}
 use Rattle.std.proofs.lemmas.Bool.Decides.{nat_tests}
@@ -16,7 +16,8 @@ use Rattle.circuit.specs.declared.table.Row.TheVariants.{One, Each, Many, Chain,
 use Rattle.circuit.specs.Rows.{is_clock}
 use Rattle.circuit.specs.Modules.{is_between}
 use Rattle.circuit.specs.Table.{is_output, size_of, place, signal_at}
-use Rattle.circuit.specs.Fits.{first_where, form_is, is_input, is_register, inputs, registers, outputs, only_width, most, Words, Reader, agree, is_wide, stands, form_fits, many_fit, chains_fit, row_fits, rows_fit, fits}
+use Rattle.circuit.specs.Fits.{first_where, form_is, is_input, is_register, inputs, registers, outputs, only_width, most, Words, Reader, agree, is_wide}
+use Rattle.circuit.specs.Fits.{stands, form_fits, many_fit, chains_fit, row_fits, rows_fit, fits}
 use Rattle.circuit.proofs.TableRows.{row_size, place_next, place_up, OfMany, OfRow, OfSome, ByRow}
 
 -- ---- tests
@@ -178,7 +179,8 @@ module _ (n : ℕ) (few : n ≤ 64) (late : ℕ → Bool) (memories : List Words
   row_at : (k i : ℕ) (size : Option Size) → P k + i < P (suc k) → i < count_of n size → IsAt (row_reader k size) i (P k + i)
   row_at k i size b l = record { here = omega arith; inside = b; among = l; until = omega arith; own = λ t. absurd (omega arith) }
 
-  step_at : (k i chains : ℕ) (size : Option Size) → P k + chains + i < P (suc k) → i < count_of n size → 0 < chains → IsAt (step_reader k size) i (P k + chains + i)
+  step_at : (k i chains : ℕ) (size : Option Size) → P k + chains + i < P (suc k) → i < count_of n size → 0 < chains
+      → IsAt (step_reader k size) i (P k + chains + i)
   step_at k i chains size b l some = record { here = omega arith; inside = b; among = l; until = omega arith; own = λ t. omega arith }
 
   module _ (Q : ℕ → Signal → Type 0) (h : (k : Reader) (r : Role) (w : ℕ) (f : Form) (i x : ℕ) → IsElement k r w f i x → Q x (signal_at n P x r w f i)) where
@@ -188,8 +190,8 @@ module _ (n : ℕ) (few : n ≤ 64) (late : ℕ → Bool) (memories : List Words
         let at : IsAt (row_reader k size) 0 (P k) = record { here = omega arith; inside = b; among = some; until = omega arith; own = λ t. absurd (omega arith) } in
         h (row_reader k size) r w f 0 (P k) (element (row_reader k size) r w f 0 (P k) at wide clock stand fit)
 
-    many_of : (k : Reader) (count x : ℕ) (r : Role) (w : ℕ) (f : Form) → ((i : ℕ) → i < count → IsAt k i (x + i)) → is_wide w ≡ true → not (is_clock r) ≡ true → 0 < k.number
-        → stands late memories rows k.number f ≡ true → form_fits late memories rows k w f ≡ true → OfMany n P Q x count r w f
+    many_of : (k : Reader) (count x : ℕ) (r : Role) (w : ℕ) (f : Form) → ((i : ℕ) → i < count → IsAt k i (x + i)) → is_wide w ≡ true
+        → not (is_clock r) ≡ true → 0 < k.number → stands late memories rows k.number f ≡ true → form_fits late memories rows k w f ≡ true → OfMany n P Q x count r w f
     many_of k count x r w f at wide clock some stand fit = λ i l.
         let here = at i l in h k r w f i (x + i) (element k r w f i (x + i) here wide (clock_at r k.number (x + i) here.here clock some) stand fit)
 

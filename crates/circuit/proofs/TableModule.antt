@@ -54,7 +54,8 @@ module _ (n : ℕ) where
       let e = length-widths (at + n) (x ∷ rows) in let a = length-append (replicate n w) (widths n (x ∷ rows)) in let b = length-replicate {A = ℕ} n w in
       let z : at + length (replicate n w ++ widths n (x ∷ rows)) ≡ at + n + length (widths n (x ∷ rows)) = omega arith in z ∙ e
   length-widths at (Many size r w f ∷ rows) =
-      let e = length-widths (at + size_of n size) rows in let a = length-append (replicate (size_of n size) w) (widths n rows) in let b = length-replicate {A = ℕ} (size_of n size) w in
+      let e = length-widths (at + size_of n size) rows in
+      let a = length-append (replicate (size_of n size) w) (widths n rows) in let b = length-replicate {A = ℕ} (size_of n size) w in
       let z : at + length (replicate (size_of n size) w ++ widths n rows) ≡ at + size_of n size + length (widths n rows) = omega arith in z ∙ e
   length-widths at (Chain r w first step ∷ rows) =
       let e = length-widths (at + 1 + n) rows in let a = length-append (replicate n w) (widths n rows) in let b = length-replicate {A = ℕ} n w in

@@ -51,7 +51,8 @@ module _ (n : ℕ) where
   up_from at (r ∷ rows) (suc j) (suc k) l = up_from (row_end n at r) rows j k (omega arith)
 
   -- one row more
-  pub end_grows : (at to i most : ℕ) (rows : List Row) (r : Row) → slice_get rows i ≡ Some r → (at ≡ rows_end n 0 (take i rows)) × (at ≤ most * i) → (to ≡ row_end n at r) × (to ≤ at + most)
+  pub end_grows : (at to i most : ℕ) (rows : List Row) (r : Row) → slice_get rows i ≡ Some r → (at ≡ rows_end n 0 (take i rows)) × (at ≤ most * i)
+      → (to ≡ row_end n at r) × (to ≤ at + most)
       → (to ≡ rows_end n 0 (take (i + 1) rows)) × (to ≤ most * (i + 1))
   end_grows at to i most rows r e h g =
       let a = end_is at r in let b = h.1 in let c = g.1 in let d : most * (i + 1) ≡ most * i + most = omega arith in (
@@ -190,7 +191,8 @@ rows_grow n starts b c i rows r e f g =
     ∙ ap (laid_from n starts 0) (sym (ap (λ k. take k rows) (add-one i) ∙ take-next rows i r e))
 
 -- the signals of chains, laid one part after the other
-pub chains_grow : (n : ℕ) (starts : ℕ → ℕ) (a b c : List Signal) (count : ℕ) (r : Role) (w : ℕ) (first step : Form) → b ≡ a ++ signals_from n starts (length a) count r w first
+pub chains_grow : (n : ℕ) (starts : ℕ → ℕ) (a b c : List Signal) (count : ℕ) (r : Role) (w : ℕ) (first step : Form)
+    → b ≡ a ++ signals_from n starts (length a) count r w first
     → c ≡ b ++ signals_from n starts (length b) (n * count) r w step → c ≡ a ++ row_signals n starts (length a) (Chains count r w first step)
 chains_grow n starts a b c count r w first step e f =
     let begun = signals_from n starts (length a) count r w first in

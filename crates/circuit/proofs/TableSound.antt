@@ -70,7 +70,8 @@ each_found : (n : ℕ) (k : Option Size) (o : Option Row) (w : ℕ) → each_wid
 each_found n k None w e l = absurd (omega arith)
 each_found n k (Some (One r v f)) w e l = absurd (omega arith)
 each_found n k (Some (Each r v f)) w e l = let p = sized n k None v w e l in let s : count_of n k ≡ n = p.1 in (Each r v f, refl, p.0, (omega arith))
-each_found n k (Some (Many size r v f)) w e l = let p = sized n k (Some size) v w e l in let s : count_of n k ≡ size_of n size = p.1 in (Many size r v f, refl, p.0, (omega arith))
+each_found n k (Some (Many size r v f)) w e l =
+    let p = sized n k (Some size) v w e l in let s : count_of n k ≡ size_of n size = p.1 in (Many size r v f, refl, p.0, (omega arith))
 each_found n k (Some (Chain r v first step)) w e l = absurd (omega arith)
 each_found n k (Some (Chains count r v first step)) w e l = absurd (omega arith)
 
@@ -83,7 +84,8 @@ chain_found n k None w e l = absurd (omega arith)
 chain_found n k (Some (One r v f)) w e l = absurd (omega arith)
 chain_found n k (Some (Each r v f)) w e l = absurd (omega arith)
 chain_found n k (Some (Many size r v f)) w e l = absurd (omega arith)
-chain_found n k (Some (Chain r v first step)) w e l = let p = sized n k None v w e l in let s : count_of n k ≡ n = p.1 in (Chain r v first step, refl, p.0, (omega arith))
+chain_found n k (Some (Chain r v first step)) w e l =
+    let p = sized n k None v w e l in let s : count_of n k ≡ n = p.1 in (Chain r v first step, refl, p.0, (omega arith))
 chain_found n k (Some (Chains count r v first step)) w e l =
     let p = sized n k (Some (PerThread count)) v w e l in let s : count_of n k ≡ n * count = p.1 in (Chains count r v first step, refl, p.0, (omega arith))
 
@@ -302,7 +304,8 @@ module _ {n : ℕ} {late : ℕ → Bool} {memories : List Words} {rows : List Ro
   find_form k i x w Input at l front e = front refl
   find_form k i x w (Register c) at l front e = ltb-true c (2 ^ w) e
   find_form k i x w (Constant c) at l front e = ltb-true c (2 ^ w) e
-  find_form k i x w (Count first) at l front e = let a = leb-true (first + most k.size) (2 ^ w) e in let b = at.among in let c = at_most n table.few k.size in omega arith
+  find_form k i x w (Count first) at l front e =
+      let a = leb-true (first + most k.size) (2 ^ w) e in let b = at.among in let c = at_most n table.few k.size in omega arith
   find_form k i x w (Copy a) at l front e = find k i x w a at l e
   find_form k i x w (Output a) at l front e = find k i x w a at l e
   find_form k i x w (Binary operator a b) at l front e = find_binary k i x w operator a b at l e

@@ -145,6 +145,7 @@ pub enum Row {
     One(Role, u64, Form),
     /// One for each thread.
     Each(Role, u64, Form),
+    /// As many as the size says.
     Many(Size, Role, u64, Form),
     /// A first one, and then a step for each thread.
     Chain(Role, u64, Form, Form),
