@@ -1,0 +1,11 @@
+pub mod Rows
+pub mod Telling
+pub mod Covers
+pub mod Meetings
+pub mod Ordered
+pub mod Planned
+pub mod Runs
+pub mod Turns
+pub mod Advancing
+pub mod LastAccesses
+pub mod Noted

@@ -1,0 +1,63 @@
+-- A step is noted: its parts together.
+use Rattle.std.proofs.Common.{◌≡◌, ℕ, ◌+◌, ◌≤◌, List, [], ◌∷◌, refl, ap, sym, ◌∙◌, subst, ⊎_elim, inl, inr, arith}
+use Rattle.std.specs.Prelude.{◌⊎◌, Bool, true, Option, Some, None, Contains}
+use Rattle.thread_semantics.specs.Races.{Touch}
+use Rattle.run_check.specs.declared.clocks.Stamp.{Stamp}
+use Rattle.run_check.specs.declared.class.Class.{Class}
+use Rattle.run_check.specs.declared.class.Class.TheVariants as class
+use Rattle.run_check.specs.declared.known.Known.{Known}
+use Rattle.run_check.specs.Clocks.{Rows, clock, is_heard, Ticks, ticked}
+use Rattle.run_check.specs.Class.{mutex_of, barrier_of, id_of, opened, barrier_set}
+use Rattle.run_check.specs.Objects.{stamp_at, write_at, read_at}
+use Rattle.run_check.specs.Shadow.{stamp, next_stamp, ClocksAfter, IsOrdered, AreOrdered, IsMarked, IsUsed, IsNoted}
+use Rattle.run_check.specs.Known.{shadow_of, IsActOrdered, IsPut, IsTold}
+use Rattle.run_check.proofs.LastAccesses.{one_of_all}
+
+pub set_barrier : (c : Class) (r : List ℕ) (x : ℕ) → barrier_set c r ≡ Some x → barrier_of c ≡ Some x
+set_barrier (class.SetsBarrier n) r x e = e
+set_barrier (class.Waits n) [] x e = absurd cc
+set_barrier (class.Waits n) (i ∷ r) x e = e
+set_barrier c r x e = absurd cc
+
+used : (old new : ℕ → Stamp) (heard : ℕ → ℕ) (step next : Stamp) (object : Option ℕ) → step ≡ next →
+    ((x : ℕ) → object ≡ Some x → is_heard heard (old x) ≡ true) → IsPut old new step object → IsUsed old new heard next object
+used old new heard step next object is ordered x = record {
+  ordered = ordered;
+  set = λ z e. x.set z e ∙ is;
+  change = λ z. ⊎_elim (λ q. inl q) (λ q. inr (q.0, q.1 ∙ is)) (x.change z);
+}
+
+pub noted : (old new : Known) (mid : Rows) (i n : ℕ) (c : Class) (touches : List Touch) (r : List ℕ) (ended : Bool) →
+    AreOrdered (write_at old.elements.items) (read_at old.elements.items) (clock old.clocks.items i) touches →
+    IsActOrdered old (clock old.clocks.items i) c →
+    (ended ≡ true → (k : ℕ) → clock old.clocks.items k k ≤ clock old.clocks.items i k) →
+    Ticks old.clocks.items mid i n →
+    IsMarked (write_at old.elements.items) (write_at new.elements.items) (read_at old.elements.items) (read_at new.elements.items) (stamp i n) touches →
+    IsPut (stamp_at old.mutexes.items) (stamp_at new.mutexes.items) (stamp i n) (mutex_of c) →
+    IsPut (stamp_at old.barriers.items) (stamp_at new.barriers.items) (stamp i n) (barrier_set c r) →
+    IsPut (stamp_at old.ids.items) (stamp_at new.ids.items) (stamp i n) (id_of c) →
+    IsTold mid new.clocks.items i c r → IsNoted (shadow_of old) (shadow_of new) i c touches r ended
+noted old new mid i n c touches r ended accesses act last ticks marks mutex barrier id told =
+    let is : stamp i n ≡ next_stamp (clock old.clocks.items) i = ap (stamp i) ticks.number in
+    let heard = clock old.clocks.items i in
+    let next = next_stamp (clock old.clocks.items) i in
+    record {
+      clocks = record {
+        grows = λ k. let grows = told.grows k k in let at = ticks.is k k in omega (arith, grows, at);
+        source = λ j k.
+            ⊎_elim (λ q. inl (q ∙ ticks.is j k)) (λ q. inr (q.0, q.1, q.2 ∙ ticks.is q.0 k)) (told.source j k);
+      };
+      order = λ t in_it.
+          one_of_all (IsOrdered (write_at old.elements.items) (read_at old.elements.items) heard) touches t accesses in_it;
+      marks =
+          subst
+          (λ (step : Stamp). IsMarked (write_at old.elements.items) (write_at new.elements.items) (read_at old.elements.items) (read_at new.elements.items) step touches)
+          is marks;
+      mutex = used (stamp_at old.mutexes.items) (stamp_at new.mutexes.items) heard (stamp i n) next (mutex_of c) is act.mutex mutex;
+      id = used (stamp_at old.ids.items) (stamp_at new.ids.items) heard (stamp i n) next (id_of c) is act.id id;
+      barrier =
+          used (stamp_at old.barriers.items) (stamp_at new.barriers.items) heard (stamp i n) next (barrier_set c r) is
+          (λ x e. act.barrier x (set_barrier c r x e)) barrier;
+      meets = act.barrier;
+      last = last;
+    }

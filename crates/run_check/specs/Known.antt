@@ -1,0 +1,42 @@
+-- What the code keeps of a run.
+use Rattle.std.specs.Prelude.{◌≡◌, ◌⊎◌, ℕ, ◌≤◌, true, List, Option, Some}
+use Rattle.run_check.specs.declared.clocks.Stamp.{Stamp}
+use Rattle.run_check.specs.declared.class.Class.{Class}
+use Rattle.run_check.specs.declared.known.Known.{Known}
+use Rattle.run_check.specs.Clocks.{Rows, clock, is_heard}
+use Rattle.run_check.specs.Class.{mutex_of, barrier_of, id_of, barrier_set, Tells}
+use Rattle.run_check.specs.Objects.{stamp_at, write_at, read_at}
+use Rattle.run_check.specs.Shadow.{Shadow}
+
+abbrev pub shadow_of : Known → Shadow
+shadow_of k = record {
+  clock = clock k.clocks.items;
+  write = write_at k.elements.items;
+  read = read_at k.elements.items;
+  mutex = stamp_at k.mutexes.items;
+  barrier = stamp_at k.barriers.items;
+  id = stamp_at k.ids.items;
+}
+
+-- who has heard of so many steps has heard of the last act on the object of such a step
+pub record IsActOrdered (k : Known) (heard : ℕ → ℕ) (c : Class) : Type 0 where
+  pub mutex : (x : ℕ) → mutex_of c ≡ Some x → is_heard heard (stamp_at k.mutexes.items x) ≡ true
+  pub barrier : (x : ℕ) → barrier_of c ≡ Some x → is_heard heard (stamp_at k.barriers.items x) ≡ true
+  pub id : (x : ℕ) → id_of c ≡ Some x → is_heard heard (stamp_at k.ids.items x) ≡ true
+
+pub record IsPut (old new : ℕ → Stamp) (step : Stamp) (object : Option ℕ) : Type 0 where
+  pub set : (x : ℕ) → object ≡ Some x → new x ≡ step
+  pub change : (x : ℕ) → (new x ≡ old x) ⊎ ((object ≡ Some x) × (new x ≡ step))
+
+pub record IsActPut (old new : Known) (step : Stamp) (c : Class) (released : List ℕ) : Type 0 where
+  pub clocks : new.clocks ≡ old.clocks
+  pub elements : new.elements ≡ old.elements
+  pub mutex : IsPut (stamp_at old.mutexes.items) (stamp_at new.mutexes.items) step (mutex_of c)
+  pub barrier : IsPut (stamp_at old.barriers.items) (stamp_at new.barriers.items) step (barrier_set c released)
+  pub id : IsPut (stamp_at old.ids.items) (stamp_at new.ids.items) step (id_of c)
+
+pub record IsTold (old new : Rows) (i : ℕ) (c : Class) (released : List ℕ) : Type 0 where
+  pub grows : (j k : ℕ) → clock old j k ≤ clock new j k
+  pub source :
+      (j k : ℕ) →
+      (clock new j k ≡ clock old j k) ⊎ ((v : ℕ) × Tells c released i v j × (clock new j k ≡ clock old v k))

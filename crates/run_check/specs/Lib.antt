@@ -1,0 +1,11 @@
+pub mod Clocks
+pub mod Class
+pub mod Shadow
+pub mod Objects
+pub mod Marks
+pub mod Known
+pub mod Shown
+pub mod Run
+pub mod Verdict
+pub mod Offsets
+pub mod Race

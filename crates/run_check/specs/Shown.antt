@@ -1,0 +1,47 @@
+-- What is kept of a run stands for its steps (Lamport 1978: who has heard of a step is behind it).
+use Rattle.std.specs.Prelude.{◌≡◌, ◌⊎◌, ℕ, ◌≤◌, Bool, true, false, List, ◌++◌, Some, slice_get, Contains}
+use Rattle.c_program.specs.Tree.{Program}
+use Rattle.thread_semantics.specs.State.{State, start}
+use Rattle.thread_semantics.specs.Move.{Move}
+use Rattle.thread_semantics.specs.Step.{Steps, after}
+use Rattle.thread_semantics.specs.Races.{Touch, touched}
+use Rattle.run_races.specs.Order.{awaited, waits_in, AllOrdered}
+use Rattle.run_races.specs.Clean.{IsClean}
+use Rattle.run_check.specs.declared.clocks.Stamp.{Stamp}
+use Rattle.run_check.specs.Class.{class_of, mutex_of, barrier_of, id_of}
+use Rattle.run_check.specs.Shadow.{Shadow, stamp}
+
+-- who has heard of this step has heard of an earlier one
+pub record Covers (clock : ℕ → ℕ → ℕ) (step : Stamp) (heard : ℕ → Bool) : Type 0 where
+  pub past : step.number ≤ clock step.thread step.thread
+  pub known : (j : ℕ) → step.number ≤ clock j step.thread → heard j ≡ true
+
+-- no thread has heard of more steps of a thread than it has taken
+abbrev pub HasPeaks : (ℕ → ℕ → ℕ) → Type 0
+HasPeaks clock = (j k : ℕ) → clock j k ≤ clock k k
+
+-- thread i, whose wait this was, still waits there
+pub record IsWaiting (s : State) (i : ℕ) (m : Move) (again : Bool) (x : ℕ) : Type 0 where
+  pub at : awaited m ≡ Some x
+  pub still : again ≡ false
+  pub waits : waits_in i (slice_get s.barriers x) ≡ true
+
+-- what is kept stands for the earlier move m of thread i, of which these threads have heard
+pub record StandsFor (s : State) (K : Shadow) (i : ℕ) (m : Move) (heard : ℕ → Bool) (again : Bool) : Type 0 where
+  pub number : ℕ
+  pub own : Covers K.clock (stamp i number) heard
+  pub written : (t : Touch) → Contains (touched m) t → t.written ≡ true → Covers K.clock (K.write t.place) heard
+  pub was_read : (t : Touch) → Contains (touched m) t → t.written ≡ false → Covers K.clock (stamp i (K.read t.place i)) heard
+  pub mutex : (x : ℕ) → mutex_of (class_of m) ≡ Some x → Covers K.clock (K.mutex x) heard
+  pub id : (x : ℕ) → id_of (class_of m) ≡ Some x → Covers K.clock (K.id x) heard
+  pub barrier : (x : ℕ) → barrier_of (class_of m) ≡ Some x → Covers K.clock (K.barrier x) heard ⊎ IsWaiting s i m again x
+
+-- the list leads to the state s, and it is a clean run as far as it goes: it is one with each rest in which the steps that
+-- what is kept stands for are ordered
+pub record IsShown (P : Program) (list : List ℕ) (s : State) (K : Shadow) : Type 0 where
+  pub taken : after P list ≡ Steps s
+  pub peaks : HasPeaks K.clock
+  pub rest :
+      (rest : List ℕ) →
+      ((i : ℕ) (m : Move) (h : ℕ → Bool) (again : Bool) → StandsFor s K i m h again → AllOrdered P i m h again s rest) →
+      IsClean P s rest → IsClean P (start P) (list ++ rest)

@@ -1,0 +1,158 @@
+// What is kept of the steps of a run.
+ghost use Rattle.std.specs.Prelude.{◌≡◌, ◌≤◌, ℕ, true, slice_index, IfOk};
+ghost use Rattle.race_check.specs.Access.{touches_of};
+ghost use Rattle.run_check.specs.Clocks.{clock};
+ghost use Rattle.run_check.specs.Objects.{write_at, read_at};
+ghost use Rattle.run_check.specs.Shadow.{AreOrdered, IsNoted};
+ghost use Rattle.run_check.specs.Known.{shadow_of, IsActOrdered, IsActPut, IsTold};
+
+use crate::class::Class;
+use crate::clocks::{
+    Stamp, clock_of, first_clocks, hear, is_behind_all, is_heard, number_at, share, tick,
+};
+use crate::elements::{Element, are_ordered, first_elements, mark_all, unordered_access};
+use crate::objects::{first_acts, last_act, put_act};
+use c_state::state::State;
+use race_check::access::Access;
+use std::alloc::{AllocError, Global};
+
+/// What is kept of the steps of a run: who has heard of how many steps, the last accesses to each element of each global,
+/// and the last act on each mutex, barrier and thread id.
+#[derive(Drop)]
+pub struct Known {
+    pub clocks: Vec<Vec<u32>>,
+    pub elements: Vec<Vec<Element>>,
+    pub mutexes: Vec<Stamp>,
+    pub barriers: Vec<Stamp>,
+    pub ids: Vec<Stamp>,
+}
+
+/// Threads tell others what they have heard, by such a step of a thread.
+fn tell(
+    clocks: &mut Vec<Vec<u32>>,
+    thread: u32,
+    class: Class,
+    released: &[u32],
+) -> Result<(), AllocError>
+    ensures { IfOk result (λ _. IsTold clocks.old.items clocks.new.items thread class released.now) }
+{
+    match class {
+        Class::Creates(n) => {
+            if n < clocks.len() as u128 {
+                hear(clocks, n as usize, thread as usize)?;
+            }
+        }
+        Class::Joins(n) => {
+            if n < clocks.len() as u128 {
+                hear(clocks, thread as usize, n as usize)?;
+            }
+        }
+        Class::Waits(_) => share(clocks, released)?,
+        Class::Plain | Class::UsesMutex(_) | Class::SetsBarrier(_) => {}
+    }
+    Ok(())
+}
+
+impl Known {
+    /// What is kept before the first step.
+    pub fn new(alloc: Global, state: &State) -> Result<Self, AllocError>
+        ensures { IfOk result (λ known. (j k : ℕ) → clock known.clocks.items j k ≡ 0) }
+    {
+        let threads = state.slots.len();
+        Ok(Known {
+            clocks: first_clocks(alloc, threads)?,
+            elements: first_elements(alloc, &state.globals, threads)?,
+            mutexes: first_acts(alloc, state.mutexes.len())?,
+            barriers: first_acts(alloc, state.barriers.len())?,
+            ids: first_acts(alloc, threads)?,
+        })
+    }
+
+    /// Whether a thread with this clock has heard of the last act on the object of such a step.
+    fn is_act_ordered(&self, class: Class, clock: &[u32]) -> bool
+        ensures { result ≡ true → IsActOrdered self.now (slice_index clock.now) class }
+    {
+        match class {
+            Class::Plain => true,
+            Class::Creates(n) | Class::Joins(n) => is_heard(clock, last_act(&self.ids, n)),
+            Class::UsesMutex(n) => is_heard(clock, last_act(&self.mutexes, n)),
+            Class::SetsBarrier(n) | Class::Waits(n) => is_heard(clock, last_act(&self.barriers, n)),
+        }
+    }
+
+    /// Keeps an act; whether there is a place for it. A wait that lets nobody go is kept by the barrier itself.
+    fn put(&mut self, class: Class, released: &[u32], step: Stamp) -> bool
+        ensures { result ≡ true → IsActPut self.old self.new step class released.now }
+    {
+        match class {
+            Class::Plain => true,
+            Class::Creates(n) | Class::Joins(n) => put_act(&mut self.ids, n, step),
+            Class::UsesMutex(n) => put_act(&mut self.mutexes, n, step),
+            Class::SetsBarrier(n) => put_act(&mut self.barriers, n, step),
+            Class::Waits(n) => released.is_empty() || put_act(&mut self.barriers, n, step),
+        }
+    }
+
+    /// Whether the next step of a thread happens behind all steps on which it depends.
+    fn is_ordered(&self, thread: u32, class: Class, accesses: &[Access], ended: bool) -> bool
+        ensures accesses { result ≡ true → AreOrdered (write_at self.now.elements.items) (read_at self.now.elements.items)
+            (clock self.now.clocks.items thread) (touches_of accesses.now) }
+        ensures act { result ≡ true → IsActOrdered self.now (clock self.now.clocks.items thread) class }
+        ensures last { result ≡ true → ended ≡ true → (k : ℕ) → clock self.now.clocks.items k k ≤ clock self.now.clocks.items thread k }
+    {
+        let clock = clock_of(&self.clocks, thread);
+        are_ordered(&self.elements, accesses, clock)
+            && self.is_act_ordered(class, clock)
+            && (!ended || is_behind_all(&self.clocks, clock))
+    }
+
+    /// Keeps a step of a thread; whether it happens behind all steps on which it depends.
+    #[tactic(auto, using(crate::proofs::Noted::noted))]
+    pub fn note(
+        &mut self,
+        thread: u32,
+        class: Class,
+        accesses: &[Access],
+        released: &[u32],
+        ended: bool,
+    ) -> Result<bool, AllocError>
+        ensures { IfOk result (λ ordered. ordered ≡ true → IsNoted (shadow_of self.old) (shadow_of self.new) thread class (touches_of accesses.now) released.now ended) }
+    {
+        if !self.is_ordered(thread, class, accesses, ended) {
+            return Ok(false);
+        }
+        let Some(number) = tick(&mut self.clocks, thread) else {
+            return Ok(false);
+        };
+        let step = Stamp { thread, number };
+        if !mark_all(&mut self.elements, accesses, step) {
+            return Ok(false);
+        }
+        if !self.put(class, released, step) {
+            return Ok(false);
+        }
+        tell(&mut self.clocks, thread, class, released)?;
+        Ok(true)
+    }
+
+    /// Whether this is the next step of its thread.
+    pub fn is_next(&self, step: Stamp) -> bool {
+        number_at(clock_of(&self.clocks, step.thread), step.thread as usize).checked_add(1)
+            == Some(step.number)
+    }
+
+    /// An access of which a thread hasn't heard and that conflicts with one of these; number 0 where there is none.
+    pub fn unordered(&self, thread: u32, accesses: &[Access]) -> Stamp {
+        let clock = clock_of(&self.clocks, thread);
+        for access in accesses {
+            let other = unordered_access(&self.elements, access, clock);
+            if other.number > 0 {
+                return other;
+            }
+        }
+        Stamp {
+            thread: 0,
+            number: 0,
+        }
+    }
+}
