@@ -29,7 +29,7 @@ shifted a (s ∷ ss) =
     let two = shifted (0 + s.count) ss in
     omega arith
 
-total_cons : (s : Spread) (ss : List Spread) → bank_total (s ∷ ss) ≡ s.count + bank_total ss
+pub total_cons : (s : Spread) (ss : List Spread) → bank_total (s ∷ ss) ≡ s.count + bank_total ss
 total_cons s ss = let e = shifted (0 + s.count) ss in omega arith
 
 pub totals : (threads : List ℕ) (x first : ℕ) (globals : List GlobalVariable) → bank_total (spreads_from threads x first globals) ≡ length (banks_from threads x globals)

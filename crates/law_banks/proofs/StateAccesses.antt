@@ -26,7 +26,7 @@ use Rattle.block_ir.specs.declared.plan.BlockPlan.{BlockPlan}
 use Rattle.block_ir.specs.declared.plan.Planned.{Planned}
 use Rattle.planned_block.specs.Block.{Operand, Through, Kind, Simple, Multiply, Divide, BankRead, BankWrite, ArrayRead, ArrayWrite}
 use Rattle.planned_block.specs.Block.{Operation, operation_at, size, operand_value, UsesIn, Uses, element, no_operation}
-use Rattle.planned_block.specs.Plan.{NoTarget, OfGlobal, target_of, is_simple, last_state, gap_after}
+use Rattle.planned_block.specs.Plan.{NoTarget, OfGlobal, target_of, last_state, gap_after}
 use Rattle.planned_block.specs.Run.{bank_access}
 use Rattle.planned_block.specs.Slot.{Slot, is_request, accesses_where, register_value, value_now, operand_now, asks, starts_now}
 use Rattle.planned_block.specs.Advance.{requests, last_of}
@@ -38,6 +38,7 @@ use Rattle.thread_promise.specs.Slots.{Places, IsAlive, ShowsInBlock}
 use Rattle.thread_promise.specs.Promise.{RunsAt}
 use Rattle.thread_promise.specs.Globals.{IsGlobalOf, wires_now, place_now, written_now, IsOpen}
 use Rattle.law_banks.specs.Memory.{IsReadPlace, IsWrittenPlace}
+use Rattle.thread_promise.proofs.RegisterOperands.{request_is_slow}
 
 -- ---- places
 
@@ -207,16 +208,6 @@ converted_typed (t ∷ types) variables values o ty h = converted_typed types va
 uses_converted : (types : List IntegerType) (o : Operand) (j : ℕ) → UsesIn o j → UsesIn (converted_to types o) j
 uses_converted [] o j u = u
 uses_converted (t ∷ types) o j u = uses_converted types (Through (wrapped t) o) j u
-
--- a request is no mere logic
-request_is_slow : (kind : Kind) → is_request kind ≡ true → is_simple kind ≡ false
-request_is_slow (Simple f) e = absurd cc
-request_is_slow (Multiply f) e = refl
-request_is_slow (Divide f) e = refl
-request_is_slow (BankRead x) e = refl
-request_is_slow (BankWrite x) e = refl
-request_is_slow (ArrayRead x) e = refl
-request_is_slow (ArrayWrite x) e = refl
 
 module _ (globals : List IntegerType) (spreads : List Spread) (code : ThreadCode) (plan : Planned) (places : Places) (q : Slot) (b : Block) (p : BlockPlan)
     (runs : RunsAt globals spreads code plan q.stage b p) where

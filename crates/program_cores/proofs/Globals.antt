@@ -23,7 +23,7 @@ use Rattle.bank_partition.proofs.BankCount.{count_is}
 use Rattle.bank_cores.specs.declared.bank.Shape.{Shape as Bank}
 use Rattle.thread_promise.specs.Globals.{IsSmallPower, bank_total}
 use Rattle.law_banks.specs.Partition.{ArePartitioned}
-use Rattle.law_banks.proofs.Banks.{totals, below_all}
+use Rattle.law_banks.proofs.Banks.{total_cons, totals, below_all}
 use Rattle.core_places.specs.Kinds.{IsWantedBank}
 use Rattle.program_cores.specs.Banks.{core_shape, core_shapes, IsNamed, AreNamed}
 
@@ -41,16 +41,6 @@ elements gs = sum_by (λ (g : GlobalVariable). g.length) gs
 
 elements_cons : (g : GlobalVariable) (gs : List GlobalVariable) → elements (g ∷ gs) ≡ g.length + elements gs
 elements_cons g gs = let e = shifted (0 + g.length) gs in omega arith
-
-spread_shifted : (a : ℕ) (ss : List Spread) → fold (λ n (s : Spread). n + s.count) a ss ≡ a + fold (λ n (s : Spread). n + s.count) 0 ss
-spread_shifted a [] = let e : a ≡ a + 0 = omega arith in e
-spread_shifted a (s ∷ ss) =
-    let one = spread_shifted (a + s.count) ss in
-    let two = spread_shifted (0 + s.count) ss in
-    omega arith
-
-total_cons : (s : Spread) (ss : List Spread) → bank_total (s ∷ ss) ≡ s.count + bank_total ss
-total_cons s ss = let e = spread_shifted (0 + s.count) ss in omega arith
 
 -- a global has at most as many banks as elements
 total_low : (threads : List ℕ) (x first : ℕ) (gs : List GlobalVariable) → AllByRecursion IsGlobal gs → bank_total (spreads_from threads x first gs) ≤ elements gs
