@@ -289,19 +289,19 @@ module _ (t : ℕ) (before last at : ℕ → ℕ) (o end : ℕ) (lines : List Li
 -- ---- the tokens of a text
 
 module _ (t : ℕ) (lines : List Line) where
-  abbrev h : List Piece
+  abbrev pub h : List Piece
   h = ps.head_pieces t
 
-  abbrev l : List Piece
+  abbrev pub l : List Piece
   l = flat_map ps.line_pieces lines
 
-  abbrev before : ℕ → ℕ
+  abbrev pub before : ℕ → ℕ
   before = place_in (tokens 0 h)
 
-  abbrev last : ℕ → ℕ
+  abbrev pub last : ℕ → ℕ
   last = place_in (tokens (behind 0 (h ++ l)) ps.worker_tail_pieces)
 
-  abbrev at : ℕ → ℕ
+  abbrev pub at : ℕ → ℕ
   at = place_in (tokens (behind 0 (h ++ l ++ ps.worker_tail_pieces)) (ps.main_pieces t))
 
   abbrev pub tree_of : TranslationUnit

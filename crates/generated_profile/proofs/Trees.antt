@@ -273,6 +273,16 @@ abbrev pub main_items : ℕ → (ℕ → ℕ) → List BlockItem
 main_items t at =
     counter_item at ∷ init_item at ∷ create_item t at ∷ join_item t at ∷ print_item t at ∷ sum_item at ∷ destroy_item at ∷ zero_item at ∷ []
 
+-- with this body
+abbrev pub main_by : (ℕ → ℕ) → Option Block → ExternalDeclaration
+main_by at body = external.Function (record {
+  specifiers = words (w.Int ∷ []) (at 0);
+  is_pointer = false;
+  name = named (codes "main") (at 1);
+  parameters = parameter (words (w.Void ∷ []) (at 3)) false None ∷ [];
+  body = body;
+})
+
 abbrev pub main : ℕ → (ℕ → ℕ) → ExternalDeclaration
 main t at =
     function (words (w.Int ∷ []) (at 0)) false (named (codes "main") (at 1)) (parameter (words (w.Void ∷ []) (at 3)) false None ∷ [])

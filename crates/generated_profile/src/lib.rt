@@ -1,9 +1,14 @@
-//! The law that the text of a generated program is one of the grammar, within the limits of a text.
+//! The law that the text of a generated program is accepted.
 #![tactic(auto)]
 
-ghost use Rattle.generated_profile.specs.Laws.{GeneratedHasTree};
+ghost use Rattle.generated_profile.specs.Laws.{GeneratedHasTree, GeneratedIsAccepted};
 
 /// The text of at most 63 threads and 1,000 lines has a tree.
 pub fn generated_has_tree()
     ensures { GeneratedHasTree }
+{}
+
+/// The text of 1 to 63 threads and at most 1,000 lines is accepted, and its program has that many threads beside main.
+pub fn generated_is_accepted()
+    ensures { GeneratedIsAccepted }
 {}
