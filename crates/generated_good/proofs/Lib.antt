@@ -7,3 +7,4 @@ mod WorkerSteps
 mod CountedTurns
 mod MainSteps
 pub mod GeneratedGood
+mod Rows
