@@ -1,3 +1,4 @@
+pub mod Listed
 pub mod OffersToAskers
 pub mod OnePrinter
 pub mod ToldFits

@@ -13,7 +13,7 @@ use Rattle.print_core.specs.Machine.{printer_machine, printer_places}
 use Rattle.mutex_cores.proofs.Locks.{locks_wait}
 use Rattle.barrier_cores.proofs.WaitBits.{barriers_wait}
 use Rattle.fork_join_cores.proofs.ShownTable.{forks_wait}
-use Rattle.core_family.specs.Family.{Bank, Mutex, Barrier, Forks, Prints}
+use Rattle.core_family.specs.Family.{Bank, Mutex, Barrier, ThreadIds, Printer}
 use Rattle.core_family.specs.Laws.{EachWaits}
 
 bank_waits : (s : BankShape) → WaitsForAsks (bank_machine s) (bank_places s)
@@ -47,5 +47,5 @@ each_waits None = record {
 each_waits (Some (Bank s)) = bank_waits s
 each_waits (Some (Mutex s)) = locks_wait s
 each_waits (Some (Barrier s)) = barriers_wait s.threads
-each_waits (Some (Forks s)) = forks_wait s
-each_waits (Some (Prints s)) = printer_waits s
+each_waits (Some (ThreadIds s)) = forks_wait s
+each_waits (Some (Printer s)) = printer_waits s

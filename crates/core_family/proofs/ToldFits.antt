@@ -8,8 +8,8 @@ use Rattle.core_states.specs.Machines.{Gate, total_of, with_waiter, gate_met, ga
 use Rattle.bank_cores.specs.declared.bank.Shape.{Shape as BankShape}
 use Rattle.bank_cores.specs.Machine as bank
 use Rattle.barrier_cores.specs.declared.barrier.Shape.{Shape as BarrierShape}
-use Rattle.fork_join_cores.specs.declared.forks.Shape.{Shape as ForksShape}
-use Rattle.core_family.specs.Family.{Bank, Mutex, Barrier, Forks, Prints, told_width}
+use Rattle.fork_join_cores.specs.declared.forks.Shape.{Shape as ThreadIdsShape}
+use Rattle.core_family.specs.Family.{Bank, Mutex, Barrier, ThreadIds, Printer, told_width}
 use Rattle.core_family.specs.Laws.{FitsState, KeepsFitting, EachKeepsFitting}
 
 abbrev AllBelow : ℕ → List ℕ → Type 0
@@ -92,14 +92,14 @@ ids_below t i operation id argument h l = by (nat_eq operation 0) (nat_eq operat
     by false true = h
     by false false = h
 
-forks_fits : (b : ForksShape) → KeepsFitting (Some (Forks b))
-forks_fits b = record {
+thread_ids_fits : (b : ThreadIdsShape) → KeepsFitting (Some (ThreadIds b))
+thread_ids_fits b = record {
   starts = λ e. zeros_below (2 ^ 64) b.threads (omega arith);
   acts = λ s h i f l. ids_below s i (f 1) (f 2) (f 3) h (l 3 (omega arith));
   tells = told;
 }
   where
-    told : (s : IdTable) → Fits s → (i j : ℕ) → j < 2 → ids_tell s i j < 2 ^ told_width (Some (Forks b)) j
+    told : (s : IdTable) → Fits s → (i j : ℕ) → j < 2 → ids_tell s i j < 2 ^ told_width (Some (ThreadIds b)) j
     told s h i zero l = bit_below (nat_eq (slice_index s.statuses i) 1)
     told s h i (suc zero) l = h i
     told s h i (suc (suc j)) l = absurd (omega arith)
@@ -109,5 +109,5 @@ each_keeps_fitting None = record { starts = λ e. tt; acts = λ s h i f l. tt; t
 each_keeps_fitting (Some (Bank b)) = bank_fits b
 each_keeps_fitting (Some (Mutex b)) = record { starts = λ e. tt; acts = λ s h i f l. tt; tells = λ s h i j l. absurd (omega arith) }
 each_keeps_fitting (Some (Barrier b)) = barrier_fits b
-each_keeps_fitting (Some (Forks b)) = forks_fits b
-each_keeps_fitting (Some (Prints b)) = record { starts = λ e. tt; acts = λ s h i f l. tt; tells = λ s h i j l. absurd (omega arith) }
+each_keeps_fitting (Some (ThreadIds b)) = thread_ids_fits b
+each_keeps_fitting (Some (Printer b)) = record { starts = λ e. tt; acts = λ s h i f l. tt; tells = λ s h i j l. absurd (omega arith) }

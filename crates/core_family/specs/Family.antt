@@ -13,21 +13,21 @@ use Rattle.mutex_cores.specs.Machine as mutex
 use Rattle.barrier_cores.specs.declared.barrier.Shape.{Shape as BarrierShape}
 use Rattle.barrier_cores.specs.Barrier.{IsBarrier}
 use Rattle.barrier_cores.specs.Machine as barrier
-use Rattle.fork_join_cores.specs.declared.forks.Shape.{Shape as ForksShape}
+use Rattle.fork_join_cores.specs.declared.forks.Shape.{Shape as ThreadIdsShape}
 use Rattle.fork_join_cores.specs.Forks.{IsForks}
-use Rattle.fork_join_cores.specs.Machine as forks
+use Rattle.fork_join_cores.specs.Machine as thread_ids
 use Rattle.print_core.specs.declared.printer.Shape.{Shape as PrinterShape}
 use Rattle.print_core.specs.Printer.{IsPrinter}
 use Rattle.print_core.specs.Machine as printer
 use Rattle.leaf_machine.specs.Ports.{CorePort}
 
 -- a bank of a global, a mutex, a barrier, the core of the thread ids, the printer
-pub data CoreShape : Type 0 where
-  Bank : (shape : BankShape) → CoreShape
-  Mutex : (shape : MutexShape) → CoreShape
-  Barrier : (shape : BarrierShape) → CoreShape
-  Forks : (shape : ForksShape) → CoreShape
-  Prints : (shape : PrinterShape) → CoreShape
+pub data CoreKind : Type 0 where
+  Bank : (shape : BankShape) → CoreKind
+  Mutex : (shape : MutexShape) → CoreKind
+  Barrier : (shape : BarrierShape) → CoreKind
+  ThreadIds : (shape : ThreadIdsShape) → CoreKind
+  Printer : (shape : PrinterShape) → CoreKind
 
 -- ---- machines
 
@@ -55,110 +55,110 @@ no_places = record {
   tell = λ j i. 0;
 }
 
-abbrev pub machine_of : Option CoreShape → CoreMachine
+abbrev pub machine_of : Option CoreKind → CoreMachine
 machine_of None = no_machine
 machine_of (Some (Bank s)) = bank.bank_machine s
 machine_of (Some (Mutex s)) = mutex.mutex_machine s
 machine_of (Some (Barrier s)) = barrier.barrier_machine s.threads
-machine_of (Some (Forks s)) = forks.forks_machine s
-machine_of (Some (Prints s)) = printer.printer_machine s
+machine_of (Some (ThreadIds s)) = thread_ids.forks_machine s
+machine_of (Some (Printer s)) = printer.printer_machine s
 
-abbrev pub places_of : (o : Option CoreShape) → CorePlaces (machine_of o)
+abbrev pub places_of : (o : Option CoreKind) → CorePlaces (machine_of o)
 places_of None = no_places
 places_of (Some (Bank s)) = bank.bank_places s
 places_of (Some (Mutex s)) = mutex.mutex_places s
 places_of (Some (Barrier s)) = barrier.barrier_places s.threads
-places_of (Some (Forks s)) = forks.forks_places s
-places_of (Some (Prints s)) = printer.printer_places s
+places_of (Some (ThreadIds s)) = thread_ids.forks_places s
+places_of (Some (Printer s)) = printer.printer_places s
 
 -- core k of a list
-abbrev pub machine_at : List CoreShape → ℕ → CoreMachine
+abbrev pub machine_at : List CoreKind → ℕ → CoreMachine
 machine_at cores k = machine_of (slice_get cores k)
 
-abbrev pub places_at : (cores : List CoreShape) → (k : ℕ) → CorePlaces (machine_at cores k)
+abbrev pub places_at : (cores : List CoreKind) → (k : ℕ) → CorePlaces (machine_at cores k)
 places_at cores k = places_of (slice_get cores k)
 
 -- what a bank has; another core has none
-abbrev pub words_of : (o : Option CoreShape) → (machine_of o).State → bank.Words
+abbrev pub words_of : (o : Option CoreKind) → (machine_of o).State → bank.Words
 words_of (Some (Bank b)) s = s
 words_of _ s = record { words = []; kept = [] }
 
 -- ---- ports
 
-abbrev pub port_of : CoreShape → CorePort
+abbrev pub port_of : CoreKind → CorePort
 port_of (Bank s) = record { asks = 1 ∷ 1 ∷ 64 ∷ s.width ∷ []; told = s.width ∷ [] }
 port_of (Mutex s) = record { asks = 1 ∷ 2 ∷ []; told = [] }
 port_of (Barrier s) = record { asks = 1 ∷ 2 ∷ 64 ∷ []; told = 1 ∷ [] }
-port_of (Forks s) = record { asks = 1 ∷ 2 ∷ 64 ∷ 64 ∷ []; told = 1 ∷ 64 ∷ [] }
-port_of (Prints s) = record { asks = 1 ∷ 16 ∷ replicate s.values 64; told = [] }
+port_of (ThreadIds s) = record { asks = 1 ∷ 2 ∷ 64 ∷ 64 ∷ []; told = 1 ∷ 64 ∷ [] }
+port_of (Printer s) = record { asks = 1 ∷ 16 ∷ replicate s.values 64; told = [] }
 
 -- the width of part j of an ask, and of number j that is told
-abbrev pub ask_width : Option CoreShape → ℕ → ℕ
+abbrev pub ask_width : Option CoreKind → ℕ → ℕ
 ask_width None j = 1
 ask_width (Some s) j = slice_index (port_of s).asks j
 
-abbrev pub told_width : Option CoreShape → ℕ → ℕ
+abbrev pub told_width : Option CoreKind → ℕ → ℕ
 told_width (Some (Bank s)) j = s.width
 told_width (Some (Barrier s)) j = 1
-told_width (Some (Forks s)) zero = 1
-told_width (Some (Forks s)) (suc j) = 64
+told_width (Some (ThreadIds s)) zero = 1
+told_width (Some (ThreadIds s)) (suc j) = 64
 told_width _ j = 0
 
 -- ---- modules
 
 -- of so many threads
-abbrev pub threads_of : CoreShape → ℕ
+abbrev pub threads_of : CoreKind → ℕ
 threads_of (Bank s) = s.threads
 threads_of (Mutex s) = s.threads
 threads_of (Barrier s) = s.threads
-threads_of (Forks s) = s.threads
-threads_of (Prints s) = s.threads
+threads_of (ThreadIds s) = s.threads
+threads_of (Printer s) = s.threads
 
 -- addresses are words
-abbrev pub IsAddressed : CoreShape → Type 0
+abbrev pub IsAddressed : CoreKind → Type 0
 IsAddressed (Bank s) = s.address_width ≡ 64
 IsAddressed _ = Unit {0}
 
 -- the module of a shape and nothing else
-abbrev pub IsTable : CoreShape → Module → Type 0
+abbrev pub IsTable : CoreKind → Module → Type 0
 IsTable (Bank s) m = IsBank s m
 IsTable (Mutex s) m = IsMutex s m
 IsTable (Barrier s) m = IsBarrier s m
-IsTable (Forks s) m = IsForks s m
-IsTable (Prints s) m = IsPrinter s m
+IsTable (ThreadIds s) m = IsForks s m
+IsTable (Printer s) m = IsPrinter s m
 
 -- the input ports stand before this place
-abbrev pub inputs_of : CoreShape → ℕ
+abbrev pub inputs_of : CoreKind → ℕ
 inputs_of (Bank s) = bank.inputs s
 inputs_of (Mutex s) = mutex.inputs s
 inputs_of (Barrier s) = barrier.inputs s.threads
-inputs_of (Forks s) = forks.inputs s
-inputs_of (Prints s) = printer.inputs s
+inputs_of (ThreadIds s) = thread_ids.inputs s
+inputs_of (Printer s) = printer.inputs s
 
-abbrev pub input_widths : CoreShape → List ℕ
+abbrev pub input_widths : CoreKind → List ℕ
 input_widths (Bank s) = bank.input_widths s
 input_widths (Mutex s) = mutex.input_widths s
 input_widths (Barrier s) = barrier.input_widths s.threads
-input_widths (Forks s) = forks.input_widths s
-input_widths (Prints s) = printer.input_widths s
+input_widths (ThreadIds s) = thread_ids.input_widths s
+input_widths (Printer s) = printer.input_widths s
 
-abbrev pub output_widths : CoreShape → List ℕ
+abbrev pub output_widths : CoreKind → List ℕ
 output_widths (Bank s) = bank.output_widths s
 output_widths (Mutex s) = mutex.output_widths s
 output_widths (Barrier s) = barrier.output_widths s.threads
-output_widths (Forks s) = forks.output_widths s
-output_widths (Prints s) = printer.output_widths s
+output_widths (ThreadIds s) = thread_ids.output_widths s
+output_widths (Printer s) = printer.output_widths s
 
 -- the grants, and what follows from them
-abbrev pub is_late : CoreShape → ℕ → Bool
+abbrev pub is_late : CoreKind → ℕ → Bool
 is_late (Bank s) = bank.is_late s
 is_late (Mutex s) = mutex.is_late s
 is_late (Barrier s) = barrier.is_late s.threads
-is_late (Forks s) = forks.is_late s
-is_late (Prints s) = printer.is_late s
+is_late (ThreadIds s) = thread_ids.is_late s
+is_late (Printer s) = printer.is_late s
 
 -- a module is a core of so many threads: it is that of its shape, keeps its machine's promise, and can stand in a table
-pub record IsCoreModule (threads : ℕ) (shape : CoreShape) (m : Module) : Type 0 where
+pub record IsCoreModule (threads : ℕ) (shape : CoreKind) (m : Module) : Type 0 where
   pub asked_by : threads_of shape ≡ threads
   pub addressed : IsAddressed shape
   pub core : IsCore (machine_of (Some shape)) (places_of (Some shape)) (threads_of shape) m

@@ -1,186 +1,112 @@
--- The modules of the cores that are wanted stand at their places.
-use Rattle.std.proofs.Common.{◌≡◌, ℕ, zero, suc, ◌+◌, ◌<◌, ◌≤◌, Bool, true, false, nat_lt, if◌then◌else◌, List, [], ◌∷◌, ◌++◌, length, Some}
-use Rattle.std.proofs.Common.{refl, sym, ap, ◌∙◌, subst, ⊎_elim, arith, length-append, append_assoc}
-use Rattle.std.specs.Prelude.{not, slice_get}
-use Rattle.std.specs.List.{list_any}
-use Rattle.std.proofs.lemmas.Bool.{cases_lt}
-use Rattle.std.proofs.lemmas.Bool.Decides.{nat_tests}
-use Rattle.std.proofs.lemmas.Option.{same_Some, none-some, slice_get_within}
-use Rattle.std.proofs.lemmas.Map.Keys.{any_passes_from_place}
-use Rattle.hls_ints.specs.Residues.{bit_of}
-use Rattle.lists.proofs.Places.{get_front, get_last}
+-- The modules of the cores that are wanted, each once.
+use Rattle.std.proofs.Common.{◌≡◌, ℕ, suc, ◌+◌, Bool, true, false, List, [], ◌∷◌, ◌++◌, length, map, take, Some, add-one, refl, sym, ap, ◌∙◌, subst, ⊎_elim}
+use Rattle.std.specs.Prelude.{nat_lt, slice_get, Result, Ok, Err, IfOk}
+use Rattle.lists.proofs.Places.{get_front, get_last, get_mapped, get_pushed, length_more, take_next}
 use Rattle.netlist.specs.declared.netlist.Module.{Module}
 use Rattle.circuit.specs.Rows.{EachOf}
+use Rattle.circuit.specs.Modules.{IsLeaf}
+use Rattle.circuit.specs.Interfaces.{IsTableModule}
+use Rattle.circuit.specs.Machines.{IsCore}
+use Rattle.circuit.proofs.Edges.{each_joined}
 use Rattle.bank_cores.specs.declared.bank.Shape.{Shape as BankShape}
-use Rattle.mutex_cores.specs.declared.mutex.Shape.{Shape as MutexShape}
-use Rattle.core_tables.specs.Family.{CoreShape, Bank, Mutex, Prints, IsCoreModule}
+use Rattle.core_tables.specs.Family.{CoreKind, Bank, Printer, machine_of, places_of, threads_of, inputs_of, input_widths, output_widths, is_late, IsAddressed, IsTable, IsCoreModule}
+use Rattle.core_tables.proofs.Lists.{there}
 use Rattle.core_family.specs.declared.cores.Cores.{Cores}
-use Rattle.core_family.specs.Kinds.{barrier, forks}
-use Rattle.core_places.specs.Placing.{unset_at, free_at, barrier_at, forks_at, printer_at, mutex_at, HasKind, AreKinds}
-use Rattle.core_places.specs.Kinds.{IsWantedBank, HaveModules, AreBankModules, IsWhereWanted, unset_mutex, free_mutex, AreMutexModules, AreLastModules}
+use Rattle.core_family.specs.declared.cores.CoreKind.{CoreKind as Held}
+use Rattle.core_family.specs.Kinds.{barrier, thread_ids, one_if}
+use Rattle.core_family.specs.View.{kind_of}
+use Rattle.core_places.specs.Placing.{has_unset, has_free, mutex, objects, distinct, AreModules}
+use Rattle.core_places.specs.Kinds.{IsWantedBank, IsRight, HaveModules}
 
-each_at : {A : Type 0} (P : A → Type 0) (xs : List A) (i : ℕ) (x : A) → EachOf P xs → slice_get xs i ≡ Some x → P x
-each_at P [] i x all e = absurd (none-some x e)
-each_at P (y ∷ xs) zero x all e = subst P (same_Some y x e) all.0
-each_at P (y ∷ xs) (suc i) x all e = each_at P xs i x all.1 e
+-- ---- one more
 
-pub wanted_at : {threads : ℕ} (banks : List BankShape) (i : ℕ) (b : BankShape) → EachOf (IsWantedBank threads) banks → slice_get banks i ≡ Some b → IsWantedBank threads b
-wanted_at {threads} banks i b all e = each_at (IsWantedBank threads) banks i b all e
+pub no_modules : (threads : ℕ) → AreModules threads [] []
+no_modules threads = record { count = refl; each = λ j s e. absurd cc }
 
--- a list that goes on has what it had
-further : {threads : ℕ} (xs ys : List Module) (place : ℕ) (s : CoreShape) → HasKind threads xs place s → HasKind threads (xs ++ ys) place s
-further xs ys place s h = record { body = h.body; listed = get_front xs ys place h.body h.listed; is = h.is }
-
--- ---- banks
-
-pub no_modules : (threads : ℕ) (banks : List BankShape) → AreBankModules threads banks 0 []
-no_modules threads banks = record { count = refl; each = λ i b l e. absurd (omega (arith, l)) }
-
-pub one_module_more : (threads : ℕ) (banks : List BankShape) (i : ℕ) (modules : List Module) (b : BankShape) (m : Module) → slice_get banks i ≡ Some b →
-    AreBankModules threads banks i modules → IsCoreModule threads (Bank b) m → AreBankModules threads banks (i + 1) (modules ++ m ∷ [])
-one_module_more threads banks i modules b m at are is = record {
-  count = let n = length-append modules (m ∷ []) in let c = are.count in omega (arith, n, c);
-  each = λ j d l e.
+one_more : (threads : ℕ) (kinds : List CoreKind) (modules : List Module) (s : CoreKind) (m : Module) → AreModules threads kinds modules → IsCoreModule threads s m →
+    AreModules threads (kinds ++ s ∷ []) (modules ++ m ∷ [])
+one_more threads kinds modules s m are is = record {
+  count = length_more modules m ∙ ap suc are.count ∙ sym (length_more kinds s);
+  each = λ j d e.
       ⊎_elim
-      (λ (before : j < i). further modules (m ∷ []) j (Bank d) (are.each j d before e))
-      (λ (past : i ≤ j).
-      let same : i ≡ j = omega (arith, l, past) in
-      let here : slice_get banks i ≡ Some d = ap (slice_get banks) same ∙ e in
-      let bank : b ≡ d = cc in
-      let place : length modules ≡ j = are.count ∙ same in
+      (λ (before : slice_get kinds j ≡ Some d).
+      let h = are.each j d before in record { body = h.body; listed = get_front modules (m ∷ []) j h.body h.listed; is = h.is })
+      (λ (last : (j ≡ length kinds) × (s ≡ d)).
       record {
         body = m;
-        listed = ap (slice_get (modules ++ m ∷ [])) (sym place) ∙ get_last modules m;
-        is = subst (λ (z : BankShape). IsCoreModule threads (Bank z) m) bank is;
+        listed = ap (slice_get (modules ++ m ∷ [])) (last.0 ∙ sym are.count) ∙ get_last modules m;
+        is = subst (λ (z : CoreKind). IsCoreModule threads z m) last.1 is;
       })
-      (cases_lt j i);
+      (get_pushed kinds s j d e);
 }
 
--- ---- a module that is there where it is wanted
+-- ---- each has a module
 
--- it stands behind those before it
-there_by : (threads : ℕ) (xs ms : List Module) (s : CoreShape) (on : Bool) → on ≡ true → IsWhereWanted on (IsCoreModule threads s) ms → HasKind threads (xs ++ ms) (length xs) s
-there_by threads xs ms s true e w = record {
-  body = w.0;
-  listed = ap (λ (l : List Module). slice_get (xs ++ l) (length xs)) w.1 ∙ get_last xs w.0;
-  is = w.2;
-}
-there_by threads xs ms s false e w = absurd (let z : false ≡ true = e in cc)
+abbrev IsWanted : ℕ → CoreKind → Type 0
+IsWanted threads s = IsRight s × (threads_of s ≡ threads)
 
-there : (threads : ℕ) (xs ms : List Module) (s : CoreShape) (on : Bool) (n : ℕ) → on ≡ true → IsWhereWanted on (IsCoreModule threads s) ms → length xs ≡ n →
-    HasKind threads (xs ++ ms) n s
-there threads xs ms s on n e w same = subst (λ k. HasKind threads (xs ++ ms) k s) same (there_by threads xs ms s on e w)
+banks_right : (threads : ℕ) (banks : List BankShape) → EachOf (IsWantedBank threads) banks → EachOf (IsWanted threads) (map Bank banks)
+banks_right threads [] all = tt
+banks_right threads (b ∷ banks) all =
+    let own = all.0 in
+    ((record { asked_by = refl; addressed = own.addressed; shape = own.shape }, own.asked_by), banks_right threads banks all.1)
 
-count_by : (xs ms : List Module) (Is : Module → Type 0) (on : Bool) → IsWhereWanted on Is ms → length (xs ++ ms) ≡ length xs + bit_of on
-count_by xs ms Is true w = let n = length-append xs ms in let one : length ms ≡ 1 = ap length w.1 in omega (arith, n, one)
-count_by xs ms Is false w = let n = length-append xs ms in let none : length ms ≡ 0 = ap length w in omega (arith, n, none)
+one_right : (threads : ℕ) (on : Bool) (s : CoreKind) → IsWanted threads s → EachOf (IsWanted threads) (one_if on s)
+one_right threads true s is = (is, tt)
+one_right threads false s is = tt
 
--- ---- mutexes
+all_right : (w : Cores) → HaveModules w → EachOf (IsWanted w.threads) (distinct w)
+all_right w right =
+    let P = IsWanted w.threads in
+    let few = right.few in
+    each_joined P ((objects w ++ one_if (nat_lt 0 w.barriers) (barrier w)) ++ one_if w.thread_ids (thread_ids w)) (Printer w.printer ∷ [])
+    (each_joined P (objects w ++ one_if (nat_lt 0 w.barriers) (barrier w)) (one_if w.thread_ids (thread_ids w))
+    (each_joined P (objects w) (one_if (nat_lt 0 w.barriers) (barrier w))
+    (each_joined P (map Bank w.banks ++ one_if (has_unset w) (mutex w false)) (one_if (has_free w) (mutex w true))
+    (each_joined P (map Bank w.banks) (one_if (has_unset w) (mutex w false)) (banks_right w.threads w.banks right.banks) (one_right w.threads (has_unset w) (mutex w false) (few, refl)))
+    (one_right w.threads (has_free w) (mutex w true) (few, refl)))
+    (one_right w.threads (nat_lt 0 w.barriers) (barrier w) (few, refl)))
+    (one_right w.threads w.thread_ids (thread_ids w) ((right.some, few), refl)))
+    ((right.printer, right.asked_by), tt)
 
-module _ (w : Cores) (right : HaveModules w) (banks : List Module) (are_banks : AreBankModules w.threads w.banks (length w.banks) banks) where
-  module _ (mutexes : List Module) (are_mutexes : AreMutexModules w mutexes) where
-    abbrev unset : List Module
-    unset = are_mutexes.unset
+-- ---- as they are made
 
-    abbrev free : List Module
-    free = are_mutexes.free
+pub core_module : {E : Type 0} (s : CoreKind) (x : Result Module E) → IsAddressed s → IfOk x (IsCore (machine_of (Some s)) (places_of (Some s)) (threads_of s)) →
+    IfOk x (λ m. IsLeaf m (inputs_of s) (is_late s)) → IfOk x (IsTable s) → IfOk x (λ m. IsTableModule m (input_widths s) (output_widths s)) →
+    IfOk x (IsCoreModule (threads_of s) s)
+core_module s (Ok m) addressed core leaf table stands = record { asked_by = refl; addressed = addressed; core = core; leaf = leaf; table = table; stands = stands }
+core_module s (Err e) addressed core leaf table stands = tt
 
-    abbrev any_unset : Bool
-    any_unset = list_any (λ (m : MutexShape). not m.initialised) w.mutexes
+-- the kinds in their order
+pub are_distinct : (w : Cores) (a b c d e f : List CoreKind) (banks : List BankShape) (unset free : Bool) (first next : CoreKind) → a ≡ map Bank banks → banks ≡ w.banks →
+    b ≡ a ++ one_if unset first → c ≡ b ++ one_if free next → d ≡ c ++ one_if (nat_lt 0 w.barriers) (barrier w) → e ≡ d ++ one_if w.thread_ids (thread_ids w) →
+    f ≡ e ++ Printer w.printer ∷ [] → unset ≡ has_unset w → first ≡ mutex w false → free ≡ has_free w → next ≡ mutex w true → f ≡ distinct w
+are_distinct w a b c d e f banks unset free first next is_a is_banks is_b is_c is_d is_e is_f is_unset is_first is_free is_next =
+    let own : List CoreKind = map Bank w.banks in
+    let before : List CoreKind = own ++ one_if (has_unset w) (mutex w false) in
+    is_f
+    ∙ ap (λ (l : List CoreKind). l ++ Printer w.printer ∷ [])
+    (is_e
+    ∙ ap (λ (l : List CoreKind). l ++ one_if w.thread_ids (thread_ids w))
+    (is_d
+    ∙ ap (λ (l : List CoreKind). l ++ one_if (nat_lt 0 w.barriers) (barrier w))
+    (is_c
+    ∙ ap (λ (l : List CoreKind). l ++ one_if free next)
+    (is_b ∙ ap (λ (l : List CoreKind). l ++ one_if unset first) (is_a ∙ ap (λ (bs : List BankShape). map Bank bs) is_banks)
+    ∙ ap (λ (z : Bool). own ++ one_if z first) is_unset ∙ ap (λ (z : CoreKind). own ++ one_if (has_unset w) z) is_first)
+    ∙ ap (λ (z : Bool). before ++ one_if z next) is_free ∙ ap (λ (z : CoreKind). before ++ one_if (has_free w) z) is_next)))
 
-    abbrev any_free : Bool
-    any_free = list_any (λ (m : MutexShape). m.initialised) w.mutexes
+module _ (w : Cores) (right : HaveModules w) (held : List Held) (are : map kind_of held ≡ distinct w) (i : ℕ) (k : Held) (listed : slice_get held i ≡ Some k) where
+  wanted : IsWanted w.threads (kind_of k)
+  wanted = there (IsWanted w.threads) (distinct w) (all_right w right) i (kind_of k) (ap (λ (l : List CoreKind). slice_get l i) (sym are) ∙ get_mapped kind_of held i k listed)
 
-    abbrev to_free : List Module
-    to_free = (banks ++ unset) ++ free
+  pub is_right : IsRight (kind_of k)
+  is_right = wanted.0
 
-    before_free : length (banks ++ unset) ≡ free_at w
-    before_free = count_by banks unset (IsCoreModule w.threads (Mutex (unset_mutex w))) any_unset are_mutexes.is_unset ∙ ap (λ n. n + bit_of any_unset) are_banks.count
-
-    before_barrier : length to_free ≡ barrier_at w
-    before_barrier = count_by (banks ++ unset) free (IsCoreModule w.threads (Mutex (free_mutex w))) any_free are_mutexes.is_free ∙ ap (λ n. n + bit_of any_free) before_free
-
-    unset_there : any_unset ≡ true → HasKind w.threads to_free (unset_at w) (Mutex (unset_mutex w))
-    unset_there on =
-        further (banks ++ unset) free (unset_at w) (Mutex (unset_mutex w))
-        (there w.threads banks unset (Mutex (unset_mutex w)) any_unset (unset_at w) on are_mutexes.is_unset are_banks.count)
-
-    free_there : any_free ≡ true → HasKind w.threads to_free (free_at w) (Mutex (free_mutex w))
-    free_there on = there w.threads (banks ++ unset) free (Mutex (free_mutex w)) any_free (free_at w) on are_mutexes.is_free before_free
-
-    mutex_by : (n : ℕ) (m : MutexShape) → slice_get w.mutexes n ≡ Some m → (b : Bool) → m.initialised ≡ b → HasKind w.threads to_free (mutex_at w m) (Mutex m)
-    mutex_by n m e true is =
-        let kind : mutex_at w m ≡ free_at w = ap (λ b. if b then free_at w else unset_at w) is in
-        let same : free_mutex w ≡ m = ap (λ (t : ℕ). shape t true) (sym asked) ∙ ap (shape m.threads) (sym is) in
-        let has = free_there (any_passes_from_place (λ (m : MutexShape). m.initialised) w.mutexes n m e is) in
-        subst (λ (z : MutexShape). HasKind w.threads to_free (mutex_at w m) (Mutex z)) same
-        (subst (λ k. HasKind w.threads to_free k (Mutex (free_mutex w))) (sym kind) has)
-      where
-        shape : ℕ → Bool → MutexShape
-        shape t b = record { threads = t; initialised = b }
-
-        asked : m.threads ≡ w.threads
-        asked = each_at (λ (m : MutexShape). m.threads ≡ w.threads) w.mutexes n m right.mutexes e
-    mutex_by n m e false is =
-        let kind : mutex_at w m ≡ unset_at w = ap (λ b. if b then free_at w else unset_at w) is in
-        let same : unset_mutex w ≡ m = ap (λ (t : ℕ). shape t false) (sym asked) ∙ ap (shape m.threads) (sym is) in
-        let has = unset_there (any_passes_from_place (λ (m : MutexShape). not m.initialised) w.mutexes n m e (ap not is)) in
-        subst (λ (z : MutexShape). HasKind w.threads to_free (mutex_at w m) (Mutex z)) same
-        (subst (λ k. HasKind w.threads to_free k (Mutex (unset_mutex w))) (sym kind) has)
-      where
-        shape : ℕ → Bool → MutexShape
-        shape t b = record { threads = t; initialised = b }
-
-        asked : m.threads ≡ w.threads
-        asked = each_at (λ (m : MutexShape). m.threads ≡ w.threads) w.mutexes n m right.mutexes e
-
-    module _ (barriers forks_list : List Module) (printer : Module) (is_barrier : IsWhereWanted (nat_lt 0 w.barriers) (IsCoreModule w.threads (barrier w)) barriers)
-        (is_forks : IsWhereWanted w.ids (IsCoreModule w.threads (forks w)) forks_list) (is_printer : IsCoreModule w.threads (Prints w.printer) printer) where
-      abbrev to_barrier : List Module
-      to_barrier = to_free ++ barriers
-
-      abbrev to_forks : List Module
-      to_forks = to_barrier ++ forks_list
-
-      abbrev all_kinds : List Module
-      all_kinds = to_forks ++ printer ∷ []
-
-      before_forks : length to_barrier ≡ forks_at w
-      before_forks = count_by to_free barriers (IsCoreModule w.threads (barrier w)) (nat_lt 0 w.barriers) is_barrier ∙ ap (λ n. n + bit_of (nat_lt 0 w.barriers)) before_barrier
-
-      before_printer : length to_forks ≡ printer_at w
-      before_printer = count_by to_barrier forks_list (IsCoreModule w.threads (forks w)) w.ids is_forks ∙ ap (λ n. n + bit_of w.ids) before_forks
-
-      -- past the mutexes
-      past : (place : ℕ) (s : CoreShape) → HasKind w.threads to_free place s → HasKind w.threads all_kinds place s
-      past place s h = further to_forks (printer ∷ []) place s (further to_barrier forks_list place s (further to_free barriers place s h))
-
-      kinds_are : AreKinds w all_kinds
-      kinds_are = record {
-        count = let n = length-append to_forks (printer ∷ []) in let b = before_printer in omega (arith, n, b);
-        bank = λ i b e.
-            past i (Bank b) (further (banks ++ unset) free i (Bank b) (further banks unset i (Bank b) (are_banks.each i b (slice_get_within w.banks i b e) e)));
-        mutex = λ n m e. past (mutex_at w m) (Mutex m) (mutex_by n m e m.initialised refl);
-        barriers = λ l.
-            let on : nat_lt 0 w.barriers ≡ true = grind (arith, nat_tests, l) in
-            further to_forks (printer ∷ []) (barrier_at w) (barrier w)
-            (further to_barrier forks_list (barrier_at w) (barrier w)
-            (there w.threads to_free barriers (barrier w) (nat_lt 0 w.barriers) (barrier_at w) on is_barrier before_barrier));
-        ids = λ on. further to_forks (printer ∷ []) (forks_at w) (forks w) (there w.threads to_barrier forks_list (forks w) w.ids (forks_at w) on is_forks before_forks);
-        printer = record { body = printer; listed = ap (slice_get all_kinds) (sym before_printer) ∙ get_last to_forks printer; is = is_printer };
-      }
-
--- the list as it is joined
-pub are_kinds : (w : Cores) → HaveModules w → (banks mutexes last kinds : List Module) → AreBankModules w.threads w.banks (length w.banks) banks → AreMutexModules w mutexes →
-    AreLastModules w last → kinds ≡ (banks ++ mutexes) ++ last → AreKinds w kinds
-are_kinds w right banks mutexes last kinds are_banks are_mutexes are_last same =
-    let apart : (banks ++ are_mutexes.unset) ++ are_mutexes.free ≡ banks ++ mutexes = append_assoc banks are_mutexes.unset are_mutexes.free
-    ∙ ap (λ l. banks ++ l) (sym are_mutexes.are) in
-    let printer : List Module = are_last.printer ∷ [] in
-    let whole : ((((banks ++ are_mutexes.unset) ++ are_mutexes.free) ++ are_last.barriers) ++ are_last.forks_list) ++ printer ≡ kinds =
-    ap (λ l. l ++ printer) (append_assoc ((banks ++ are_mutexes.unset) ++ are_mutexes.free) are_last.barriers are_last.forks_list)
-    ∙ append_assoc ((banks ++ are_mutexes.unset) ++ are_mutexes.free) (are_last.barriers ++ are_last.forks_list) printer
-    ∙ ap (λ l. l ++ ((are_last.barriers ++ are_last.forks_list) ++ printer)) apart
-    ∙ ap (λ l. (banks ++ mutexes) ++ l) (sym are_last.are) ∙ sym same in
-    subst (AreKinds w) whole
-    (kinds_are w right banks are_banks mutexes are_mutexes are_last.barriers are_last.forks_list are_last.printer are_last.is_barrier are_last.is_forks are_last.is_printer)
+  pub one_made : (modules after : List Module) (m : Module) → AreModules w.threads (take i (map kind_of held)) modules → IsCoreModule (threads_of (kind_of k)) (kind_of k) m →
+      after ≡ modules ++ m ∷ [] → AreModules w.threads (take (i + 1) (map kind_of held)) after
+  one_made modules after m before is same =
+      subst (λ (ms : List Module). AreModules w.threads (take (i + 1) (map kind_of held)) ms) (sym same)
+      (subst (λ (ks : List CoreKind). AreModules w.threads ks (modules ++ m ∷ []))
+      (sym (ap (λ n. take n (map kind_of held)) (add-one i) ∙ take_next (map kind_of held) i (kind_of k) (get_mapped kind_of held i k listed)))
+      (one_more w.threads (take i (map kind_of held)) modules (kind_of k) m before (subst (λ n. IsCoreModule n (kind_of k) m) wanted.1 is)))

@@ -13,7 +13,7 @@ abbrev bank : BankShape
 bank = record { threads = 3; name = codes "x"; number = 0; address_width = 64; width = 32; initial = 0 ∷ [] }
 
 abbrev with : List MutexShape → Cores
-with mutexes = record { threads = 3; banks = bank ∷ []; mutexes = mutexes; barriers = 1; ids = true; printer = record { threads = 3; values = 4; sites = [] } }
+with mutexes = record { threads = 3; banks = bank ∷ []; mutexes = mutexes; barriers = 1; thread_ids = true; printer = record { threads = 3; values = 4; sites = [] } }
 
 abbrev unset : MutexShape
 unset = record { threads = 3; initialised = false }
@@ -22,10 +22,10 @@ abbrev free : MutexShape
 free = record { threads = 3; initialised = true }
 
 abbrev kinds : Cores → List ℕ
-kinds w = map (λ (c : PlacedCore). c.kind) (placed w)
+kinds w = map (λ (c : PlacedCore). c.place) (placed w)
 
 abbrev ports : List CorePort
-ports = map (λ (c : PlacedCore). port_of c.shape) (placed (with (unset ∷ free ∷ [])))
+ports = map (λ (c : PlacedCore). port_of c.kind) (placed (with (unset ∷ free ∷ [])))
 
 -- each has a module of its own; two mutexes that begin alike have one
 apart : kinds (with (unset ∷ free ∷ [])) ≡ 0 ∷ 1 ∷ 2 ∷ 3 ∷ 4 ∷ 5 ∷ []
@@ -40,7 +40,7 @@ free_before = refl
 numbers : map (λ (c : PlacedCore). c.number) (placed (with (unset ∷ free ∷ []))) ≡ 0 ∷ 0 ∷ 1 ∷ 0 ∷ 0 ∷ 0 ∷ []
 numbers = refl
 
--- what a thread asks: the bank, the mutexes, the barrier, the ids, the printer; and what it is told: a word, whether it waits, whether it runs,
+-- what a thread asks: the bank, the mutexes, the barrier, the thread ids, the printer; and what it is told: a word, whether it waits, whether it runs,
 -- its argument
 asks : asks_of ports ≡
     1 ∷ 1 ∷ 64 ∷ 32 ∷ 1 ∷ 2 ∷ 1 ∷ 2 ∷ 1 ∷ 2 ∷ 64 ∷ 1 ∷ 2 ∷ 64 ∷ 64 ∷ 1 ∷ 16 ∷ 64 ∷ 64 ∷ 64 ∷ 64 ∷ []

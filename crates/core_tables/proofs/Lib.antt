@@ -5,7 +5,7 @@ pub mod TablesFit
 pub mod Banks
 pub mod Barriers
 pub mod CoresFit
-pub mod Ids
+pub mod ThreadIds
 pub mod Mutexes
 pub mod Ports
 pub mod Printer

@@ -20,6 +20,10 @@ there P [] e k x h = absurd (none-some x h)
 there P (y ∷ ys) e zero x h = subst P (same_Some y x h) e.0
 there P (y ∷ ys) e (suc k) x h = there P ys e.1 k x h
 
+pub each_of : {A : Type 0} (P : A → Type 0) (xs : List A) → ((k : ℕ) (x : A) → slice_get xs k ≡ Some x → P x) → EachOf P xs
+each_of P [] h = tt
+each_of P (x ∷ xs) h = (h 0 x refl, each_of P xs (λ k y e. h (suc k) y e))
+
 pub behind_one : {A : Type 0} (xs : List A) (y : A) (ys : List A) (k : ℕ) → slice_get (xs ++ y ∷ ys) (length xs + 1 + k) ≡ slice_get ys k
 behind_one [] y ys k = ap (slice_get (y ∷ ys)) (let e : 0 + 1 + k ≡ suc k = omega arith in e)
 behind_one (x ∷ xs) y ys k =

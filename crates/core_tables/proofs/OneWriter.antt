@@ -14,7 +14,7 @@ use Rattle.top_wiring.specs.Parts.{ask_widths, thread_part, core_part, arbiter_p
 use Rattle.top_wiring.specs.Sound.{WritesIn, IsOf}
 use Rattle.top_wiring.proofs.Lists.{IsBehind, get_either, spread_back}
 use Rattle.top_wiring.proofs.TopPlaces.{core_part_at}
-use Rattle.core_family.specs.Family.{CoreShape, Bank, Mutex, Barrier, Forks, Prints}
+use Rattle.core_family.specs.Family.{CoreKind, Bank, Mutex, Barrier, ThreadIds, Printer}
 use Rattle.core_family.specs.Laws.{IsNoPrinter}
 use Rattle.core_family.proofs.OnePrinter.{others_silent}
 use Rattle.print_core.specs.declared.printer.Shape.{Shape as PrinterShape}
@@ -23,12 +23,12 @@ use Rattle.core_tables.specs.Laws.{SameOf, StandOnce, HasPrinter, OneWrites, Pri
 use Rattle.core_tables.proofs.Lists.{map_back, map_get, there, behind_one, InMiddle, InFront, TheOne, Behind, in_middle}
 
 -- a shape is that of a printer or of none
-either_kind : (s : CoreShape) → ((p : PrinterShape) × (s ≡ Prints p)) ⊎ IsNoPrinter s
+either_kind : (s : CoreKind) → ((p : PrinterShape) × (s ≡ Printer p)) ⊎ IsNoPrinter s
 either_kind (Bank s) = inr (λ p e. cc)
 either_kind (Mutex s) = inr (λ p e. cc)
 either_kind (Barrier s) = inr (λ p e. cc)
-either_kind (Forks s) = inr (λ p e. cc)
-either_kind (Prints s) = inl (s, refl)
+either_kind (ThreadIds s) = inr (λ p e. cc)
+either_kind (Printer s) = inl (s, refl)
 
 module _ (t : Table) (has : HasCores t) (stands : StandOnce t) (prints : HasPrinter t) where
   abbrev asks : List ℕ
@@ -38,7 +38,7 @@ module _ (t : Table) (has : HasCores t) (stands : StandOnce t) (prints : HasPrin
   T = length t.threads
 
   abbrev writer : ℕ
-  writer = kinds_at t + prints.core.kind
+  writer = kinds_at t + prints.core.place
 
   -- ---- which module writes
 
@@ -46,27 +46,27 @@ module _ (t : Table) (has : HasCores t) (stands : StandOnce t) (prints : HasPrin
   no_write m silent i a e w = let s : is_write a.effect ≡ false = there IsSilent m.actions silent i a e in let z : true ≡ false = sym w ∙ s in cc
 
   -- a core that writes is the printer
-  is_printer : (k : ℕ) (c : PlacedCore) → slice_get t.cores k ≡ Some c → ((p : PrinterShape) × (c.shape ≡ Prints p)) → k ≡ prints.place
+  is_printer : (k : ℕ) (c : PlacedCore) → slice_get t.cores k ≡ Some c → ((p : PrinterShape) × (c.kind ≡ Printer p)) → k ≡ prints.place
   is_printer k c e p =
       stands.once k prints.place c prints.core e prints.listed
-      (subst (λ s. SameOf s c.number prints.core.shape prints.core.number) (sym p.1)
-      (subst (λ s. SameOf (Prints p.0) c.number s prints.core.number) (sym prints.is) tt))
+      (subst (λ s. SameOf s c.number prints.core.kind prints.core.number) (sym p.1)
+      (subst (λ s. SameOf (Printer p.0) c.number s prints.core.number) (sym prints.is) tt))
 
   -- the same core has the same kind
-  same_kind : (k : ℕ) (c : PlacedCore) → slice_get t.cores k ≡ Some c → k ≡ prints.place → c.kind ≡ prints.core.kind
+  same_kind : (k : ℕ) (c : PlacedCore) → slice_get t.cores k ≡ Some c → k ≡ prints.place → c.place ≡ prints.core.place
   same_kind k c e at =
-      ap (λ (z : PlacedCore). z.kind) (same_Some c prints.core (sym e ∙ ap (slice_get t.cores) at ∙ prints.listed))
+      ap (λ (z : PlacedCore). z.place) (same_Some c prints.core (sym e ∙ ap (slice_get t.cores) at ∙ prints.listed))
 
   -- a module of a core that writes is a printer's
-  writes_as : (k : ℕ) (c : PlacedCore) (m : Module) → slice_get t.cores k ≡ Some c → slice_get t.kinds c.kind ≡ Some m →
+  writes_as : (k : ℕ) (c : PlacedCore) (m : Module) → slice_get t.cores k ≡ Some c → slice_get t.kinds c.place ≡ Some m →
       (i : ℕ) (a : Action) → slice_get m.actions i ≡ Some a → is_write a.effect ≡ true → k ≡ prints.place
   writes_as k c m e l i a f w =
       let its = has.each k c e in
       let same : its.body ≡ m = same_Some its.body m (sym its.listed ∙ l) in
-      ⊎_elim (λ (p : (q : PrinterShape) × (c.shape ≡ Prints q)). is_printer k c e p)
-      (λ (never : IsNoPrinter c.shape).
-      absurd (no_write m (subst (λ (z : Module). EachOf IsSilent z.actions) same (others_silent T c.shape its.body its.is never)) i a f w))
-      (either_kind c.shape)
+      ⊎_elim (λ (p : (q : PrinterShape) × (c.kind ≡ Printer q)). is_printer k c e p)
+      (λ (never : IsNoPrinter c.kind).
+      absurd (no_write m (subst (λ (z : Module). EachOf IsSilent z.actions) same (others_silent T c.kind its.body its.is never)) i a f w))
+      (either_kind c.kind)
 
   writer_is : (k : ℕ) → WritesIn (layout_of t) (modules_of t) k → k ≡ writer
   writer_is k w = by (in_middle t.routines t.arbiter t.kinds k w.module_ w.listed)
@@ -79,10 +79,10 @@ module _ (t : Table) (has : HasCores t) (stands : StandOnce t) (prints : HasPrin
       by (Behind j at l) =
           let u = prints.used j w.module_ l in
           let c = u.1 in
-          let kind : c.kind ≡ j = u.3 in
-          let own : slice_get t.kinds c.kind ≡ Some w.module_ = ap (slice_get t.kinds) kind ∙ l in
+          let kind : c.place ≡ j = u.3 in
+          let own : slice_get t.kinds c.place ≡ Some w.module_ = ap (slice_get t.kinds) kind ∙ l in
           let place = writes_as u.0 c w.module_ u.2 own w.number w.action w.stands w.writes in
-          let same : c.kind ≡ prints.core.kind = same_kind u.0 c u.2 place in
+          let same : c.place ≡ prints.core.place = same_kind u.0 c u.2 place in
           omega (arith, at, kind, same)
 
   -- ---- its instance
@@ -117,7 +117,7 @@ module _ (t : Table) (has : HasCores t) (stands : StandOnce t) (prints : HasPrin
       (get_either (map (thread_part asks) t.threads ++ map (core_part T) (layout_of t).cores)
       (spread (arbiter_part T (length t.routines)) 0 (length (layout_of t).cores)) i p l)
     where
-      at_writer : k ≡ length t.routines + 1 + prints.core.kind
+      at_writer : k ≡ length t.routines + 1 + prints.core.place
       at_writer = writer_is k w
 
       of_thread : slice_get (map (thread_part asks) t.threads) i ≡ Some p → ⊥
@@ -139,11 +139,11 @@ module _ (t : Table) (has : HasCores t) (stands : StandOnce t) (prints : HasPrin
       of_core j at f =
           let x = map_back (core_part T) (layout_of t).cores j p f in
           let c = map_back (laid_core (kinds_at t)) t.cores j x.0 x.1 in
-          let number : p.of ≡ length t.routines + 1 + c.0.kind = ap (λ (z : Part). z.of) x.2 ∙ ap (λ (z : Core). z.module) c.2 in
+          let number : p.of ≡ length t.routines + 1 + c.0.place = ap (λ (z : Part). z.of) x.2 ∙ ap (λ (z : Core). z.module) c.2 in
           let wr = at_writer in
-          let same : k ≡ length t.routines + 1 + c.0.kind = omega (arith, number, of) in
-          let listed : slice_get t.kinds c.0.kind ≡ Some w.module_ =
-          sym (behind_one t.routines t.arbiter t.kinds c.0.kind) ∙ ap (slice_get (modules_of t)) (sym same) ∙ w.listed in
+          let same : k ≡ length t.routines + 1 + c.0.place = omega (arith, number, of) in
+          let listed : slice_get t.kinds c.0.place ≡ Some w.module_ =
+          sym (behind_one t.routines t.arbiter t.kinds c.0.place) ∙ ap (slice_get (modules_of t)) (sym same) ∙ w.listed in
           let place = writes_as j c.0 w.module_ c.1 listed w.number w.action w.stands w.writes in
           let many : length (map (thread_part asks) t.threads) ≡ T = length-map t.threads (thread_part asks) in
           omega (arith, at, place, many)

@@ -20,9 +20,9 @@ use Rattle.top_wiring.specs.Machine.{IsCoreAt}
 use Rattle.print_core.specs.declared.format.Part.{Part}
 use Rattle.print_core.specs.declared.printer.Shape.{Shape}
 use Rattle.print_core.specs.Rows as row
-use Rattle.print_core.specs.Printer as printer
+use Rattle.print_core.specs.Printer as table
 use Rattle.print_core.specs.Machine.{printer_machine, printer_places, part_place, inputs, input_widths, output_widths, is_late}
-use Rattle.core_family.specs.Family.{Prints, IsCoreModule}
+use Rattle.core_family.specs.Family.{Printer, IsCoreModule}
 use Rattle.core_tables.specs.Fits.{group, groups_of, core_of, FitsLayout}
 
 -- c values a site, for as many threads as the layout has
@@ -35,14 +35,14 @@ module _ (layout : Layout) (number : ℕ) (name : List ℕ) (c : ℕ) (sites : L
 
   -- where a row starts
   abbrev P : ℕ → ℕ
-  P = printer.at shape
+  P = table.at shape
 
   abbrev core : Core
-  core = core_of (Prints shape) number name
+  core = core_of (Printer shape) number name
 
-  module _ (is : IsCoreModule n (Prints shape) m) where
+  module _ (is : IsCoreModule n (Printer shape) m) where
     -- the values of an ask
-    value_count : length (group_widths (groups_of (Prints shape))) ≡ 2 + c
+    value_count : length (group_widths (groups_of (Printer shape))) ≡ 2 + c
     value_count =
         let a = length-append {A = ℕ} (replicate c 64) [] in let b = length-replicate {A = ℕ} c 64 in
         omega (arith, a, b)
@@ -89,9 +89,9 @@ module _ (layout : Layout) (number : ℕ) (name : List ℕ) (c : ℕ) (sites : L
         let f : P row.values + (i * c + j) ≡ 1 + (n * 2 + (i * c + j)) = omega arith in
         ap (λ k. part_place shape k i) e ∙ f
 
-    ask_at : (g j i : ℕ) (x : Group) → slice_get (groups_of (Prints shape)) g ≡ Some x → j < x.count → i < n
-        → part_place shape (length (group_widths (take g (groups_of (Prints shape)))) + j) i
-        ≡ 1 + (n * length (group_widths (take g (groups_of (Prints shape)))) + (i * x.count + j))
+    ask_at : (g j i : ℕ) (x : Group) → slice_get (groups_of (Printer shape)) g ≡ Some x → j < x.count → i < n
+        → part_place shape (length (group_widths (take g (groups_of (Printer shape)))) + j) i
+        ≡ 1 + (n * length (group_widths (take g (groups_of (Printer shape)))) + (i * x.count + j))
     ask_at zero j i x e =
         subst (λ (z : Group). j < z.count → i < n → part_place shape (0 + j) i ≡ 1 + (n * 0 + (i * z.count + j))) (same_Some (group 1 1) x e) (first_at j i)
     ask_at (suc zero) j i x e =
@@ -100,7 +100,7 @@ module _ (layout : Layout) (number : ℕ) (name : List ℕ) (c : ℕ) (sites : L
         subst (λ (z : Group). j < z.count → i < n → part_place shape (2 + j) i ≡ 1 + (n * 2 + (i * z.count + j))) (same_Some (group c 64) x e) (value_at j i)
     ask_at (suc (suc (suc g))) j i x e = absurd (none-some x e)
 
-    grant_place : (i : ℕ) → P row.grants + i ≡ 1 + (n * length (group_widths (groups_of (Prints shape))) + i)
+    grant_place : (i : ℕ) → P row.grants + i ≡ 1 + (n * length (group_widths (groups_of (Printer shape))) + i)
     grant_place i =
         let a : n * (2 + c) ≡ n * 2 + n * c = mul-add n 2 c in
         let b : P row.grants + i ≡ 1 + (n * (2 + c) + i) = omega (arith, a) in
@@ -122,7 +122,7 @@ module _ (layout : Layout) (number : ℕ) (name : List ℕ) (c : ℕ) (sites : L
         ap (λ b. b || is_between (P row.going) (P row.offers) x) (between_behind (P row.grants) (P row.one) x (omega arith) (omega arith))
         ∙ between_behind (P row.going) (P row.offers) x (omega arith) l
 
-    grants_late : (i : ℕ) → i < n → is_late shape (1 + (n * length (group_widths (groups_of (Prints shape))) + i)) ≡ true
+    grants_late : (i : ℕ) → i < n → is_late shape (1 + (n * length (group_widths (groups_of (Printer shape))) + i)) ≡ true
     grants_late i l =
         ap (is_late shape) (sym (grant_place i))
         ∙ ap (λ b. b || is_between (P row.going) (P row.offers) (P row.grants + i)) (between_on (P row.grants) (P row.one) (P row.grants + i) (omega arith) (omega arith))
@@ -143,13 +143,13 @@ module _ (layout : Layout) (number : ℕ) (name : List ℕ) (c : ℕ) (sites : L
       early = λ x l. early (first_of m (core_outputs n core) + x) (let e = offers_first in omega (arith, e));
     }
 
-    pub fits : FitsLayout layout (Prints shape) core m
+    pub fits : FitsLayout layout (Printer shape) core m
     fits = record { at = at; leaf = leaf; interface = interface }
 
-pub printer_fits : (layout : Layout) (number : ℕ) (name : List ℕ) (s : Shape) (m : Module) → IsCoreModule (threads layout) (Prints s) m →
-    FitsLayout layout (Prints s) (core_of (Prints s) number name) m
+pub printer_fits : (layout : Layout) (number : ℕ) (name : List ℕ) (s : Shape) (m : Module) → IsCoreModule (threads layout) (Printer s) m →
+    FitsLayout layout (Printer s) (core_of (Printer s) number name) m
 printer_fits layout number name s m is =
     let same : s ≡ record { threads = threads layout; values = s.values; sites = s.sites } =
     ap (λ (k : ℕ). record { threads = k; values = s.values; sites = s.sites }) is.asked_by in
-    subst (λ (z : Shape). FitsLayout layout (Prints z) (core_of (Prints z) number name) m) (sym same)
-    (fits layout number name s.values s.sites m (subst (λ (z : Shape). IsCoreModule (threads layout) (Prints z) m) same is))
+    subst (λ (z : Shape). FitsLayout layout (Printer z) (core_of (Printer z) number name) m) (sym same)
+    (fits layout number name s.values s.sites m (subst (λ (z : Shape). IsCoreModule (threads layout) (Printer z) m) same is))

@@ -3,33 +3,33 @@ use Rattle.std.proofs.Common.{ℕ, ◌^◌, ◌<◌, List, [], ◌∷◌, length
 use Rattle.std.proofs.lemmas.List.{length-map}
 use Rattle.circuit.specs.Rows.{EachOf}
 use Rattle.top_wiring.specs.Top.{HasFewTold, HasFewGroups, IsSmall}
-use Rattle.core_family.specs.Family.{CoreShape, Bank, Mutex, Barrier, Forks, Prints, port_of}
+use Rattle.core_family.specs.Family.{CoreKind, Bank, Mutex, Barrier, ThreadIds, Printer, port_of}
 use Rattle.core_tables.specs.Fits.{groups_of}
 use Rattle.top_wiring.specs.Top.{IsFewGroup}
 use Rattle.core_tables.specs.Tables.{PlacedCore, Table, HasCores, laid_core, layout_of, kinds_at, IsNarrow}
 use Rattle.core_tables.proofs.Widths.{asks_count, told_count}
 
-few_told : (s : CoreShape) → length (port_of s).told < 2 ^ 16
+few_told : (s : CoreKind) → length (port_of s).told < 2 ^ 16
 few_told (Bank s) = omega arith
 few_told (Mutex s) = omega arith
 few_told (Barrier s) = omega arith
-few_told (Forks s) = omega arith
-few_told (Prints s) = omega arith
+few_told (ThreadIds s) = omega arith
+few_told (Printer s) = omega arith
 
-few_groups : (s : CoreShape) → IsNarrow s → EachOf IsFewGroup (groups_of s)
+few_groups : (s : CoreKind) → IsNarrow s → EachOf IsFewGroup (groups_of s)
 few_groups (Bank s) n = (omega arith, (omega arith, (omega arith, (omega arith, tt))))
 few_groups (Mutex s) n = (omega arith, (omega arith, tt))
 few_groups (Barrier s) n = (omega arith, (omega arith, (omega arith, tt)))
-few_groups (Forks s) n = (omega arith, (omega arith, (omega arith, (omega arith, tt))))
-few_groups (Prints s) n = (omega arith, (omega arith, (omega (arith, n), tt)))
+few_groups (ThreadIds s) n = (omega arith, (omega arith, (omega arith, (omega arith, tt))))
+few_groups (Printer s) n = (omega arith, (omega arith, (omega (arith, n), tt)))
 
 each_told : (n : ℕ) (cores : List PlacedCore) → EachOf HasFewTold (map (laid_core n) cores)
 each_told n [] = tt
-each_told n (c ∷ cores) = (few_told c.shape, each_told n cores)
+each_told n (c ∷ cores) = (few_told c.kind, each_told n cores)
 
-each_groups : (n : ℕ) (cores : List PlacedCore) → EachOf (λ (c : PlacedCore). IsNarrow c.shape) cores → EachOf HasFewGroups (map (laid_core n) cores)
+each_groups : (n : ℕ) (cores : List PlacedCore) → EachOf (λ (c : PlacedCore). IsNarrow c.kind) cores → EachOf HasFewGroups (map (laid_core n) cores)
 each_groups n [] e = tt
-each_groups n (c ∷ cores) e = (few_groups c.shape e.0, each_groups n cores e.1)
+each_groups n (c ∷ cores) e = (few_groups c.kind e.0, each_groups n cores e.1)
 
 pub is_small : (t : Table) → HasCores t → IsSmall (layout_of t)
 is_small t has = record {

@@ -13,7 +13,7 @@ use Rattle.lists.proofs.Places.{get_there}
 use Rattle.bank_cores.specs.Bank.{bank_name}
 use Rattle.mutex_cores.specs.Mutex.{mutex_name}
 use Rattle.leaf_machine.specs.Ports as port
-use Rattle.core_family.specs.Family.{CoreShape, Bank, Mutex, Barrier, Forks, Prints, IsTable, IsCoreModule, input_widths, output_widths}
+use Rattle.core_family.specs.Family.{CoreKind, Bank, Mutex, Barrier, ThreadIds, Printer, IsTable, IsCoreModule, input_widths, output_widths}
 use Rattle.core_tables.specs.Tables.{PlacedCore, Table, HasCores, layout_of, modules_of, ports_of}
 use Rattle.core_tables.specs.Laws.{IsLow}
 use Rattle.core_tables.specs.Whole.{IsThreadName, OfFunction, OfIdle, SameModule, IsWholeTable, TablesAreSound}
@@ -31,37 +31,37 @@ use Rattle.core_tables.proofs.TablesFit.{each_module}
 abbrev key : List ℕ → ℕ
 key x = get_or x 0 0 * 256 + get_or x 2 0
 
-abbrev kind_name : CoreShape → List ℕ
+abbrev kind_name : CoreKind → List ℕ
 kind_name (Bank s) = bank_name s.name s.number
 kind_name (Mutex s) = mutex_name s.initialised
 kind_name (Barrier s) = codes "barrier"
-kind_name (Forks s) = codes "forkjoin"
-kind_name (Prints s) = codes "printer"
+kind_name (ThreadIds s) = codes "forkjoin"
+kind_name (Printer s) = codes "printer"
 
-abbrev kind_key : CoreShape → ℕ
+abbrev kind_key : CoreKind → ℕ
 kind_key (Bank s) = 25198
 kind_key (Mutex s) = 28020
 kind_key (Barrier s) = 25202
-kind_key (Forks s) = 26226
-kind_key (Prints s) = 28777
+kind_key (ThreadIds s) = 26226
+kind_key (Printer s) = 28777
 
 mutex_keyed : (b : Bool) → key (mutex_name b) ≡ 28020
 mutex_keyed true = refl
 mutex_keyed false = refl
 
-kind_keyed : (s : CoreShape) → key (kind_name s) ≡ kind_key s
+kind_keyed : (s : CoreKind) → key (kind_name s) ≡ kind_key s
 kind_keyed (Bank s) = refl
 kind_keyed (Mutex s) = mutex_keyed s.initialised
 kind_keyed (Barrier s) = refl
-kind_keyed (Forks s) = refl
-kind_keyed (Prints s) = refl
+kind_keyed (ThreadIds s) = refl
+kind_keyed (Printer s) = refl
 
-table_named : (s : CoreShape) (m : Module) → IsTable s m → m.name ≡ kind_name s
+table_named : (s : CoreKind) (m : Module) → IsTable s m → m.name ≡ kind_name s
 table_named (Bank s) m is = is.named
 table_named (Mutex s) m is = is.named
 table_named (Barrier s) m is = is.named
-table_named (Forks s) m is = is.named
-table_named (Prints s) m is = is.named
+table_named (ThreadIds s) m is = is.named
+table_named (Printer s) m is = is.named
 
 mutex_tells : (a b : Bool) → mutex_name a ≡ mutex_name b → a ≡ b
 mutex_tells true true e = refl
@@ -69,41 +69,41 @@ mutex_tells false false e = refl
 mutex_tells true false e = absurd (let l : 7 ≡ 5 = ap length e in omega (arith, l))
 mutex_tells false true e = absurd (let l : 5 ≡ 7 = ap length e in omega (arith, l))
 
-abbrev BankLow : CoreShape → Type 0
+abbrev BankLow : CoreKind → Type 0
 BankLow (Bank s) = s.number < 2 ^ 64
 BankLow _ = Unit {0}
 
-other_kind : (s r : CoreShape) → (kind_key s ≡ kind_key r → ⊥) → kind_name s ≡ kind_name r → ⊥
+other_kind : (s r : CoreKind) → (kind_key s ≡ kind_key r → ⊥) → kind_name s ≡ kind_name r → ⊥
 other_kind s r other e = other (sym (kind_keyed s) ∙ ap key e ∙ kind_keyed r)
 
-kind_tells : (s r : CoreShape) → BankLow s → BankLow r → kind_name s ≡ kind_name r → SameModule s r
+kind_tells : (s r : CoreKind) → BankLow s → BankLow r → kind_name s ≡ kind_name r → SameModule s r
 kind_tells (Bank s) (Bank r) l m e =
     let both = numbered_tells (codes "bank" ++ 95 ∷ s.name) (codes "bank" ++ 95 ∷ r.name) s.number r.number l m e in
     ((let q : 98 ∷ 97 ∷ 110 ∷ 107 ∷ 95 ∷ s.name ≡ 98 ∷ 97 ∷ 110 ∷ 107 ∷ 95 ∷ r.name = both.0 in let z : s.name ≡ r.name = cc in z), both.1)
 kind_tells (Bank s) (Mutex r) l m e = absurd (other_kind (Bank s) (Mutex r) (λ z. omega arith) e)
 kind_tells (Bank s) (Barrier r) l m e = absurd (other_kind (Bank s) (Barrier r) (λ z. omega arith) e)
-kind_tells (Bank s) (Forks r) l m e = absurd (other_kind (Bank s) (Forks r) (λ z. omega arith) e)
-kind_tells (Bank s) (Prints r) l m e = absurd (other_kind (Bank s) (Prints r) (λ z. omega arith) e)
+kind_tells (Bank s) (ThreadIds r) l m e = absurd (other_kind (Bank s) (ThreadIds r) (λ z. omega arith) e)
+kind_tells (Bank s) (Printer r) l m e = absurd (other_kind (Bank s) (Printer r) (λ z. omega arith) e)
 kind_tells (Mutex s) (Bank r) l m e = absurd (other_kind (Mutex s) (Bank r) (λ z. omega arith) e)
 kind_tells (Mutex s) (Mutex r) l m e = mutex_tells s.initialised r.initialised e
 kind_tells (Mutex s) (Barrier r) l m e = absurd (other_kind (Mutex s) (Barrier r) (λ z. omega arith) e)
-kind_tells (Mutex s) (Forks r) l m e = absurd (other_kind (Mutex s) (Forks r) (λ z. omega arith) e)
-kind_tells (Mutex s) (Prints r) l m e = absurd (other_kind (Mutex s) (Prints r) (λ z. omega arith) e)
+kind_tells (Mutex s) (ThreadIds r) l m e = absurd (other_kind (Mutex s) (ThreadIds r) (λ z. omega arith) e)
+kind_tells (Mutex s) (Printer r) l m e = absurd (other_kind (Mutex s) (Printer r) (λ z. omega arith) e)
 kind_tells (Barrier s) (Bank r) l m e = absurd (other_kind (Barrier s) (Bank r) (λ z. omega arith) e)
 kind_tells (Barrier s) (Mutex r) l m e = absurd (other_kind (Barrier s) (Mutex r) (λ z. omega arith) e)
 kind_tells (Barrier s) (Barrier r) l m e = tt
-kind_tells (Barrier s) (Forks r) l m e = absurd (other_kind (Barrier s) (Forks r) (λ z. omega arith) e)
-kind_tells (Barrier s) (Prints r) l m e = absurd (other_kind (Barrier s) (Prints r) (λ z. omega arith) e)
-kind_tells (Forks s) (Bank r) l m e = absurd (other_kind (Forks s) (Bank r) (λ z. omega arith) e)
-kind_tells (Forks s) (Mutex r) l m e = absurd (other_kind (Forks s) (Mutex r) (λ z. omega arith) e)
-kind_tells (Forks s) (Barrier r) l m e = absurd (other_kind (Forks s) (Barrier r) (λ z. omega arith) e)
-kind_tells (Forks s) (Forks r) l m e = tt
-kind_tells (Forks s) (Prints r) l m e = absurd (other_kind (Forks s) (Prints r) (λ z. omega arith) e)
-kind_tells (Prints s) (Bank r) l m e = absurd (other_kind (Prints s) (Bank r) (λ z. omega arith) e)
-kind_tells (Prints s) (Mutex r) l m e = absurd (other_kind (Prints s) (Mutex r) (λ z. omega arith) e)
-kind_tells (Prints s) (Barrier r) l m e = absurd (other_kind (Prints s) (Barrier r) (λ z. omega arith) e)
-kind_tells (Prints s) (Forks r) l m e = absurd (other_kind (Prints s) (Forks r) (λ z. omega arith) e)
-kind_tells (Prints s) (Prints r) l m e = tt
+kind_tells (Barrier s) (ThreadIds r) l m e = absurd (other_kind (Barrier s) (ThreadIds r) (λ z. omega arith) e)
+kind_tells (Barrier s) (Printer r) l m e = absurd (other_kind (Barrier s) (Printer r) (λ z. omega arith) e)
+kind_tells (ThreadIds s) (Bank r) l m e = absurd (other_kind (ThreadIds s) (Bank r) (λ z. omega arith) e)
+kind_tells (ThreadIds s) (Mutex r) l m e = absurd (other_kind (ThreadIds s) (Mutex r) (λ z. omega arith) e)
+kind_tells (ThreadIds s) (Barrier r) l m e = absurd (other_kind (ThreadIds s) (Barrier r) (λ z. omega arith) e)
+kind_tells (ThreadIds s) (ThreadIds r) l m e = tt
+kind_tells (ThreadIds s) (Printer r) l m e = absurd (other_kind (ThreadIds s) (Printer r) (λ z. omega arith) e)
+kind_tells (Printer s) (Bank r) l m e = absurd (other_kind (Printer s) (Bank r) (λ z. omega arith) e)
+kind_tells (Printer s) (Mutex r) l m e = absurd (other_kind (Printer s) (Mutex r) (λ z. omega arith) e)
+kind_tells (Printer s) (Barrier r) l m e = absurd (other_kind (Printer s) (Barrier r) (λ z. omega arith) e)
+kind_tells (Printer s) (ThreadIds r) l m e = absurd (other_kind (Printer s) (ThreadIds r) (λ z. omega arith) e)
+kind_tells (Printer s) (Printer r) l m e = tt
 
 -- ---- names of other parts
 
@@ -134,12 +134,12 @@ record IsOfNone (k : ℕ) : Type 0 where
   arbiter : is_arbiter_key k ≡ false
   top : is_top_key k ≡ false
 
-kind_of_none : (s : CoreShape) → IsOfNone (kind_key s)
+kind_of_none : (s : CoreKind) → IsOfNone (kind_key s)
 kind_of_none (Bank s) = record { thread = refl; arbiter = refl; top = refl }
 kind_of_none (Mutex s) = record { thread = refl; arbiter = refl; top = refl }
 kind_of_none (Barrier s) = record { thread = refl; arbiter = refl; top = refl }
-kind_of_none (Forks s) = record { thread = refl; arbiter = refl; top = refl }
-kind_of_none (Prints s) = record { thread = refl; arbiter = refl; top = refl }
+kind_of_none (ThreadIds s) = record { thread = refl; arbiter = refl; top = refl }
+kind_of_none (Printer s) = record { thread = refl; arbiter = refl; top = refl }
 
 module _ (t : Table) (whole : IsWholeTable t) where
   abbrev has : HasCores t
@@ -150,8 +150,8 @@ module _ (t : Table) (whole : IsWholeTable t) where
     place : ℕ
     core : PlacedCore
     listed : slice_get t.cores place ≡ Some core
-    kind : core.kind ≡ j
-    is : IsCoreModule (length t.threads) core.shape m
+    placed : core.place ≡ j
+    is : IsCoreModule (length t.threads) core.kind m
 
   kind_of : (j : ℕ) (m : Module) → slice_get t.kinds j ≡ Some m → IsKind j m
   kind_of j m l =
@@ -162,19 +162,19 @@ module _ (t : Table) (whole : IsWholeTable t) where
         place = u.0;
         core = u.1;
         listed = u.2;
-        kind = u.3;
-        is = subst (λ (z : Module). IsCoreModule (length t.threads) u.1.shape z) same its.is;
+        placed = u.3;
+        is = subst (λ (z : Module). IsCoreModule (length t.threads) u.1.kind z) same its.is;
       }
 
   -- what all modules are
   all : (P : Module → Type 0) → ((m : Module) → IsTableModule m (port.thread_inputs (ports_of t)) (port.thread_outputs (ports_of t)) → P m) → P t.arbiter →
-      ((s : CoreShape) (m : Module) → IsTableModule m (input_widths s) (output_widths s) → P m) → (k : ℕ) (m : Module) → slice_get (modules_of t) k ≡ Some m → P m
+      ((s : CoreKind) (m : Module) → IsTableModule m (input_widths s) (output_widths s) → P m) → (k : ℕ) (m : Module) → slice_get (modules_of t) k ≡ Some m → P m
   all P p q r k m e = by (in_middle t.routines t.arbiter t.kinds k m e)
     where
       by : InMiddle t.routines t.arbiter t.kinds k m → P m
       by (InFront l) = p m (whole.routines.stands k m l)
       by (TheOne at is) = subst P (sym is) q
-      by (Behind j at l) = let own = kind_of j m l in r own.core.shape m own.is.stands
+      by (Behind j at l) = let own = kind_of j m l in r own.core.kind m own.is.stands
 
   laid : (k : ℕ) (m : Module) → slice_get (modules_of t) k ≡ Some m → IsLaidModule (take k (modules_of t)) m
   laid k m e =
@@ -193,8 +193,8 @@ module _ (t : Table) (whole : IsWholeTable t) where
   data NameOf (k : ℕ) (x : List ℕ) : Type 0 where
     OfRoutine : (m : Module) (listed : slice_get t.routines k ≡ Some m) (is : x ≡ m.name) → NameOf k x
     OfArbiter : (at : k ≡ length t.routines) (is : x ≡ codes "arbiter") → NameOf k x
-    OfKind : (j : ℕ) (at : k ≡ length t.routines + 1 + j) (place : ℕ) (core : PlacedCore) (listed : slice_get t.cores place ≡ Some core) (kind : core.kind ≡ j)
-        (is : x ≡ kind_name core.shape) → NameOf k x
+    OfKind : (j : ℕ) (at : k ≡ length t.routines + 1 + j) (place : ℕ) (core : PlacedCore) (listed : slice_get t.cores place ≡ Some core) (placed : core.place ≡ j)
+        (is : x ≡ kind_name core.kind) → NameOf k x
 
   name_of : (k : ℕ) (m : Module) → slice_get (modules_of t) k ≡ Some m → NameOf k m.name
   name_of k m e = by (in_middle t.routines t.arbiter t.kinds k m e)
@@ -203,44 +203,44 @@ module _ (t : Table) (whole : IsWholeTable t) where
       by (InFront l) = OfRoutine m l refl
       by (TheOne at is) = OfArbiter at (ap (λ (z : Module). z.name) is ∙ has.granting.table.named)
       by (Behind j at l) =
-          let own = kind_of j m l in OfKind j at own.place own.core own.listed own.kind (table_named own.core.shape m own.is.table)
+          let own = kind_of j m l in OfKind j at own.place own.core own.listed own.placed (table_named own.core.kind m own.is.table)
 
   thread_name : (k : ℕ) (m : Module) → slice_get t.routines k ≡ Some m → IsThreadName m.name
   thread_name = whole.routines.named
 
-  kind_test : (test : ℕ → Bool) (s : CoreShape) → test (kind_key s) ≡ false → test (key (kind_name s)) ≡ false
+  kind_test : (test : ℕ → Bool) (s : CoreKind) → test (kind_key s) ≡ false → test (key (kind_name s)) ≡ false
   kind_test test s e = ap test (kind_keyed s) ∙ e
 
-  low : (place : ℕ) (c : PlacedCore) → slice_get t.cores place ≡ Some c → BankLow c.shape
-  low place c e = by c.shape (whole.once.low place c e)
+  low : (place : ℕ) (c : PlacedCore) → slice_get t.cores place ≡ Some c → BankLow c.kind
+  low place c e = by c.kind (whole.once.low place c e)
     where
-      by : (s : CoreShape) → IsLow s c.number → BankLow s
+      by : (s : CoreKind) → IsLow s c.number → BankLow s
       by (Bank s) l = l
       by (Mutex s) l = tt
       by (Barrier s) l = tt
-      by (Forks s) l = tt
-      by (Prints s) l = tt
+      by (ThreadIds s) l = tt
+      by (Printer s) l = tt
 
   same_place : (i j : ℕ) (x : List ℕ) → NameOf i x → NameOf j x → i ≡ j
   same_place i j x (OfRoutine m l e) (OfRoutine n k f) = whole.routines.apart i j m n l k (sym e ∙ f)
   same_place i j x (OfRoutine m l e) (OfArbiter b f) =
       absurd (apart_by is_thread_key m.name (codes "arbiter") (thread_keyed m.name (thread_name i m l)) refl (sym e ∙ f))
   same_place i j x (OfRoutine m l e) (OfKind n b p c h k f) =
-      absurd (apart_by is_thread_key m.name (kind_name c.shape) (thread_keyed m.name (thread_name i m l))
-      (kind_test is_thread_key c.shape (kind_of_none c.shape).thread) (sym e ∙ f))
+      absurd (apart_by is_thread_key m.name (kind_name c.kind) (thread_keyed m.name (thread_name i m l))
+      (kind_test is_thread_key c.kind (kind_of_none c.kind).thread) (sym e ∙ f))
   same_place i j x (OfArbiter a e) (OfRoutine m l f) =
       absurd (apart_by is_thread_key m.name (codes "arbiter") (thread_keyed m.name (thread_name j m l)) refl (sym f ∙ e))
   same_place i j x (OfArbiter a e) (OfArbiter b f) = a ∙ sym b
   same_place i j x (OfArbiter a e) (OfKind n b p c h k f) =
-      absurd (apart_by is_arbiter_key (codes "arbiter") (kind_name c.shape) refl (kind_test is_arbiter_key c.shape (kind_of_none c.shape).arbiter) (sym e ∙ f))
+      absurd (apart_by is_arbiter_key (codes "arbiter") (kind_name c.kind) refl (kind_test is_arbiter_key c.kind (kind_of_none c.kind).arbiter) (sym e ∙ f))
   same_place i j x (OfKind n b p c h k f) (OfRoutine m l e) =
-      absurd (apart_by is_thread_key m.name (kind_name c.shape) (thread_keyed m.name (thread_name j m l))
-      (kind_test is_thread_key c.shape (kind_of_none c.shape).thread) (sym e ∙ f))
+      absurd (apart_by is_thread_key m.name (kind_name c.kind) (thread_keyed m.name (thread_name j m l))
+      (kind_test is_thread_key c.kind (kind_of_none c.kind).thread) (sym e ∙ f))
   same_place i j x (OfKind n b p c h k f) (OfArbiter a e) =
-      absurd (apart_by is_arbiter_key (codes "arbiter") (kind_name c.shape) refl (kind_test is_arbiter_key c.shape (kind_of_none c.shape).arbiter) (sym e ∙ f))
+      absurd (apart_by is_arbiter_key (codes "arbiter") (kind_name c.kind) refl (kind_test is_arbiter_key c.kind (kind_of_none c.kind).arbiter) (sym e ∙ f))
   same_place i j x (OfKind n b p c h k f) (OfKind o a q d g r e) =
-      let tells = kind_tells c.shape d.shape (low p c h) (low q d g) (sym f ∙ e) in
-      let same : c.kind ≡ d.kind = whole.kinds p q c d h g tells in
+      let tells = kind_tells c.kind d.kind (low p c h) (low q d g) (sym f ∙ e) in
+      let same : c.place ≡ d.place = whole.kinds p q c d h g tells in
       omega (arith, a, b, k, r, same)
 
   names : AreApart (module_names (modules_of t))
@@ -261,7 +261,7 @@ module _ (t : Table) (whole : IsWholeTable t) where
       by : NameOf k m.name → (m.name ≢ codes "top") × (m.name ≢ codes "top_rr")
       by (OfRoutine n l is) = both n.name is (thread_no_top n.name (thread_name k n l))
       by (OfArbiter at is) = both (codes "arbiter") is refl
-      by (OfKind j at p c h r is) = both (kind_name c.shape) is (kind_test is_top_key c.shape (kind_of_none c.shape).top)
+      by (OfKind j at p c h r is) = both (kind_name c.kind) is (kind_test is_top_key c.kind (kind_of_none c.kind).top)
 
   -- ---- ports
 

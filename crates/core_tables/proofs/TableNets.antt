@@ -31,8 +31,8 @@ use Rattle.top_wiring.proofs.FoundParts.{tops_are_found}
 use Rattle.leaf_machine.specs.Leaves.{LeafPorts, leaf_thread}
 use Rattle.bank_cores.specs.declared.bank.Shape.{Shape as BankShape}
 use Rattle.bank_cores.specs.Bank.{IsBank, memory_of}
-use Rattle.core_family.specs.Family.{CoreShape, Bank, Mutex, Barrier, Forks, Prints, IsTable, machine_at}
-use Rattle.core_tables.specs.Tables.{PlacedCore, Table, HasCores, core_name, kinds_at, laid_core, layout_of, modules_of, shapes_of}
+use Rattle.core_family.specs.Family.{CoreKind, Bank, Mutex, Barrier, ThreadIds, Printer, IsTable, machine_at}
+use Rattle.core_tables.specs.Tables.{PlacedCore, Table, HasCores, core_name, kinds_at, laid_core, layout_of, modules_of, kinds_in}
 use Rattle.core_tables.specs.Laws.{IsLow}
 use Rattle.core_tables.specs.Whole.{IsWholeTable, AreThreads, places_of}
 use Rattle.core_tables.specs.Nets.{TellsDone, IsBankAt, IsBankNamed, IsNetOfTable, TablesAreNets}
@@ -53,11 +53,11 @@ module _ (modules : List Module) (top : Module) (level : Path → ℕ → ℕ) (
   no_loop p d = let l = lower d in absurd (omega arith)
 
 -- the bank's shape of a table
-bank_table : (s : CoreShape) (b : BankShape) (m : Module) → s ≡ Bank b → IsTable s m → IsBank b m
+bank_table : (s : CoreKind) (b : BankShape) (m : Module) → s ≡ Bank b → IsTable s m → IsBank b m
 bank_table s b m e is = subst (λ z. IsTable z m) e is
 
 -- a name with digits that is a core's is a bank's
-record IsBankShape (s : CoreShape) (name digits : List ℕ) : Type 0 where
+record IsBankShape (s : CoreKind) (name digits : List ℕ) : Type 0 where
   bank : BankShape
   is : s ≡ Bank bank
   named : bank.name ≡ name
@@ -67,7 +67,7 @@ record IsBankShape (s : CoreShape) (name digits : List ℕ) : Type 0 where
 other_name : (a : ℕ) (name digits xs : List ℕ) → get_or xs 1 0 ≡ a → (95 ≡ a → ⊥) → with_digits (codes "u_" ++ name) digits ≡ xs → ⊥
 other_name a name digits xs p other e = other (ap (λ (l : List ℕ). get_or l 1 0) e ∙ p)
 
-bank_named : (s : CoreShape) (number : ℕ) (name digits : List ℕ) → IsLow s number → IsMinimal digits → with_digits (codes "u_" ++ name) digits ≡ core_name s number →
+bank_named : (s : CoreKind) (number : ℕ) (name digits : List ℕ) → IsLow s number → IsMinimal digits → with_digits (codes "u_" ++ name) digits ≡ core_name s number →
     IsBankShape s name digits
 bank_named (Bank b) number name digits l minimal e =
     let both = digits_tell (codes "u_" ++ name) (codes "u_" ++ b.name) digits b.number l minimal e in
@@ -79,8 +79,8 @@ bank_named (Bank b) number name digits l minimal e =
     }
 bank_named (Mutex b) number name digits l minimal e = absurd (other_name 109 name digits (core_name (Mutex b) number) refl (λ z. omega arith) e)
 bank_named (Barrier b) number name digits l minimal e = absurd (other_name 98 name digits (core_name (Barrier b) number) refl (λ z. omega arith) e)
-bank_named (Forks b) number name digits l minimal e = absurd (other_name 102 name digits (core_name (Forks b) number) refl (λ z. omega arith) e)
-bank_named (Prints b) number name digits l minimal e = absurd (other_name 112 name digits (core_name (Prints b) number) refl (λ z. omega arith) e)
+bank_named (ThreadIds b) number name digits l minimal e = absurd (other_name 102 name digits (core_name (ThreadIds b) number) refl (λ z. omega arith) e)
+bank_named (Printer b) number name digits l minimal e = absurd (other_name 112 name digits (core_name (Printer b) number) refl (λ z. omega arith) e)
 
 module _ (t : Table) (modules : ℕ → Module) (leaves : ℕ → LeafPorts) (n : Netlist) (whole : IsWholeTable t) (runs : AreThreads t modules leaves)
     (wired : IsWired (modules_of t) (layout_of t) n) where
@@ -143,28 +143,28 @@ module _ (t : Table) (modules : ℕ → Module) (leaves : ℕ → LeafPorts) (n 
   -- ---- banks
 
   -- core k of a shape, and its module
-  record IsCoreAt (k : ℕ) (s : CoreShape) : Type 0 where
+  record IsCoreAt (k : ℕ) (s : CoreKind) : Type 0 where
     core : PlacedCore
     listed : slice_get t.cores k ≡ Some core
-    shape : core.shape ≡ s
+    shape : core.kind ≡ s
     body : Module
     stands : slice_get (modules_of t) (laid_core (kinds_at t) core).module ≡ Some body
-    table : IsTable core.shape body
+    table : IsTable core.kind body
 
-  core_of : (k : ℕ) (s : CoreShape) → slice_get (shapes_of t) k ≡ Some s → IsCoreAt k s
+  core_of : (k : ℕ) (s : CoreKind) → slice_get (kinds_in t) k ≡ Some s → IsCoreAt k s
   core_of k s e =
-      let b = map_back (λ (z : PlacedCore). z.shape) t.cores k s e in
+      let b = map_back (λ (z : PlacedCore). z.kind) t.cores k s e in
       let m = has.each k b.0 b.1 in
       record {
         core = b.0;
         listed = b.1;
         shape = sym b.2;
         body = m.body;
-        stands = behind_one t.routines t.arbiter t.kinds b.0.kind ∙ m.listed;
+        stands = behind_one t.routines t.arbiter t.kinds b.0.place ∙ m.listed;
         table = m.is.table;
       }
 
-  module _ (k : ℕ) (b : BankShape) (e : slice_get (shapes_of t) k ≡ Some (Bank b)) where
+  module _ (k : ℕ) (b : BankShape) (e : slice_get (kinds_in t) k ≡ Some (Bank b)) where
     abbrev own : IsCoreAt k (Bank b)
     own = core_of k (Bank b) e
 
@@ -178,7 +178,7 @@ module _ (t : Table) (modules : ℕ → Module) (leaves : ℕ → LeafPorts) (n 
     instance_listed = standing.core_stands (modules_of t) layout top wired.is_top k laid (map_get (laid_core (kinds_at t)) t.cores k own.core own.listed)
 
     its_table : IsBank b own.body
-    its_table = bank_table own.core.shape b own.body own.shape own.table
+    its_table = bank_table own.core.kind b own.body own.shape own.table
 
     bank_at : IsBankAt t modules leaves n top k b
     bank_at = record {
@@ -214,11 +214,11 @@ module _ (t : Table) (modules : ℕ → Module) (leaves : ℕ → LeafPorts) (n 
     of_bank k x l e =
         let c = map_back (laid_core (kinds_at t)) t.cores k x l in
         let low = whole.once.low k c.0 c.1 in
-        let s = bank_named c.0.shape c.0.number name digits low minimal (named ∙ e ∙ ap (λ (z : Core). z.name) c.2) in
+        let s = bank_named c.0.kind c.0.number name digits low minimal (named ∙ e ∙ ap (λ (z : Core). z.name) c.2) in
         record {
           core = k;
           shape = s.bank;
-          listed = map_get (λ (z : PlacedCore). z.shape) t.cores k c.0 c.1 ∙ ap (λ z. Some z) s.is;
+          listed = map_get (λ (z : PlacedCore). z.kind) t.cores k c.0 c.1 ∙ ap (λ z. Some z) s.is;
           named = s.named;
           numbered = s.number;
         }
@@ -236,7 +236,7 @@ module _ (t : Table) (modules : ℕ → Module) (leaves : ℕ → LeafPorts) (n 
   is_net_of_table =
       let staged = nets_have_stages layout (modules_of t) n wired has.some leaves_stand in
       record {
-        net = netting.is_net layout (modules_of t) n wired (λ i. leaf_thread (modules i) (leaves i)) (machine_at (shapes_of t)) (places_of t modules leaves)
+        net = netting.is_net layout (modules_of t) n wired (λ i. leaf_thread (modules i) (leaves i)) (machine_at (kinds_in t)) (places_of t modules leaves)
             (tables_keep_promises t modules leaves whole runs);
         is_top = found.top_is (λ k x e. (no_top t whole k x e).0);
         runs = λ i l. let r = thread_runs i l in found.runs i r.0 (modules i) r.1 r.2;

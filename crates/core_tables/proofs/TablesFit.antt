@@ -15,16 +15,16 @@ use Rattle.top_wiring.specs.Ports.{EachModule, arbiter_inputs}
 use Rattle.top_wiring.specs.Leaves.{IsThreadLeaf, IsCoreLeaf, IsArbiterLeaf, AreLeaves}
 use Rattle.top_wiring.specs.Machine.{IsCoreAt, IsArbiterAt}
 use Rattle.bank_arbiter.specs.Arbiter as arbiter
-use Rattle.core_family.specs.Family.{CoreShape, machine_of, places_of, machine_at, places_at, is_late}
+use Rattle.core_family.specs.Family.{CoreKind, machine_of, places_of, machine_at, places_at, is_late}
 use Rattle.core_tables.specs.Fits.{FitsLayout as FitsCore}
 use Rattle.core_tables.proofs.CoresFit.{cores_fit}
-use Rattle.core_tables.specs.Tables.{PlacedCore, Table, HasCores, core_name, kinds_at, laid_core, layout_of, modules_of, shapes_of}
+use Rattle.core_tables.specs.Tables.{PlacedCore, Table, HasCores, core_name, kinds_at, laid_core, layout_of, modules_of, kinds_in}
 use Rattle.core_tables.specs.Laws.{CoreStands, ArbiterStands, EachThread, TablesFit}
 use Rattle.core_tables.proofs.Lists.{map_back, map_get, behind_one}
 use Rattle.core_tables.proofs.Small.{is_small}
 
 -- nothing is late past the cores
-abbrev late_of : Option CoreShape → ℕ → Bool
+abbrev late_of : Option CoreKind → ℕ → Bool
 late_of None = arbiter.never
 late_of (Some s) = is_late s
 
@@ -40,8 +40,8 @@ module _ (t : Table) (has : HasCores t) where
 
   -- ---- the modules
 
-  kind_listed : (c : PlacedCore) → slice_get (modules_of t) (laid_core (kinds_at t) c).module ≡ slice_get t.kinds c.kind
-  kind_listed c = behind_one t.routines t.arbiter t.kinds c.kind
+  kind_listed : (c : PlacedCore) → slice_get (modules_of t) (laid_core (kinds_at t) c).module ≡ slice_get t.kinds c.place
+  kind_listed c = behind_one t.routines t.arbiter t.kinds c.place
 
   -- core k as it is placed
   pub record IsPlaced (k : ℕ) (x : Core) : Type 0 where
@@ -50,7 +50,7 @@ module _ (t : Table) (has : HasCores t) where
     pub is : x ≡ laid_core (kinds_at t) core
     pub body : Module
     pub stands : slice_get (modules_of t) x.module ≡ Some body
-    pub fits : FitsCore (layout_of t) core.shape x body
+    pub fits : FitsCore (layout_of t) core.kind x body
 
   pub placed : (k : ℕ) (x : Core) → slice_get (layout_of t).cores k ≡ Some x → IsPlaced k x
   placed k x e =
@@ -62,15 +62,15 @@ module _ (t : Table) (has : HasCores t) where
         is = b.2;
         body = m.body;
         stands = ap (λ (z : Core). slice_get (modules_of t) z.module) b.2 ∙ kind_listed b.0 ∙ m.listed;
-        fits = subst (λ (z : Core). FitsCore (layout_of t) b.0.shape z m.body) (sym b.2)
-            (cores_fit (layout_of t) b.0.shape (kinds_at t + b.0.kind) (core_name b.0.shape b.0.number) m.body m.is);
+        fits = subst (λ (z : Core). FitsCore (layout_of t) b.0.kind z m.body) (sym b.2)
+            (cores_fit (layout_of t) b.0.kind (kinds_at t + b.0.place) (core_name b.0.kind b.0.number) m.body m.is);
       }
 
-  shape_at : (k : ℕ) (c : PlacedCore) → slice_get t.cores k ≡ Some c → slice_get (shapes_of t) k ≡ Some c.shape
-  shape_at k c e = map_get (λ (z : PlacedCore). z.shape) t.cores k c e
+  shape_at : (k : ℕ) (c : PlacedCore) → slice_get t.cores k ≡ Some c → slice_get (kinds_in t) k ≡ Some c.kind
+  shape_at k c e = map_get (λ (z : PlacedCore). z.kind) t.cores k c e
 
-  pub core_at : (k : ℕ) (x : Core) (p : IsPlaced k x) → IsCoreAt (layout_of t) (machine_at (shapes_of t) k) (places_at (shapes_of t) k) x p.body
-  core_at k x p = subst (λ (o : Option CoreShape). IsCoreAt (layout_of t) (machine_of o) (places_of o) x p.body) (sym (shape_at k p.core p.listed)) p.fits.at
+  pub core_at : (k : ℕ) (x : Core) (p : IsPlaced k x) → IsCoreAt (layout_of t) (machine_at (kinds_in t) k) (places_at (kinds_in t) k) x p.body
+  core_at k x p = subst (λ (o : Option CoreKind). IsCoreAt (layout_of t) (machine_of o) (places_of o) x p.body) (sym (shape_at k p.core p.listed)) p.fits.at
 
   core_stands : (k : ℕ) (x : Core) → slice_get (layout_of t).cores k ≡ Some x → CoreStands t k x
   core_stands k x e =
@@ -122,7 +122,7 @@ module _ (t : Table) (has : HasCores t) where
   module _ (thread : ℕ → ℕ → Bool) where
     abbrev late_by : Bool → ℕ → ℕ → Bool
     late_by true j = thread j
-    late_by false j = late_of (slice_get (shapes_of t) (j - T))
+    late_by false j = late_of (slice_get (kinds_in t) (j - T))
 
     abbrev late : ℕ → ℕ → Bool
     late j = late_by (nat_lt j T) j
@@ -130,13 +130,13 @@ module _ (t : Table) (has : HasCores t) where
     thread_late : (i : ℕ) → i < T → late i ≡ thread i
     thread_late i l = let e : nat_lt i T ≡ true = grind (arith, nat_tests) in ap (λ b. late_by b i) e
 
-    core_late : (k : ℕ) → late (T + k) ≡ late_of (slice_get (shapes_of t) k)
+    core_late : (k : ℕ) → late (T + k) ≡ late_of (slice_get (kinds_in t) k)
     core_late k =
         let e : nat_lt (T + k) T ≡ false = grind (arith, nat_tests) in
         let f : T + k - T ≡ k = omega arith in
-        ap (λ b. late_by b (T + k)) e ∙ ap (λ j. late_of (slice_get (shapes_of t) j)) f
+        ap (λ b. late_by b (T + k)) e ∙ ap (λ j. late_of (slice_get (kinds_in t) j)) f
 
-    of_core : (k : ℕ) (c : PlacedCore) → slice_get t.cores k ≡ Some c → late (T + k) ≡ is_late c.shape
+    of_core : (k : ℕ) (c : PlacedCore) → slice_get t.cores k ≡ Some c → late (T + k) ≡ is_late c.kind
     of_core k c e = core_late k ∙ ap late_of (shape_at k c e)
 
     pub are_leaves : EachThread t (λ i m. IsThreadLeaf (layout_of t) (thread i) m) → AreLeaves (layout_of t) (modules_of t)
@@ -159,8 +159,8 @@ module _ (t : Table) (has : HasCores t) where
         past : (k : ℕ) → late (T + length (layout_of t).cores + k) ≡ arbiter.never
         past k =
             let e : T + length (layout_of t).cores + k ≡ T + (length (layout_of t).cores + k) = omega arith in
-            let n : length (layout_of t).cores ≡ length (shapes_of t) = cores_count ∙ sym (length-map t.cores (λ (z : PlacedCore). z.shape)) in
-            ap late e ∙ core_late (length (layout_of t).cores + k) ∙ ap late_of (none_past (shapes_of t) (length (layout_of t).cores) k n)
+            let n : length (layout_of t).cores ≡ length (kinds_in t) = cores_count ∙ sym (length-map t.cores (λ (z : PlacedCore). z.kind)) in
+            ap late e ∙ core_late (length (layout_of t).cores + k) ∙ ap late_of (none_past (kinds_in t) (length (layout_of t).cores) k n)
 
 pub tables_fit : TablesFit
 tables_fit t has = record {

@@ -20,9 +20,9 @@ use Rattle.top_wiring.specs.Ports.{thread_inputs}
 use Rattle.lists.proofs.Places.{get_there}
 use Rattle.top_wiring.proofs.Lists.{flat_map_back}
 use Rattle.leaf_machine.specs.Ports as port
-use Rattle.core_family.specs.Family.{CoreShape, machine_of, machine_at, port_of}
+use Rattle.core_family.specs.Family.{CoreKind, machine_of, machine_at, port_of}
 use Rattle.core_family.proofs.OnePrinter.{each_fits}
-use Rattle.core_tables.specs.Tables.{PlacedCore, Table, kinds_at, laid_core, layout_of, shapes_of, ports_of}
+use Rattle.core_tables.specs.Tables.{PlacedCore, Table, kinds_at, laid_core, layout_of, kinds_in, ports_of}
 use Rattle.core_tables.specs.Laws.{parts, told, ThreadStands, ThreadsFit}
 use Rattle.core_tables.proofs.Late.{both_late, joint_leaf}
 use Rattle.core_tables.proofs.Lists.{map_get, map_back}
@@ -61,7 +61,7 @@ module _ (t : Table) (name : List ℕ) (m : Module) (inputs : ℕ) (leaf : LeafP
   -- ---- the cores and their ports
 
   port_count : length ports ≡ C
-  port_count = length-map t.cores (λ (c : PlacedCore). port_of c.shape)
+  port_count = length-map t.cores (λ (c : PlacedCore). port_of c.kind)
 
   cores_count : length (layout_of t).cores ≡ C
   cores_count = length-map t.cores (laid_core (kinds_at t))
@@ -69,18 +69,18 @@ module _ (t : Table) (name : List ℕ) (m : Module) (inputs : ℕ) (leaf : LeafP
   -- a core and its port
   record HasPort (k : ℕ) : Type 0 where
     core : PlacedCore
-    listed : slice_get ports k ≡ Some (port_of core.shape)
-    parts_are : parts t k ≡ length (port_of core.shape).asks
-    told_are : told t k ≡ length (port_of core.shape).told
+    listed : slice_get ports k ≡ Some (port_of core.kind)
+    parts_are : parts t k ≡ length (port_of core.kind).asks
+    told_are : told t k ≡ length (port_of core.kind).told
 
   of_core : (k : ℕ) (c : PlacedCore) → slice_get t.cores k ≡ Some c → HasPort k
   of_core k c e =
-      let shape : slice_get (shapes_of t) k ≡ Some c.shape = map_get (λ (z : PlacedCore). z.shape) t.cores k c e in
+      let shape : slice_get (kinds_in t) k ≡ Some c.kind = map_get (λ (z : PlacedCore). z.kind) t.cores k c e in
       record {
         core = c;
-        listed = map_get (λ (z : PlacedCore). port_of z.shape) t.cores k c e;
-        parts_are = ap (λ (o : Option CoreShape). (machine_of o).parts) shape ∙ (each_fits c.shape).asks;
-        told_are = ap (λ (o : Option CoreShape). (machine_of o).told) shape ∙ (each_fits c.shape).told;
+        listed = map_get (λ (z : PlacedCore). port_of z.kind) t.cores k c e;
+        parts_are = ap (λ (o : Option CoreKind). (machine_of o).parts) shape ∙ (each_fits c.kind).asks;
+        told_are = ap (λ (o : Option CoreKind). (machine_of o).told) shape ∙ (each_fits c.kind).told;
       }
 
   has_port : (k : ℕ) → k < C → HasPort k
@@ -94,12 +94,12 @@ module _ (t : Table) (name : List ℕ) (m : Module) (inputs : ℕ) (leaf : LeafP
 
   of_port : (k : ℕ) (p : port.CorePort) → slice_get ports k ≡ Some p → IsPortOf k p
   of_port k p e =
-      let b = map_back (λ (z : PlacedCore). port_of z.shape) t.cores k p e in
-      let shape : slice_get (shapes_of t) k ≡ Some b.0.shape = map_get (λ (z : PlacedCore). z.shape) t.cores k b.0 b.1 in
+      let b = map_back (λ (z : PlacedCore). port_of z.kind) t.cores k p e in
+      let shape : slice_get (kinds_in t) k ≡ Some b.0.kind = map_get (λ (z : PlacedCore). z.kind) t.cores k b.0 b.1 in
       record {
         below = slice_get_within t.cores k b.0 b.1;
-        parts_are = ap (λ (o : Option CoreShape). (machine_of o).parts) shape ∙ (each_fits b.0.shape).asks ∙ ap (λ (q : port.CorePort). length q.asks) (sym b.2);
-        told_are = ap (λ (o : Option CoreShape). (machine_of o).told) shape ∙ (each_fits b.0.shape).told ∙ ap (λ (q : port.CorePort). length q.told) (sym b.2);
+        parts_are = ap (λ (o : Option CoreKind). (machine_of o).parts) shape ∙ (each_fits b.0.kind).asks ∙ ap (λ (q : port.CorePort). length q.asks) (sym b.2);
+        told_are = ap (λ (o : Option CoreKind). (machine_of o).told) shape ∙ (each_fits b.0.kind).told ∙ ap (λ (q : port.CorePort). length q.told) (sym b.2);
       }
 
   -- ---- where its ports stand
@@ -216,7 +216,7 @@ module _ (t : Table) (name : List ℕ) (m : Module) (inputs : ℕ) (leaf : LeafP
   done_place : leaf.done ≡ first + (length (ask_widths (layout_of t).cores) + 1)
   done_place = done_at ∙ ap (λ z. first + (z + 1)) (sym (ap length (asks_are (kinds_at t) t.cores)))
 
-  thread_at : IsThreadAt (layout_of t) (leaf_thread m leaf) (leaf_places m leaf) (machine_at (shapes_of t)) m
+  thread_at : IsThreadAt (layout_of t) (leaf_thread m leaf) (leaf_places m leaf) (machine_at (kinds_in t)) m
   thread_at = record {
     is = subst (λ n. IsThread (leaf_thread m leaf) (leaf_places m leaf) n (parts t) (told t) m) (sym cores_count) promise;
     uses = λ k l. uses k (let n = cores_count in omega (arith, n, l));
@@ -224,8 +224,8 @@ module _ (t : Table) (name : List ℕ) (m : Module) (inputs : ℕ) (leaf : LeafP
     grant = λ k l. routine.grant k (let n = cores_count in let p = port_count in omega (arith, n, p, l));
     told = λ k j l lt.
         let h = has_port k (let n = cores_count in omega (arith, n, l)) in
-        let inside : j < length (port_of h.core.shape).told = (let e = h.told_are in omega (arith, e, lt)) in
-        let at = routine.told k j (port_of h.core.shape) h.listed inside in
+        let inside : j < length (port_of h.core.kind).told = (let e = h.told_are in omega (arith, e, lt)) in
+        let at = routine.told k j (port_of h.core.kind) h.listed inside in
         let n = cores_count in let p = port_count in let b = (thread_ports t).told k in
         omega (arith, at, n, p, b);
     done = λ r s obeys shown.
@@ -233,8 +233,8 @@ module _ (t : Table) (name : List ℕ) (m : Module) (inputs : ℕ) (leaf : LeafP
         (slot_bit_is m inputs leaf C (parts t) (told t) thread leaf.done done r s obeys shown);
     ask = λ k j l lt.
         let h = has_port k (let n = cores_count in omega (arith, n, l)) in
-        let inside : j < length (port_of h.core.shape).asks = (let e = h.parts_are in omega (arith, e, lt)) in
-        ask_at k j (port_of h.core.shape) h.listed inside ∙ ap (λ z. first + (z + j)) (sym ((thread_ports t).asked k));
+        let inside : j < length (port_of h.core.kind).asks = (let e = h.parts_are in omega (arith, e, lt)) in
+        ask_at k j (port_of h.core.kind) h.listed inside ∙ ap (λ z. first + (z + j)) (sym ((thread_ports t).asked k));
   }
 
   pub thread_stands : ThreadStands t m leaf

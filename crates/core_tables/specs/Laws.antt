@@ -15,8 +15,8 @@ use Rattle.leaf_machine.specs.Standing.{IsSilent}
 use Rattle.leaf_machine.specs.Leaves.{LeafPorts, leaf_thread, leaf_places, IsSlotBit, IsThreadLeaf as IsLeafOfThread}
 use Rattle.print_core.specs.declared.printer.Shape.{Shape as PrinterShape}
 use Rattle.leaf_machine.specs.Ports as port
-use Rattle.core_family.specs.Family.{CoreShape, Bank, Mutex, Barrier, Forks, Prints, machine_at, places_at}
-use Rattle.core_tables.specs.Tables.{PlacedCore, Table, HasCores, layout_of, modules_of, shapes_of, ports_of}
+use Rattle.core_family.specs.Family.{CoreKind, Bank, Mutex, Barrier, ThreadIds, Printer, machine_at, places_at}
+use Rattle.core_tables.specs.Tables.{PlacedCore, Table, HasCores, layout_of, modules_of, kinds_in, ports_of}
 
 -- THE PORTS OF THREADS: a layout asks of a thread's module the ports of its cores, in their order
 pub record HasThreadPorts (t : Table) : Type 0 where
@@ -31,16 +31,16 @@ ThreadsHavePorts = (t : Table) → HasThreadPorts t
 -- how many numbers each core of a table is asked with, and how many it tells
 module _ (t : Table) where
   abbrev pub parts : ℕ → ℕ
-  parts k = (machine_at (shapes_of t) k).parts
+  parts k = (machine_at (kinds_in t) k).parts
 
   abbrev pub told : ℕ → ℕ
-  told k = (machine_at (shapes_of t) k).told
+  told k = (machine_at (kinds_in t) k).told
 
   -- at the places of the layout a thread's module is a thread's machine, whose requests, need and done follow no answer
   pub record ThreadStands (m : Module) (leaf : LeafPorts) : Type 0 where
     pub late : ℕ → Bool
     pub early : IsThreadLeaf (layout_of t) late m
-    pub promise : IsThreadAt (layout_of t) (leaf_thread m leaf) (leaf_places m leaf) (machine_at (shapes_of t)) m
+    pub promise : IsThreadAt (layout_of t) (leaf_thread m leaf) (leaf_places m leaf) (machine_at (kinds_in t)) m
     pub interface : HasInterface m (thread_inputs (layout_of t)) (thread_outputs (ask_widths (layout_of t).cores))
     pub done : leaf.done ≡ first_of m (thread_outputs (ask_widths (layout_of t).cores)) + (asked (layout_of t) + 1)
 
@@ -55,7 +55,7 @@ ThreadsFit =
 pub record CoreStands (t : Table) (k : ℕ) (c : Core) : Type 0 where
   pub body : Module
   pub listed : slice_get (modules_of t) c.module ≡ Some body
-  pub promise : IsCoreAt (layout_of t) (machine_at (shapes_of t) k) (places_at (shapes_of t) k) c body
+  pub promise : IsCoreAt (layout_of t) (machine_at (kinds_in t) k) (places_at (kinds_in t) k) c body
   pub interface : HasInterface body (core_inputs (layout_of t) c) (core_outputs (threads (layout_of t)) c)
 
 pub record ArbiterStands (t : Table) : Type 0 where
@@ -81,26 +81,26 @@ TablesFit = (t : Table) → HasCores t → FitsLayout t
 
 -- ---- names
 
-abbrev pub SameOf : CoreShape → ℕ → CoreShape → ℕ → Type 0
+abbrev pub SameOf : CoreKind → ℕ → CoreKind → ℕ → Type 0
 SameOf (Bank s) n (Bank r) m = (s.name ≡ r.name) × (s.number ≡ r.number)
 SameOf (Mutex s) n (Mutex r) m = n ≡ m
 SameOf (Barrier s) n (Barrier r) m = n ≡ m
-SameOf (Forks s) n (Forks r) m = Unit {0}
-SameOf (Prints s) n (Prints r) m = Unit {0}
+SameOf (ThreadIds s) n (ThreadIds r) m = Unit {0}
+SameOf (Printer s) n (Printer r) m = Unit {0}
 SameOf _ n _ m = ⊥
 
 -- numbers are words
-abbrev pub IsLow : CoreShape → ℕ → Type 0
+abbrev pub IsLow : CoreKind → ℕ → Type 0
 IsLow (Bank s) n = s.number < 2 ^ 64
 IsLow _ n = n < 2 ^ 64
 
--- two cores are one: banks of one global and one number, mutexes and barriers of one number, the core of the ids, the printer
+-- two cores are one: banks of one global and one number, mutexes and barriers of one number, the core of the thread ids, the printer
 abbrev pub SameCore : PlacedCore → PlacedCore → Type 0
-SameCore a b = SameOf a.shape a.number b.shape b.number
+SameCore a b = SameOf a.kind a.number b.kind b.number
 
 -- and that each stands once, with a number that a name can have
 pub record StandOnce (t : Table) : Type 0 where
-  pub low : (k : ℕ) (c : PlacedCore) → slice_get t.cores k ≡ Some c → IsLow c.shape c.number
+  pub low : (k : ℕ) (c : PlacedCore) → slice_get t.cores k ≡ Some c → IsLow c.kind c.number
   pub once : (k l : ℕ) (c d : PlacedCore) → slice_get t.cores k ≡ Some c → slice_get t.cores l ≡ Some d → SameCore c d → k ≡ l
 
 -- THE NAMES OF CORES: they begin with u, and are apart
@@ -116,12 +116,12 @@ CoresAreNamed = (t : Table) → StandOnce t → HasNames t
 -- the modules of threads write nothing, the modules of cores are used, and one of the cores is the printer
 pub record HasPrinter (t : Table) : Type 0 where
   pub silent : (number : ℕ) (m : Module) → slice_get t.routines number ≡ Some m → EachOf IsSilent m.actions
-  pub used : (j : ℕ) (m : Module) → slice_get t.kinds j ≡ Some m → (k : ℕ) × (c : PlacedCore) × (slice_get t.cores k ≡ Some c) × (c.kind ≡ j)
+  pub used : (j : ℕ) (m : Module) → slice_get t.kinds j ≡ Some m → (k : ℕ) × (c : PlacedCore) × (slice_get t.cores k ≡ Some c) × (c.place ≡ j)
   pub place : ℕ
   pub core : PlacedCore
   pub shape : PrinterShape
   pub listed : slice_get t.cores place ≡ Some core
-  pub is : core.shape ≡ Prints shape
+  pub is : core.kind ≡ Printer shape
 
 -- ONE MODULE WRITES: the printer's alone, and it has one instance
 pub record OneWrites (t : Table) : Type 0 where

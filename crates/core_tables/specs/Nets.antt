@@ -19,7 +19,7 @@ use Rattle.leaf_machine.specs.Leaves.{LeafPorts, leaf_thread}
 use Rattle.bank_cores.specs.declared.bank.Shape.{Shape as BankShape}
 use Rattle.bank_cores.specs.Bank.{memory_of}
 use Rattle.core_family.specs.Family.{Bank, machine_at}
-use Rattle.core_tables.specs.Tables.{Table, layout_of, modules_of, shapes_of}
+use Rattle.core_tables.specs.Tables.{Table, layout_of, modules_of, kinds_in}
 use Rattle.core_tables.specs.Whole.{IsWholeTable, AreThreads, places_of}
 
 module _ (t : Table) (modules : ℕ → Module) (leaves : ℕ → LeafPorts) (n : Netlist) (top : Module) where
@@ -47,13 +47,13 @@ module _ (t : Table) (modules : ℕ → Module) (leaves : ℕ → LeafPorts) (n 
   pub record IsBankNamed (name digits : List ℕ) : Type 0 where
     pub core : ℕ
     pub shape : BankShape
-    pub listed : slice_get (shapes_of t) core ≡ Some (Bank shape)
+    pub listed : slice_get (kinds_in t) core ≡ Some (Bank shape)
     pub named : shape.name ≡ name
     pub numbered : digits ≡ decimal shape.number
 
   -- THE NET OF A TABLE: one machine, whose signals have stages; thread i is instance i, and the banks are found by their names
   pub record IsNetOfTable : Type 0 where
-    pub net : IsNet (threads (layout_of t)) (cores (layout_of t)) (λ i. leaf_thread (modules i) (leaves i)) (machine_at (shapes_of t)) (places_of t modules leaves) n.modules top
+    pub net : IsNet (threads (layout_of t)) (cores (layout_of t)) (λ i. leaf_thread (modules i) (leaves i)) (machine_at (kinds_in t)) (places_of t modules leaves) n.modules top
     pub is_top : top_of n.modules ≡ Some top
     pub runs : (i : ℕ) → i < thread_count → module_at n.modules top (i ∷ []) ≡ Some (modules i)
     pub slots : (i : ℕ) → i < thread_count → slot n.modules top thread_count i ≡ i ∷ []
@@ -64,7 +64,7 @@ module _ (t : Table) (modules : ℕ → Module) (leaves : ℕ → LeafPorts) (n 
     pub stages : Stages
     pub staged : IsStaged n.modules top stages
     pub loopless : (p : Place) → Depends n.modules top p p → ⊥
-    pub banks : (k : ℕ) (b : BankShape) → slice_get (shapes_of t) k ≡ Some (Bank b) → IsBankAt k b
+    pub banks : (k : ℕ) (b : BankShape) → slice_get (kinds_in t) k ≡ Some (Bank b) → IsBankAt k b
     pub only_banks : (name digits : List ℕ) → IsMinimal digits → BankOf n.modules top name digits → IsBankNamed name digits
 
 -- so it is of each that is wired of it

@@ -9,8 +9,8 @@ use Rattle.top_wiring.specs.Machine.{KeepPromises}
 use Rattle.bank_arbiter.specs.Arbiter as arbiter
 use Rattle.leaf_machine.specs.Leaves.{LeafPorts, leaf_thread, leaf_places}
 use Rattle.leaf_machine.specs.Ports as port
-use Rattle.core_family.specs.Family.{CoreShape, Bank, Mutex, Barrier, Forks, Prints, machine_at, places_at}
-use Rattle.core_tables.specs.Tables.{PlacedCore, Table, HasCores, layout_of, modules_of, shapes_of, ports_of}
+use Rattle.core_family.specs.Family.{CoreKind, Bank, Mutex, Barrier, ThreadIds, Printer, machine_at, places_at}
+use Rattle.core_tables.specs.Tables.{PlacedCore, Table, HasCores, layout_of, modules_of, kinds_in, ports_of}
 use Rattle.core_tables.specs.Laws.{StandOnce, HasPrinter, ThreadStands}
 
 -- a module of a function, or of threads without one
@@ -25,17 +25,17 @@ pub record HasRoutines (t : Table) : Type 0 where
   pub apart : (i j : ℕ) (m n : Module) → slice_get t.routines i ≡ Some m → slice_get t.routines j ≡ Some n → m.name ≡ n.name → i ≡ j
 
 -- two shapes have one module: banks of one global and one number, mutexes that begin alike, all barriers
-abbrev pub SameModule : CoreShape → CoreShape → Type 0
+abbrev pub SameModule : CoreKind → CoreKind → Type 0
 SameModule (Bank s) (Bank r) = (s.name ≡ r.name) × (s.number ≡ r.number)
 SameModule (Mutex s) (Mutex r) = s.initialised ≡ r.initialised
 SameModule (Barrier s) (Barrier r) = Unit {0}
-SameModule (Forks s) (Forks r) = Unit {0}
-SameModule (Prints s) (Prints r) = Unit {0}
+SameModule (ThreadIds s) (ThreadIds r) = Unit {0}
+SameModule (Printer s) (Printer r) = Unit {0}
 SameModule _ _ = ⊥
 
 -- and it stands once
 abbrev pub KindsStandOnce : Table → Type 0
-KindsStandOnce t = (k l : ℕ) (c d : PlacedCore) → slice_get t.cores k ≡ Some c → slice_get t.cores l ≡ Some d → SameModule c.shape d.shape → c.kind ≡ d.kind
+KindsStandOnce t = (k l : ℕ) (c d : PlacedCore) → slice_get t.cores k ≡ Some c → slice_get t.cores l ≡ Some d → SameModule c.kind d.kind → c.place ≡ d.place
 
 pub record IsWholeTable (t : Table) : Type 0 where
   pub cores : HasCores t
@@ -52,13 +52,13 @@ TablesAreSound = (t : Table) → IsWholeTable t → AreSound (layout_of t) (modu
 
 -- of the modules of threads
 module _ (t : Table) (modules : ℕ → Module) (leaves : ℕ → LeafPorts) where
-  abbrev pub places_of : NetPlaces (threads (layout_of t)) (cores (layout_of t)) (λ i. leaf_thread (modules i) (leaves i)) (machine_at (shapes_of t))
+  abbrev pub places_of : NetPlaces (threads (layout_of t)) (cores (layout_of t)) (λ i. leaf_thread (modules i) (leaves i)) (machine_at (kinds_in t))
   places_of = record {
     thread_at = λ i. i;
     core_at = λ k. threads (layout_of t) + k;
     arbiter_at = λ k. threads (layout_of t) + cores (layout_of t) + k;
     thread = λ i. leaf_places (modules i) (leaves i);
-    core = places_at (shapes_of t);
+    core = places_at (kinds_in t);
     arbiter = λ k. arbiter.places (threads (layout_of t));
   }
 
@@ -72,4 +72,4 @@ abbrev pub TablesKeepPromises : Type 0
 TablesKeepPromises =
     (t : Table) (modules : ℕ → Module) (leaves : ℕ → LeafPorts) → IsWholeTable t →
     AreThreads t modules leaves →
-    KeepPromises (layout_of t) (λ i. leaf_thread (modules i) (leaves i)) (machine_at (shapes_of t)) (places_of t modules leaves) (modules_of t)
+    KeepPromises (layout_of t) (λ i. leaf_thread (modules i) (leaves i)) (machine_at (kinds_in t)) (places_of t modules leaves) (modules_of t)

@@ -11,14 +11,14 @@ use Rattle.lists.proofs.Places.{get_front, get_back, get_mapped, copies_there}
 use Rattle.leaf_machine.specs.Leaves.{LeafPorts}
 use Rattle.leaf_machine.specs.Ports.{CorePort, asks_of, told_of, ask_place, told_place, thread_inputs, thread_outputs, IsRoutineModule}
 use Rattle.core_family.specs.declared.cores.Cores.{Cores}
-use Rattle.core_family.specs.Family.{CoreShape, machine_of, port_of, ask_width, told_width}
-use Rattle.core_family.specs.Kinds.{cores_of, ports_of}
+use Rattle.core_family.specs.Family.{CoreKind, machine_of, port_of, ask_width, told_width}
+use Rattle.core_family.specs.Kinds.{kinds_of, ports_of}
 use Rattle.core_family.proofs.OnePrinter.{each_fits}
 use Rattle.c_program.specs.Tree.{Program}
 use Rattle.law_cycle.specs.Bodies.{FitsCores, BodiesFit, core_at, core_count, core_machine}
 use Rattle.law_cycle.specs.Built.{Parts, IsBuilt, thread_at}
 use Rattle.law_cycle.specs.Thread.{ArePorts}
-use Rattle.law_cycle.proofs.Cores.{core_there, count_is}
+use Rattle.core_family.proofs.Listed.{core_there, count_is}
 
 -- ---- joined lists, by number of the list
 
@@ -43,11 +43,11 @@ module _ (c : Cores) (name : List ℕ) (m : Module) (inputs : ℕ) (leaf : LeafP
   ports = ports_of c
 
   pub port_count : length ports ≡ core_count c
-  port_count = length-map (cores_of c) port_of ∙ count_is c
+  port_count = length-map (kinds_of c) port_of ∙ count_is c
 
   -- core k has a port
   record HasPort (k : ℕ) : Type 0 where
-    core : CoreShape
+    core : CoreKind
     is : core_at c k ≡ Some core
     listed : slice_get ports k ≡ Some (port_of core)
     parts_are : (core_machine c k).parts ≡ length (port_of core).asks
@@ -59,9 +59,9 @@ module _ (c : Cores) (name : List ℕ) (m : Module) (inputs : ℕ) (leaf : LeafP
       record {
         core = s.0;
         is = s.1;
-        listed = get_mapped port_of (cores_of c) k s.0 s.1;
-        parts_are = ap (λ (o : Option CoreShape). (machine_of o).parts) s.1 ∙ (each_fits s.0).asks;
-        told_are = ap (λ (o : Option CoreShape). (machine_of o).told) s.1 ∙ (each_fits s.0).told;
+        listed = get_mapped port_of (kinds_of c) k s.0 s.1;
+        parts_are = ap (λ (o : Option CoreKind). (machine_of o).parts) s.1 ∙ (each_fits s.0).asks;
+        told_are = ap (λ (o : Option CoreKind). (machine_of o).told) s.1 ∙ (each_fits s.0).told;
       }
 
   input_has : (x w : ℕ) → slice_get (thread_inputs ports) x ≡ Some w → Has m x w

@@ -23,7 +23,7 @@ use Rattle.print_core.specs.declared.printer.Shape.{Shape as PrinterShape}
 use Rattle.circuit.specs.Machines.{after_grant, printed}
 use Rattle.print_core.specs.Machine.{bytes_of_site}
 use Rattle.law_threads.specs.Cores.{Core, may_grant, granted, text_at}
-use Rattle.core_family.specs.Family.{CoreShape, Mutex, Barrier, Forks, Prints, machine_of}
+use Rattle.core_family.specs.Family.{CoreKind, Mutex, Barrier, ThreadIds, Printer, machine_of}
 use Rattle.core_family.specs.Laws.{FitsState}
 use Rattle.core_family.proofs.ToldFits.{each_keeps_fitting}
 use Rattle.law_banks.specs.Laws.{owner_of}
@@ -33,7 +33,7 @@ use Rattle.law_cycle.specs.Built.{Parts, IsBuilt}
 use Rattle.law_cycle.specs.Bodies.{numbers_of, core_at, core_machine, core_count}
 use Rattle.law_cycle.specs.Stage.{Stage, FitsTold, shown_as, cores_shown, winner, asks_of, next_net, printed_now}
 use Rattle.law_cycle.specs.Laws.{WinsBank, WinsCore, Wins, CoreTurn, Stays, Given, EachTurns}
-use Rattle.law_cycle.proofs.Cores.{bank_at, mutex_at, barrier_at, ids_at, printer_at, Kind, IsBank, IsMutex, IsBarrier, IsForks, IsPrinter, IsPast, kind_of}
+use Rattle.core_family.proofs.Listed.{bank_at, mutex_at, barrier_at, thread_ids_at, printer_at, Which, IsBank, IsMutex, IsBarrier, IsThreadIds, IsPrinter, IsPast, which}
 use Rattle.law_cycle.proofs.Steps.{asks_fit}
 use Rattle.law_cycle.proofs.Granted.{won_by, a_core, who_wins}
 use Rattle.law_cycle.proofs.HandedOver.{HandsOver, hands_over}
@@ -51,11 +51,11 @@ module _ (P : Program) (K : Parts) (built : IsBuilt P K) (c : Choice) (h : Stage
   abbrev after : ℕ → Core
   after = cores_shown P K (next_net P K c h.net) next_out
 
-  abbrev barrier : CoreShape
+  abbrev barrier : CoreKind
   barrier = Barrier (record { threads = K.cores.threads })
 
-  abbrev forks : CoreShape
-  forks = Forks (record { threads = K.cores.threads })
+  abbrev thread_ids : CoreKind
+  thread_ids = ThreadIds (record { threads = K.cores.threads })
 
   -- by thread what it asks of core k
   abbrev all_asks : (k : ℕ) → ℕ → (core_machine K.cores k).Ask
@@ -78,11 +78,11 @@ module _ (P : Program) (K : Parts) (built : IsBuilt P K) (c : Choice) (h : Stage
 
   -- ---- where nobody is granted a core stays
 
-  same_out : (k : ℕ) → winner P K c h.net k ≡ None → Kind K.cores k → (s : PrinterShape) → core_at K.cores k ≡ Some (Prints s) → h.out ≡ next_out
+  same_out : (k : ℕ) → winner P K c h.net k ≡ None → Which K.cores k → (s : PrinterShape) → core_at K.cores k ≡ Some (Printer s) → h.out ≡ next_out
   same_out k none (IsBank b listed core) s e = absurd (let z = sym core ∙ e in cc)
   same_out k none (IsMutex n m listed at core) s e = absurd (let z = sym core ∙ e in cc)
   same_out k none (IsBarrier n below at core) s e = absurd (let z = sym core ∙ e in cc)
-  same_out k none (IsForks on at core) s e = absurd (let z = sym core ∙ e in cc)
+  same_out k none (IsThreadIds on at core) s e = absurd (let z = sym core ∙ e in cc)
   same_out k none (IsPrinter at core) s e = sym (ap (λ (t : List ℕ). h.out ++ t) (printed_at k at None none) ∙ append-nil h.out)
   same_out k none (IsPast past core) s e = absurd (let z = sym core ∙ e in cc)
 
@@ -91,7 +91,7 @@ module _ (P : Program) (K : Parts) (built : IsBuilt P K) (c : Choice) (h : Stage
   shown_after k o e = ap (λ (z : Option ℕ). shown_as (core_at K.cores k) (after_grant (core_machine K.cores k) (h.net.states k) (all_asks k) z) next_out) e
 
   pub stays : (k : ℕ) → winner P K c h.net k ≡ None → after k ≡ before k
-  stays k e = shown_after k None e ∙ sym (shown_whatever (core_at K.cores k) (h.net.states k) h.out next_out (same_out k e (kind_of K.cores k)))
+  stays k e = shown_after k None e ∙ sym (shown_whatever (core_at K.cores k) (h.net.states k) h.out next_out (same_out k e (which K.cores k)))
 
   -- a bank shows nothing
   pub bank_stays : (k : ℕ) → k < length K.cores.banks → after k ≡ before k
@@ -112,16 +112,16 @@ module _ (P : Program) (K : Parts) (built : IsBuilt P K) (c : Choice) (h : Stage
     over = hands_over (nat_eq i 0) a (h.slots i).variables asks is
 
     -- a word that is handed over
-    word_is : (s : CoreShape) → core_at K.cores k ≡ Some s → (j w : ℕ) → slice_get asks.values j ≡ Some w → suc (suc j) < (machine_of (Some s)).parts → f (suc (suc j)) ≡ w
-    word_is s core j w at l = hands.values j w at (subst (λ (o : Option CoreShape). suc (suc j) < (machine_of o).parts) (sym core) l)
+    word_is : (s : CoreKind) → core_at K.cores k ≡ Some s → (j w : ℕ) → slice_get asks.values j ≡ Some w → suc (suc j) < (machine_of (Some s)).parts → f (suc (suc j)) ≡ w
+    word_is s core j w at l = hands.values j w at (subst (λ (o : Option CoreKind). suc (suc j) < (machine_of o).parts) (sym core) l)
 
     -- which core it is, and what that uses of the words
     pub data AsksCore : Type 0 where
       ToMutex : (m : MutexShape) (core : core_at K.cores k ≡ Some (Mutex m)) → AsksCore
       ToBarrier : (core : core_at K.cores k ≡ Some barrier) (count : asks.number ≡ 0 → f 2 ≡ first_word asks.values) → AsksCore
-      ToIds : (core : core_at K.cores k ≡ Some forks) (created : asks.number ≡ 0 → (f 2 ≡ first_word asks.values) × (f 3 ≡ second_word asks.values))
+      ToIds : (core : core_at K.cores k ≡ Some thread_ids) (created : asks.number ≡ 0 → (f 2 ≡ first_word asks.values) × (f 3 ≡ second_word asks.values))
           (joined : asks.number ≡ 1 → f 2 ≡ first_word asks.values) → AsksCore
-      ToPrinter : (service : asks.service ≡ Prints) (at : printer_core (numbers_of K.cores) ≡ k) (core : core_at K.cores k ≡ Some (Prints K.cores.printer)) → AsksCore
+      ToPrinter : (service : asks.service ≡ Prints) (at : printer_core (numbers_of K.cores) ≡ k) (core : core_at K.cores k ≡ Some (Printer K.cores.printer)) → AsksCore
 
     to_barrier : asks.service ≡ Barriers → core_at K.cores k ≡ Some barrier → AsksCore
     to_barrier service core =
@@ -130,17 +130,17 @@ module _ (P : Program) (K : Parts) (built : IsBuilt P K) (c : Choice) (h : Stage
         let v = over.count service zero in
         word_is barrier core 0 v.0 (ap (λ (ws : List ℕ). slice_get ws 0) v.2) (omega arith) ∙ sym (ap first_word v.2))
 
-    to_ids : asks.service ≡ Ids → core_at K.cores k ≡ Some forks → AsksCore
+    to_ids : asks.service ≡ Ids → core_at K.cores k ≡ Some thread_ids → AsksCore
     to_ids service core =
         ToIds core
         (λ zero.
         let v = over.created service zero in (
-          word_is forks core 0 v.0 (ap (λ (ws : List ℕ). slice_get ws 0) v.3) (omega arith) ∙ sym (ap first_word v.3),
-          word_is forks core 1 v.1 (ap (λ (ws : List ℕ). slice_get ws 1) v.3) (omega arith) ∙ sym (ap second_word v.3),
+          word_is thread_ids core 0 v.0 (ap (λ (ws : List ℕ). slice_get ws 0) v.3) (omega arith) ∙ sym (ap first_word v.3),
+          word_is thread_ids core 1 v.1 (ap (λ (ws : List ℕ). slice_get ws 1) v.3) (omega arith) ∙ sym (ap second_word v.3),
         ))
         (λ one.
         let v = over.joined service one in
-        word_is forks core 0 v.0 (ap (λ (ws : List ℕ). slice_get ws 0) v.2) (omega arith) ∙ sym (ap first_word v.2))
+        word_is thread_ids core 0 v.0 (ap (λ (ws : List ℕ). slice_get ws 0) v.2) (omega arith) ∙ sym (ap first_word v.2))
 
     asks_core : (s : Service) → asks.service ≡ s → core_in (numbers_of K.cores) s asks.core ≡ Some k → AsksCore
     asks_core Mutexes service at =
@@ -150,7 +150,7 @@ module _ (P : Program) (K : Parts) (built : IsBuilt P K) (c : Choice) (h : Stage
     asks_core Barriers service at =
         let u = cond_some (nat_lt asks.core K.cores.barriers) (barrier_core (numbers_of K.cores) asks.core) k at in
         to_barrier service (ap (core_at K.cores) (sym u.1) ∙ barrier_at K.cores asks.core (ltb-true asks.core K.cores.barriers u.0))
-    asks_core Ids service at = let u = cond_some K.cores.ids (ids_core (numbers_of K.cores)) k at in to_ids service (ap (core_at K.cores) (sym u.1) ∙ ids_at K.cores u.0)
+    asks_core Ids service at = let u = cond_some K.cores.thread_ids (ids_core (numbers_of K.cores)) k at in to_ids service (ap (core_at K.cores) (sym u.1) ∙ thread_ids_at K.cores u.0)
     asks_core Prints service at =
         let same : printer_core (numbers_of K.cores) ≡ k = cc in ToPrinter service same (ap (core_at K.cores) (sym same) ∙ printer_at K.cores)
 
@@ -170,7 +170,7 @@ module _ (P : Program) (K : Parts) (built : IsBuilt P K) (c : Choice) (h : Stage
     -- ---- and is granted it
 
     module _ (e : winner P K c h.net k ≡ Some i) where
-      prints_text : asks.service ≡ Prints → printer_core (numbers_of K.cores) ≡ k → core_at K.cores k ≡ Some (Prints K.cores.printer) →
+      prints_text : asks.service ≡ Prints → printer_core (numbers_of K.cores) ≡ k → core_at K.cores k ≡ Some (Printer K.cores.printer) →
           next_out ≡ h.out ++ text_at (slice_get (print_formats P) asks.number) asks.values
       prints_text service at core =
           let v = over.printed service in
@@ -184,7 +184,7 @@ module _ (P : Program) (K : Parts) (built : IsBuilt P K) (c : Choice) (h : Stage
           ∙ ap (λ n. bytes_of_site (slice_get K.cores.printer.sites n) (spread (λ j. f (suc (suc j))) 0 K.cores.printer.values)) hands.number
           ∙ site_prints P K.cores.printer.sites asks.number K.cores.printer.values asks.values (λ j. f (suc (suc j))) built.printer.sites few
           (λ format found. long ∙ code.prints (h.slots i).stage v.0 next v.1 format here (ap (slice_get (print_formats P)) (sym v.3) ∙ found))
-          (λ j w at_j. word_is (Prints K.cores.printer) core j w at_j (let l = slice_get_within asks.values j w at_j in omega (arith, l, few))))
+          (λ j w at_j. word_is (Printer K.cores.printer) core j w at_j (let l = slice_get_within asks.values j w at_j in omega (arith, l, few))))
 
       does_alike : AsksCore → DoesAlike K.cores.threads (print_formats P) (core_at K.cores k) (h.net.states k) h.out next_out i f asks
       does_alike (ToMutex m core) = mutex_does K.cores.threads (print_formats P) (core_at K.cores k) m core (h.net.states k) h.out next_out i f asks hands.number

@@ -18,7 +18,7 @@ use Rattle.thread_promise.specs.Promise.{is_run}
 use Rattle.thread_promise.specs.Moves.{asked_in, core_asked}
 use Rattle.thread_promise.specs.Serving.{IsActCore}
 use Rattle.law_threads.specs.Surroundings.{routine_of}
-use Rattle.core_family.specs.Family.{CoreShape, machine_of}
+use Rattle.core_family.specs.Family.{CoreKind, machine_of}
 use Rattle.core_family.proofs.OffersToAskers.{each_waits}
 use Rattle.law_cycle.specs.Thread.{Thread}
 use Rattle.law_cycle.specs.Asks.{AsksAct}
@@ -26,7 +26,7 @@ use Rattle.law_cycle.specs.Built.{Parts, IsBuilt, thread_at}
 use Rattle.law_cycle.specs.Bodies.{numbers_of, core_at, core_machine, core_count}
 use Rattle.law_cycle.specs.Stage.{Stage, StepOf, winner, asks_of}
 use Rattle.law_cycle.specs.Laws.{Wins, WinsBank, WinsCore, WhoWins}
-use Rattle.law_cycle.proofs.Cores.{none_past}
+use Rattle.core_family.proofs.Listed.{none_past}
 use Rattle.law_cycle.proofs.Steps.{banked, total_is, each_steps}
 use Rattle.law_cycle.proofs.Banks.{bit_on, asks_in_block}
 
@@ -50,7 +50,7 @@ names_or (Some m) k = ⊎_elim (λ (e : m ≡ k). inl (ap Some e)) (λ (ne : m �
 
 -- ---- past the cores nobody is granted anything
 
-none_may : (o : Option CoreShape) → o ≡ None → (s : (machine_of o).State) (i : ℕ) (f : ℕ → ℕ) → (machine_of o).eligible s i ((machine_of o).ask_of f) ≡ false
+none_may : (o : Option CoreKind) → o ≡ None → (s : (machine_of o).State) (i : ℕ) (f : ℕ → ℕ) → (machine_of o).eligible s i ((machine_of o).ask_of f) ≡ false
 none_may None e s i f = refl
 none_may (Some c) e s i f = absurd cc
 

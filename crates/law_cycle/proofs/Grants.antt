@@ -10,11 +10,11 @@ use Rattle.core_states.specs.Machines.{lock_eligible, lock_after, Gate, gate_eli
 use Rattle.bank_cores.specs.declared.bank.Shape.{Shape as BankShape}
 use Rattle.mutex_cores.specs.declared.mutex.Shape.{Shape as MutexShape}
 use Rattle.barrier_cores.specs.declared.barrier.Shape.{Shape as BarrierShape}
-use Rattle.fork_join_cores.specs.declared.forks.Shape.{Shape as ForksShape}
+use Rattle.fork_join_cores.specs.declared.forks.Shape.{Shape as ThreadIdsShape}
 use Rattle.print_core.specs.declared.printer.Shape.{Shape as PrinterShape}
 use Rattle.print_core.specs.Machine.{bytes_of_site}
 use Rattle.law_threads.specs.Cores.{OfBank, OfMutex, OfBarrier, OfIds, OfPrinter, may_grant, granted, text_at}
-use Rattle.core_family.specs.Family.{CoreShape, Bank, Mutex, Barrier, Forks, Prints, machine_of}
+use Rattle.core_family.specs.Family.{CoreKind, Bank, Mutex, Barrier, ThreadIds, Printer, machine_of}
 use Rattle.law_cycle.specs.Stage.{shown_as}
 
 -- ---- what an operation does not use changes nothing
@@ -58,43 +58,43 @@ ids_same t i operation x y v w created joined = by (nat_eq operation 0) refl (na
 -- ---- by kind of core: it is eligible where it asks and may be granted, and what the machine does is what the theory's core does
 
 -- of a core in a state, which has printed out, thread i asks with the numbers f what a says
-abbrev pub MayAlike : (o : Option CoreShape) → (machine_of o).State → List ℕ → ℕ → (ℕ → ℕ) → Asked → Type 0
+abbrev pub MayAlike : (o : Option CoreKind) → (machine_of o).State → List ℕ → ℕ → (ℕ → ℕ) → Asked → Type 0
 MayAlike o state out i f a = (machine_of o).eligible state i ((machine_of o).ask_of f) ≡ (nat_lt 0 (f 0) && may_grant (shown_as o state out) i a)
 
 -- and has printed after behind it
-abbrev pub DoesAlike : ℕ → List (List Piece) → (o : Option CoreShape) → (machine_of o).State → List ℕ → List ℕ → ℕ → (ℕ → ℕ) → Asked → Type 0
+abbrev pub DoesAlike : ℕ → List (List Piece) → (o : Option CoreKind) → (machine_of o).State → List ℕ → List ℕ → ℕ → (ℕ → ℕ) → Asked → Type 0
 DoesAlike T formats o state out after i f a =
     shown_as o ((machine_of o).act state i ((machine_of o).ask_of f)) after ≡ granted T formats (shown_as o state out) i a
 
-pub mutex_may : (o : Option CoreShape) (s : MutexShape) → o ≡ Some (Mutex s) → (state : (machine_of o).State) (out : List ℕ) (i : ℕ) (f : ℕ → ℕ) (a : Asked) → f 1 ≡ a.number →
+pub mutex_may : (o : Option CoreKind) (s : MutexShape) → o ≡ Some (Mutex s) → (state : (machine_of o).State) (out : List ℕ) (i : ℕ) (f : ℕ → ℕ) (a : Asked) → f 1 ≡ a.number →
     MayAlike o state out i f a
 mutex_may None s e state out i f a number = absurd cc
 mutex_may (Some (Bank c)) s e state out i f a number = absurd cc
 mutex_may (Some (Mutex c)) s e state out i f a number = ap (λ n. nat_lt 0 (f 0) && lock_eligible state n) number
 mutex_may (Some (Barrier c)) s e state out i f a number = absurd cc
-mutex_may (Some (Forks c)) s e state out i f a number = absurd cc
-mutex_may (Some (Prints c)) s e state out i f a number = absurd cc
+mutex_may (Some (ThreadIds c)) s e state out i f a number = absurd cc
+mutex_may (Some (Printer c)) s e state out i f a number = absurd cc
 
-pub mutex_does : (T : ℕ) (formats : List (List Piece)) (o : Option CoreShape) (s : MutexShape) → o ≡ Some (Mutex s) → (state : (machine_of o).State) (out after : List ℕ) (i : ℕ)
+pub mutex_does : (T : ℕ) (formats : List (List Piece)) (o : Option CoreKind) (s : MutexShape) → o ≡ Some (Mutex s) → (state : (machine_of o).State) (out after : List ℕ) (i : ℕ)
     (f : ℕ → ℕ) (a : Asked) → f 1 ≡ a.number → DoesAlike T formats o state out after i f a
 mutex_does T formats None s e state out after i f a number = absurd cc
 mutex_does T formats (Some (Bank c)) s e state out after i f a number = absurd cc
 mutex_does T formats (Some (Mutex c)) s e state out after i f a number = ap (λ n. OfMutex (lock_after state i n)) number
 mutex_does T formats (Some (Barrier c)) s e state out after i f a number = absurd cc
-mutex_does T formats (Some (Forks c)) s e state out after i f a number = absurd cc
-mutex_does T formats (Some (Prints c)) s e state out after i f a number = absurd cc
+mutex_does T formats (Some (ThreadIds c)) s e state out after i f a number = absurd cc
+mutex_does T formats (Some (Printer c)) s e state out after i f a number = absurd cc
 
-pub barrier_may : (o : Option CoreShape) (s : BarrierShape) → o ≡ Some (Barrier s) → (state : (machine_of o).State) (out : List ℕ) (i : ℕ) (f : ℕ → ℕ) (a : Asked) →
+pub barrier_may : (o : Option CoreKind) (s : BarrierShape) → o ≡ Some (Barrier s) → (state : (machine_of o).State) (out : List ℕ) (i : ℕ) (f : ℕ → ℕ) (a : Asked) →
     f 1 ≡ a.number →
     MayAlike o state out i f a
 barrier_may None s e state out i f a number = absurd cc
 barrier_may (Some (Bank c)) s e state out i f a number = absurd cc
 barrier_may (Some (Mutex c)) s e state out i f a number = absurd cc
 barrier_may (Some (Barrier c)) s e state out i f a number = ap (λ n. nat_lt 0 (f 0) && gate_eligible state i n) number
-barrier_may (Some (Forks c)) s e state out i f a number = absurd cc
-barrier_may (Some (Prints c)) s e state out i f a number = absurd cc
+barrier_may (Some (ThreadIds c)) s e state out i f a number = absurd cc
+barrier_may (Some (Printer c)) s e state out i f a number = absurd cc
 
-pub barrier_does : (T : ℕ) (formats : List (List Piece)) (o : Option CoreShape) (s : BarrierShape) → o ≡ Some (Barrier s) → s.threads ≡ T → (state : (machine_of o).State)
+pub barrier_does : (T : ℕ) (formats : List (List Piece)) (o : Option CoreKind) (s : BarrierShape) → o ≡ Some (Barrier s) → s.threads ≡ T → (state : (machine_of o).State)
     (out after : List ℕ) (i : ℕ) (f : ℕ → ℕ) (a : Asked) → f 1 ≡ a.number → (a.number ≡ 0 → f 2 ≡ first_word a.values) → DoesAlike T formats o state out after i f a
 barrier_does T formats None s e many state out after i f a number count = absurd cc
 barrier_does T formats (Some (Bank c)) s e many state out after i f a number count = absurd cc
@@ -104,76 +104,76 @@ barrier_does T formats (Some (Barrier c)) s e many state out after i f a number 
     let threads : c.threads ≡ T = ap (λ (z : BarrierShape). z.threads) same ∙ many in
     ap (λ n. OfBarrier (gate_after n state i (f 1) (f 2))) threads ∙ ap (λ n. OfBarrier (gate_after T state i n (f 2))) number
     ∙ ap OfBarrier (gate_count T state i a.number (f 2) (first_word a.values) count)
-barrier_does T formats (Some (Forks c)) s e many state out after i f a number count = absurd cc
-barrier_does T formats (Some (Prints c)) s e many state out after i f a number count = absurd cc
+barrier_does T formats (Some (ThreadIds c)) s e many state out after i f a number count = absurd cc
+barrier_does T formats (Some (Printer c)) s e many state out after i f a number count = absurd cc
 
-pub ids_may : (o : Option CoreShape) (s : ForksShape) → o ≡ Some (Forks s) → (state : (machine_of o).State) (out : List ℕ) (i : ℕ) (f : ℕ → ℕ) (a : Asked) → f 1 ≡ a.number →
+pub ids_may : (o : Option CoreKind) (s : ThreadIdsShape) → o ≡ Some (ThreadIds s) → (state : (machine_of o).State) (out : List ℕ) (i : ℕ) (f : ℕ → ℕ) (a : Asked) → f 1 ≡ a.number →
     (a.number ≡ 0 → (f 2 ≡ first_word a.values) × (f 3 ≡ second_word a.values)) → (a.number ≡ 1 → f 2 ≡ first_word a.values) → MayAlike o state out i f a
 ids_may None s e state out i f a number created joined = absurd cc
 ids_may (Some (Bank c)) s e state out i f a number created joined = absurd cc
 ids_may (Some (Mutex c)) s e state out i f a number created joined = absurd cc
 ids_may (Some (Barrier c)) s e state out i f a number created joined = absurd cc
-ids_may (Some (Forks c)) s e state out i f a number created joined =
+ids_may (Some (ThreadIds c)) s e state out i f a number created joined =
     ap (λ n. nat_lt 0 (f 0) && ids_eligible state n (f 2)) number
     ∙ ap (λ b. nat_lt 0 (f 0) && b) (may_same state a.number (f 2) (first_word a.values) (λ z. (created z).0) joined)
-ids_may (Some (Prints c)) s e state out i f a number created joined = absurd cc
+ids_may (Some (Printer c)) s e state out i f a number created joined = absurd cc
 
-pub ids_do : (T : ℕ) (formats : List (List Piece)) (o : Option CoreShape) (s : ForksShape) → o ≡ Some (Forks s) → (state : (machine_of o).State) (out after : List ℕ) (i : ℕ)
+pub ids_do : (T : ℕ) (formats : List (List Piece)) (o : Option CoreKind) (s : ThreadIdsShape) → o ≡ Some (ThreadIds s) → (state : (machine_of o).State) (out after : List ℕ) (i : ℕ)
     (f : ℕ → ℕ) (a : Asked) → f 1 ≡ a.number → (a.number ≡ 0 → (f 2 ≡ first_word a.values) × (f 3 ≡ second_word a.values)) → (a.number ≡ 1 → f 2 ≡ first_word a.values) →
     DoesAlike T formats o state out after i f a
 ids_do T formats None s e state out after i f a number created joined = absurd cc
 ids_do T formats (Some (Bank c)) s e state out after i f a number created joined = absurd cc
 ids_do T formats (Some (Mutex c)) s e state out after i f a number created joined = absurd cc
 ids_do T formats (Some (Barrier c)) s e state out after i f a number created joined = absurd cc
-ids_do T formats (Some (Forks c)) s e state out after i f a number created joined =
+ids_do T formats (Some (ThreadIds c)) s e state out after i f a number created joined =
     ap (λ n. OfIds (ids_after state i n (f 2) (f 3))) number
     ∙ ap OfIds (ids_same state i a.number (f 2) (first_word a.values) (f 3) (second_word a.values) created joined)
-ids_do T formats (Some (Prints c)) s e state out after i f a number created joined = absurd cc
+ids_do T formats (Some (Printer c)) s e state out after i f a number created joined = absurd cc
 
-pub printer_may : (o : Option CoreShape) (s : PrinterShape) → o ≡ Some (Prints s) → (state : (machine_of o).State) (out : List ℕ) (i : ℕ) (f : ℕ → ℕ) (a : Asked) →
+pub printer_may : (o : Option CoreKind) (s : PrinterShape) → o ≡ Some (Printer s) → (state : (machine_of o).State) (out : List ℕ) (i : ℕ) (f : ℕ → ℕ) (a : Asked) →
     MayAlike o state out i f a
 printer_may None s e state out i f a = absurd cc
 printer_may (Some (Bank c)) s e state out i f a = absurd cc
 printer_may (Some (Mutex c)) s e state out i f a = absurd cc
 printer_may (Some (Barrier c)) s e state out i f a = absurd cc
-printer_may (Some (Forks c)) s e state out i f a = absurd cc
-printer_may (Some (Prints c)) s e state out i f a = sym (and-true (nat_lt 0 (f 0)))
+printer_may (Some (ThreadIds c)) s e state out i f a = absurd cc
+printer_may (Some (Printer c)) s e state out i f a = sym (and-true (nat_lt 0 (f 0)))
 
-pub printer_does : (T : ℕ) (formats : List (List Piece)) (o : Option CoreShape) (s : PrinterShape) → o ≡ Some (Prints s) → (state : (machine_of o).State) (out after : List ℕ)
+pub printer_does : (T : ℕ) (formats : List (List Piece)) (o : Option CoreKind) (s : PrinterShape) → o ≡ Some (Printer s) → (state : (machine_of o).State) (out after : List ℕ)
     (i : ℕ) (f : ℕ → ℕ) (a : Asked) → after ≡ out ++ text_at (slice_get formats a.number) a.values → DoesAlike T formats o state out after i f a
 printer_does T formats None s e state out after i f a text = absurd cc
 printer_does T formats (Some (Bank c)) s e state out after i f a text = absurd cc
 printer_does T formats (Some (Mutex c)) s e state out after i f a text = absurd cc
 printer_does T formats (Some (Barrier c)) s e state out after i f a text = absurd cc
-printer_does T formats (Some (Forks c)) s e state out after i f a text = absurd cc
-printer_does T formats (Some (Prints c)) s e state out after i f a text = ap OfPrinter text
+printer_does T formats (Some (ThreadIds c)) s e state out after i f a text = absurd cc
+printer_does T formats (Some (Printer c)) s e state out after i f a text = ap OfPrinter text
 
 -- what a printer prints
-pub printer_prints : (o : Option CoreShape) (s : PrinterShape) → o ≡ Some (Prints s) → (state : (machine_of o).State) (i : ℕ) (f : ℕ → ℕ) →
+pub printer_prints : (o : Option CoreKind) (s : PrinterShape) → o ≡ Some (Printer s) → (state : (machine_of o).State) (i : ℕ) (f : ℕ → ℕ) →
     (machine_of o).prints state i ((machine_of o).ask_of f) ≡ bytes_of_site (slice_get s.sites (f 1)) (spread (λ j. f (suc (suc j))) 0 s.values)
 printer_prints None s e state i f = absurd cc
 printer_prints (Some (Bank c)) s e state i f = absurd cc
 printer_prints (Some (Mutex c)) s e state i f = absurd cc
 printer_prints (Some (Barrier c)) s e state i f = absurd cc
-printer_prints (Some (Forks c)) s e state i f = absurd cc
-printer_prints (Some (Prints c)) s e state i f =
+printer_prints (Some (ThreadIds c)) s e state i f = absurd cc
+printer_prints (Some (Printer c)) s e state i f =
     let same : c ≡ s = cc in ap (λ (z : PrinterShape). bytes_of_site (slice_get z.sites (f 1)) (spread (λ j. f (suc (suc j))) 0 z.values)) same
 
 -- a core that is no printer shows the same whatever is printed
-pub shown_whatever : (o : Option CoreShape) (state : (machine_of o).State) (out after : List ℕ) → ((s : PrinterShape) → o ≡ Some (Prints s) → out ≡ after) →
+pub shown_whatever : (o : Option CoreKind) (state : (machine_of o).State) (out after : List ℕ) → ((s : PrinterShape) → o ≡ Some (Printer s) → out ≡ after) →
     shown_as o state out ≡ shown_as o state after
 shown_whatever None state out after same = refl
 shown_whatever (Some (Bank c)) state out after same = refl
 shown_whatever (Some (Mutex c)) state out after same = refl
 shown_whatever (Some (Barrier c)) state out after same = refl
-shown_whatever (Some (Forks c)) state out after same = refl
-shown_whatever (Some (Prints c)) state out after same = ap OfPrinter (same c refl)
+shown_whatever (Some (ThreadIds c)) state out after same = refl
+shown_whatever (Some (Printer c)) state out after same = ap OfPrinter (same c refl)
 
 -- a bank shows nothing
-pub bank_shows : (o : Option CoreShape) (b : BankShape) → o ≡ Some (Bank b) → (state : (machine_of o).State) (out : List ℕ) → shown_as o state out ≡ OfBank
+pub bank_shows : (o : Option CoreKind) (b : BankShape) → o ≡ Some (Bank b) → (state : (machine_of o).State) (out : List ℕ) → shown_as o state out ≡ OfBank
 bank_shows None b e state out = absurd cc
 bank_shows (Some (Bank c)) b e state out = refl
 bank_shows (Some (Mutex c)) b e state out = absurd cc
 bank_shows (Some (Barrier c)) b e state out = absurd cc
-bank_shows (Some (Forks c)) b e state out = absurd cc
-bank_shows (Some (Prints c)) b e state out = absurd cc
+bank_shows (Some (ThreadIds c)) b e state out = absurd cc
+bank_shows (Some (Printer c)) b e state out = absurd cc

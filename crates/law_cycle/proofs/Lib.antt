@@ -1,5 +1,6 @@
 pub mod BodiesFit
 pub mod Cores
+pub use Rattle.core_family.proofs.Listed
 pub mod Banks
 pub mod Steps
 pub mod PlannedStep

@@ -7,7 +7,7 @@ use Rattle.hls_ints.specs.Residues.{residue_of, bit_of}
 use Rattle.c_program.specs.Tree.{Program}
 use Rattle.interleaving.specs.Memory.{Access}
 use Rattle.bank_cores.specs.Machine.{ask_of}
-use Rattle.fork_join_cores.specs.declared.forks.Shape.{Shape as ForksShape}
+use Rattle.fork_join_cores.specs.declared.forks.Shape.{Shape as ThreadIdsShape}
 use Rattle.barrier_cores.specs.declared.barrier.Shape.{Shape as BarrierShape}
 use Rattle.block_ir.specs.declared.block.Block.{Block}
 use Rattle.block_ir.specs.declared.code.Stage.{Stage as CodeStage}
@@ -32,7 +32,7 @@ use Rattle.thread_promise.specs.Moves.{meeting, set_out, stage_after}
 use Rattle.core_states.specs.Machines.{ids_tell}
 use Rattle.law_threads.specs.Cores.{Core, gate_in, ids_in, status_at}
 use Rattle.law_threads.specs.Surroundings.{routine_of, Sets_out, Goes_on}
-use Rattle.core_family.specs.Family.{CoreShape, Bank, Mutex, Barrier, Forks, Prints, machine_of}
+use Rattle.core_family.specs.Family.{CoreKind, Bank, Mutex, Barrier, ThreadIds, Printer, machine_of}
 use Rattle.law_banks.specs.Cycle.{Does, InBlock}
 use Rattle.law_banks.specs.Partition.{globals_of}
 use Rattle.law_cycle.specs.Thread as thread
@@ -45,39 +45,39 @@ use Rattle.law_cycle.specs.Built.{Parts, IsBuilt, thread_at}
 use Rattle.law_cycle.specs.Bodies.{numbers_of, core_at}
 use Rattle.law_cycle.specs.Stage.{Stage, StepOf, shown_as, cores_shown, news, asks_of, granted_to}
 use Rattle.law_cycle.specs.Going.{in_block, IsAdvance, Goes, Keeps, Advanced, Woke, Acted, Returned}
-use Rattle.law_cycle.proofs.Cores.{barrier_at, ids_at}
+use Rattle.core_family.proofs.Listed.{barrier_at, thread_ids_at}
 use Rattle.law_cycle.proofs.Steps.{banked, total_is, ids_there, is_thread}
 use Rattle.law_cycle.proofs.Banks.{outside_does, stopped_does, serves, works, wants}
 
 -- ---- what the cores of acts tell is what they have
 
-tells_ids : (o : Option CoreShape) (s : ForksShape) → o ≡ Some (Forks s) → (state : (machine_of o).State) (out : List ℕ) (i j : ℕ) →
+tells_ids : (o : Option CoreKind) (s : ThreadIdsShape) → o ≡ Some (ThreadIds s) → (state : (machine_of o).State) (out : List ℕ) (i j : ℕ) →
     (machine_of o).tells state i j ≡ ids_tell (ids_in (shown_as o state out)) i j
 tells_ids None s e state out i j = absurd cc
 tells_ids (Some (Bank c)) s e state out i j = absurd cc
 tells_ids (Some (Mutex c)) s e state out i j = absurd cc
 tells_ids (Some (Barrier c)) s e state out i j = absurd cc
-tells_ids (Some (Forks c)) s e state out i j = refl
-tells_ids (Some (Prints c)) s e state out i j = absurd cc
+tells_ids (Some (ThreadIds c)) s e state out i j = refl
+tells_ids (Some (Printer c)) s e state out i j = absurd cc
 
-tells_bit : (o : Option CoreShape) (s : BarrierShape) → o ≡ Some (Barrier s) → (state : (machine_of o).State) (out : List ℕ) (i : ℕ) →
+tells_bit : (o : Option CoreKind) (s : BarrierShape) → o ≡ Some (Barrier s) → (state : (machine_of o).State) (out : List ℕ) (i : ℕ) →
     (machine_of o).tells state i 0 ≡ slice_index (gate_in (shown_as o state out)).waiting i
 tells_bit None s e state out i = absurd cc
 tells_bit (Some (Bank c)) s e state out i = absurd cc
 tells_bit (Some (Mutex c)) s e state out i = absurd cc
 tells_bit (Some (Barrier c)) s e state out i = refl
-tells_bit (Some (Forks c)) s e state out i = absurd cc
-tells_bit (Some (Prints c)) s e state out i = absurd cc
+tells_bit (Some (ThreadIds c)) s e state out i = absurd cc
+tells_bit (Some (Printer c)) s e state out i = absurd cc
 
 one_bit : (b : Bool) → bit_of b ≡ 1 → b ≡ true
 one_bit true e = refl
 one_bit false e = absurd (omega arith)
 
--- a thread besides main is told what the core of the ids has
+-- a thread besides main is told what the core of the thread ids has
 pub ids_told : (P : Program) (K : Parts) (built : IsBuilt P K) (i : ℕ) → i < K.cores.threads → nat_eq i 0 ≡ false → (h : Stage P K) (j : ℕ) →
     news P K h.net i (ids_core (numbers_of K.cores)) j ≡ ids_tell (ids_in (cores_shown P K h.net h.out (ids_core (numbers_of K.cores)))) i j
 ids_told P K built i lt other h j =
-    tells_ids (core_at K.cores (ids_core (numbers_of K.cores))) (record { threads = K.cores.threads }) (ids_at K.cores (ids_there P K built i lt other)) (h.net.states (ids_core (numbers_of K.cores))) h.out i j
+    tells_ids (core_at K.cores (ids_core (numbers_of K.cores))) (record { threads = K.cores.threads }) (thread_ids_at K.cores (ids_there P K built i lt other)) (h.net.states (ids_core (numbers_of K.cores))) h.out i j
 
 -- and each its bit at a barrier
 pub bit_told : (P : Program) (K : Parts) (i : ℕ) (h : Stage P K) (n : ℕ) → n < K.cores.barriers →

@@ -11,14 +11,14 @@ use Rattle.circuit.specs.Wiring.{start}
 use Rattle.mutex_cores.specs.declared.mutex.Shape.{Shape as MutexShape}
 use Rattle.mutex_cores.specs.Machine.{first_lock}
 use Rattle.barrier_cores.specs.declared.barrier.Shape.{Shape as BarrierShape}
-use Rattle.fork_join_cores.specs.declared.forks.Shape.{Shape as ForksShape}
+use Rattle.fork_join_cores.specs.declared.forks.Shape.{Shape as ThreadIdsShape}
 use Rattle.print_core.specs.declared.printer.Shape.{Shape as PrinterShape}
 use Rattle.leaf_machine.specs.Leaves.{leaf_thread}
 use Rattle.leaf_machine.proofs.Leaves.{leaf_keeps_slots}
 use Rattle.thread_promise.specs.Moves.{first_slot}
 use Rattle.law_threads.specs.Cores.{OfMutex, OfBarrier, OfIds, OfPrinter}
 use Rattle.law_threads.specs.Surroundings.{routine_of}
-use Rattle.core_family.specs.Family.{CoreShape, Bank, Mutex, Barrier, Forks, Prints, machine_of}
+use Rattle.core_family.specs.Family.{CoreKind, Bank, Mutex, Barrier, ThreadIds, Printer, machine_of}
 use Rattle.core_family.specs.Laws.{FitsFirst}
 use Rattle.core_family.proofs.ToldFits.{each_keeps_fitting}
 use Rattle.law_banks.proofs.Net.{net_starts as banks_start}
@@ -27,57 +27,58 @@ use Rattle.law_cycle.specs.Built.{Parts, IsBuilt, Machine, thread_at}
 use Rattle.law_cycle.specs.Bodies.{numbers_of, core_at, core_machine, core_count}
 use Rattle.law_cycle.specs.Stage.{Stage, shown_as}
 use Rattle.law_cycle.specs.Cycle.{First, NetStarts}
-use Rattle.law_cycle.proofs.Cores.{has_banks, mutex_at, barrier_at, ids_at, printer_at, Kind, IsBank, IsMutex, IsBarrier, IsForks, IsPrinter, IsPast, kind_of}
+use Rattle.law_cycle.proofs.Cores.{has_banks}
+use Rattle.core_family.proofs.Listed.{mutex_at, barrier_at, thread_ids_at, printer_at, Which, IsBank, IsMutex, IsBarrier, IsThreadIds, IsPrinter, IsPast, which}
 use Rattle.law_cycle.proofs.Steps.{is_thread}
 
 -- ---- what cores begin with
 
-mutex_begins : (o : Option CoreShape) (s : MutexShape) → o ≡ Some (Mutex s) → shown_as o (machine_of o).start [] ≡ OfMutex (first_lock s.initialised)
+mutex_begins : (o : Option CoreKind) (s : MutexShape) → o ≡ Some (Mutex s) → shown_as o (machine_of o).start [] ≡ OfMutex (first_lock s.initialised)
 mutex_begins None s e = absurd cc
 mutex_begins (Some (Bank c)) s e = absurd cc
 mutex_begins (Some (Mutex c)) s e = let same : c ≡ s = cc in ap (λ (z : MutexShape). OfMutex (first_lock z.initialised)) same
 mutex_begins (Some (Barrier c)) s e = absurd cc
-mutex_begins (Some (Forks c)) s e = absurd cc
-mutex_begins (Some (Prints c)) s e = absurd cc
+mutex_begins (Some (ThreadIds c)) s e = absurd cc
+mutex_begins (Some (Printer c)) s e = absurd cc
 
-barrier_begins : (o : Option CoreShape) (s : BarrierShape) → o ≡ Some (Barrier s) →
+barrier_begins : (o : Option CoreKind) (s : BarrierShape) → o ≡ Some (Barrier s) →
     shown_as o (machine_of o).start [] ≡ OfBarrier (record { count = 0; waiting = replicate s.threads 0 })
 barrier_begins None s e = absurd cc
 barrier_begins (Some (Bank c)) s e = absurd cc
 barrier_begins (Some (Mutex c)) s e = absurd cc
 barrier_begins (Some (Barrier c)) s e =
     let same : c ≡ s = cc in ap (λ (z : BarrierShape). OfBarrier (record { count = 0; waiting = replicate z.threads 0 })) same
-barrier_begins (Some (Forks c)) s e = absurd cc
-barrier_begins (Some (Prints c)) s e = absurd cc
+barrier_begins (Some (ThreadIds c)) s e = absurd cc
+barrier_begins (Some (Printer c)) s e = absurd cc
 
-forks_begin : (o : Option CoreShape) (s : ForksShape) → o ≡ Some (Forks s) →
+thread_ids_begin : (o : Option CoreKind) (s : ThreadIdsShape) → o ≡ Some (ThreadIds s) →
     shown_as o (machine_of o).start [] ≡ OfIds (record { statuses = replicate s.threads 0; arguments = replicate s.threads 0 })
-forks_begin None s e = absurd cc
-forks_begin (Some (Bank c)) s e = absurd cc
-forks_begin (Some (Mutex c)) s e = absurd cc
-forks_begin (Some (Barrier c)) s e = absurd cc
-forks_begin (Some (Forks c)) s e =
-    let same : c ≡ s = cc in ap (λ (z : ForksShape). OfIds (record { statuses = replicate z.threads 0; arguments = replicate z.threads 0 })) same
-forks_begin (Some (Prints c)) s e = absurd cc
+thread_ids_begin None s e = absurd cc
+thread_ids_begin (Some (Bank c)) s e = absurd cc
+thread_ids_begin (Some (Mutex c)) s e = absurd cc
+thread_ids_begin (Some (Barrier c)) s e = absurd cc
+thread_ids_begin (Some (ThreadIds c)) s e =
+    let same : c ≡ s = cc in ap (λ (z : ThreadIdsShape). OfIds (record { statuses = replicate z.threads 0; arguments = replicate z.threads 0 })) same
+thread_ids_begin (Some (Printer c)) s e = absurd cc
 
-printer_begins : (o : Option CoreShape) (s : PrinterShape) → o ≡ Some (Prints s) → shown_as o (machine_of o).start [] ≡ OfPrinter []
+printer_begins : (o : Option CoreKind) (s : PrinterShape) → o ≡ Some (Printer s) → shown_as o (machine_of o).start [] ≡ OfPrinter []
 printer_begins None s e = absurd cc
 printer_begins (Some (Bank c)) s e = absurd cc
 printer_begins (Some (Mutex c)) s e = absurd cc
 printer_begins (Some (Barrier c)) s e = absurd cc
-printer_begins (Some (Forks c)) s e = absurd cc
-printer_begins (Some (Prints c)) s e = refl
+printer_begins (Some (ThreadIds c)) s e = absurd cc
+printer_begins (Some (Printer c)) s e = refl
 
 module _ (P : Program) (K : Parts) (built : IsBuilt P K) where
   abbrev begun : Machine K
   begun = start K.cores.threads (core_count K.cores) (λ i. leaf_thread (K.bodies i).body (K.bodies i).leaf) (core_machine K.cores)
 
   -- what a core behind the banks begins with fits
-  first_fits : (k : ℕ) → length K.cores.banks ≤ k → Kind K.cores k → FitsFirst (core_at K.cores k)
+  first_fits : (k : ℕ) → length K.cores.banks ≤ k → Which K.cores k → FitsFirst (core_at K.cores k)
   first_fits k l (IsBank b listed core) = absurd (let lt = slice_get_within K.cores.banks k b listed in omega (arith, lt, l))
   first_fits k l (IsMutex n s listed at core) = subst FitsFirst (sym core) tt
   first_fits k l (IsBarrier n below at core) = subst FitsFirst (sym core) tt
-  first_fits k l (IsForks on at core) = subst FitsFirst (sym core) tt
+  first_fits k l (IsThreadIds on at core) = subst FitsFirst (sym core) tt
   first_fits k l (IsPrinter at core) = subst FitsFirst (sym core) tt
   first_fits k l (IsPast past core) = subst FitsFirst (sym core) tt
 
@@ -93,7 +94,7 @@ module _ (P : Program) (K : Parts) (built : IsBuilt P K) where
     stands = λ i lt. thread_starts (thread_at P K i) (is_thread P K built i lt);
     holds = banks_start P K.cores.threads (core_count K.cores) (λ i. leaf_thread (K.bodies i).body (K.bodies i).leaf) (core_machine K.cores) K.cores.banks (has_banks K.cores) K.spreads built.banked
         built.resolved.globals;
-    told = λ k l. (each_keeps_fitting (core_at K.cores k)).starts (first_fits k l (kind_of K.cores k));
+    told = λ k l. (each_keeps_fitting (core_at K.cores k)).starts (first_fits k l (which K.cores k));
   }
 
   pub first : First P K
@@ -105,7 +106,7 @@ module _ (P : Program) (K : Parts) (built : IsBuilt P K) where
     memory = λ l. refl;
     mutexes = λ n s e. mutex_begins (core_at K.cores (mutex_core (numbers_of K.cores) n)) s (mutex_at K.cores n s e);
     barriers = λ n l. barrier_begins (core_at K.cores (barrier_core (numbers_of K.cores) n)) (record { threads = K.cores.threads }) (barrier_at K.cores n l);
-    ids = λ on. forks_begin (core_at K.cores (ids_core (numbers_of K.cores))) (record { threads = K.cores.threads }) (ids_at K.cores on);
+    thread_ids = λ on. thread_ids_begin (core_at K.cores (ids_core (numbers_of K.cores))) (record { threads = K.cores.threads }) (thread_ids_at K.cores on);
     printer = printer_begins (core_at K.cores (printer_core (numbers_of K.cores))) K.cores.printer (printer_at K.cores);
   }
 

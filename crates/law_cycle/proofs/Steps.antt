@@ -11,7 +11,7 @@ use Rattle.thread_promise.specs.Globals.{bank_total}
 use Rattle.block_ir.specs.Asked.{barrier_core, ids_core}
 use Rattle.block_refine.specs.Routines.{rest_of}
 use Rattle.law_threads.specs.Surroundings.{routine_of}
-use Rattle.core_family.specs.Family.{CoreShape, Barrier, Forks, machine_of, ask_width, told_width}
+use Rattle.core_family.specs.Family.{CoreKind, Barrier, ThreadIds, machine_of, ask_width, told_width}
 use Rattle.core_family.proofs.ToldFits.{each_keeps_fitting}
 use Rattle.law_banks.specs.Cycle.{AreBanked}
 use Rattle.law_banks.specs.Partition.{globals_of}
@@ -24,7 +24,8 @@ use Rattle.law_cycle.specs.Bodies.{numbers_of, core_at, core_machine, core_count
 use Rattle.law_cycle.specs.Stage.{Stage, held, news, asks_of, granted_to}
 use Rattle.law_cycle.specs.Laws.{BuiltAreThreads, ThreadsAreDone, EachSteps}
 use Rattle.law_cycle.proofs.BodiesFit.{body_fits, body_ports}
-use Rattle.law_cycle.proofs.Cores.{bank_at, has_banks, barrier_at, ids_at, core_there, takes_two}
+use Rattle.law_cycle.proofs.Cores.{has_banks, takes_two}
+use Rattle.core_family.proofs.Listed.{bank_at, barrier_at, thread_ids_at, core_there}
 
 module _ (P : Program) (K : Parts) (built : IsBuilt P K) where
   pub banked : AreBanked K.spreads (globals_of P)
@@ -42,22 +43,22 @@ module _ (P : Program) (K : Parts) (built : IsBuilt P K) where
   one n l = let b = there K.cores.banks n l in (has_banks K.cores).told n b.0 b.1
 
   two : (k : ℕ) → k < core_count K.cores → 1 < (core_machine K.cores k).parts
-  two k l = let s = core_there K.cores k l in subst (λ (o : Option CoreShape). 1 < (machine_of o).parts) (sym s.1) (takes_two s.0)
+  two k l = let s = core_there K.cores k l in subst (λ (o : Option CoreKind). 1 < (machine_of o).parts) (sym s.1) (takes_two s.0)
 
   wide : (i : ℕ) → AreWide (thread_at P K i)
   wide i = record {
     bank_asks = λ n l. let e = four n l in omega (arith, e);
     bank_tells = λ n l. let e = one n l in omega (arith, e);
     core_asks = λ k a. two k a.1;
-    barrier_tells = λ n l. let e = ap (λ (o : Option CoreShape). (machine_of o).told) (barrier_at K.cores n l) in omega (arith, e);
-    ids_tell = λ on. let e = ap (λ (o : Option CoreShape). (machine_of o).told) (ids_at K.cores on) in omega (arith, e);
+    barrier_tells = λ n l. let e = ap (λ (o : Option CoreKind). (machine_of o).told) (barrier_at K.cores n l) in omega (arith, e);
+    ids_tell = λ on. let e = ap (λ (o : Option CoreKind). (machine_of o).told) (thread_ids_at K.cores on) in omega (arith, e);
   }
 
-  -- a thread besides main needs the core of the ids
-  pub ids_there : (i : ℕ) → i < K.cores.threads → nat_eq i 0 ≡ false → K.cores.ids ≡ true
+  -- a thread besides main needs the core of the thread ids
+  pub ids_there : (i : ℕ) → i < K.cores.threads → nat_eq i 0 ≡ false → K.cores.thread_ids ≡ true
   ids_there i lt other =
       let many : 1 < K.cores.threads = grind (arith, nat_tests) in
-      built.ids ∙ (let t : nat_lt 1 K.cores.threads ≡ true = grind (arith, nat_tests) in t)
+      built.thread_ids ∙ (let t : nat_lt 1 K.cores.threads ≡ true = grind (arith, nat_tests) in t)
 
   pub is_thread : (i : ℕ) → i < K.cores.threads → IsThread (thread_at P K i)
   is_thread i lt =
@@ -94,7 +95,7 @@ module _ (P : Program) (K : Parts) (built : IsBuilt P K) where
         by : (c : Bool) → nat_lt k (length K.cores.banks) ≡ c → news P K h.net i k j < 2 ^ told_width (core_at K.cores k) j
         by true e =
             let b = there K.cores.banks k (let l : k < length K.cores.banks = grind (arith, nat_tests) in l) in
-            subst (λ (o : Option CoreShape). news P K h.net i k j < 2 ^ told_width o j) (sym (bank_at K.cores k b.0 b.1))
+            subst (λ (o : Option CoreKind). news P K h.net i k j < 2 ^ told_width o j) (sym (bank_at K.cores k b.0 b.1))
             (subst (λ (n : ℕ). n < 2 ^ b.0.width) (sym (bank_tells k b.0 j b.1))
             (words_fit P K.cores.threads K.spreads K.cores.banks (held P K h.net) h.memory (λ i. (h.slots i).words) built.banked h.holds i k b.0 lt b.1))
         by false e =
@@ -110,10 +111,10 @@ module _ (P : Program) (K : Parts) (built : IsBuilt P K) where
         }
 
     -- a core that tells one bit
-    bit_told : (k : ℕ) (s : CoreShape) → core_at K.cores k ≡ Some s → 0 < (machine_of (Some s)).told → told_width (Some s) 0 ≡ 1 → news P K h.net i k 0 < 2
+    bit_told : (k : ℕ) (s : CoreKind) → core_at K.cores k ≡ Some s → 0 < (machine_of (Some s)).told → told_width (Some s) 0 ≡ 1 → news P K h.net i k 0 < 2
     bit_told k s e some bit =
-        let w = fits_told k 0 (subst (λ (o : Option CoreShape). 0 < (machine_of o).told) (sym e) some) in
-        subst (λ (n : ℕ). news P K h.net i k 0 < 2 ^ n) (ap (λ (o : Option CoreShape). told_width o 0) e ∙ bit) w
+        let w = fits_told k 0 (subst (λ (o : Option CoreKind). 0 < (machine_of o).told) (sym e) some) in
+        subst (λ (n : ℕ). news P K h.net i k 0 < 2 ^ n) (ap (λ (o : Option CoreKind). told_width o 0) e ∙ bit) w
 
     pub is_news : IsNews t (news P K h.net i) (h.slots i)
     is_news = record {
@@ -122,7 +123,7 @@ module _ (P : Program) (K : Parts) (built : IsBuilt P K) where
           bank_tells (s.first + n) b.0 0 b.1 ∙ h.holds.kept i x n s ty lt at type l;
       typed = λ x n s ty at type l. h.holds.kept_typed i x n s ty lt at type l;
       waits = λ n l. bit_told (barrier_core (numbers_of K.cores) n) (Barrier (record { threads = K.cores.threads })) (barrier_at K.cores n l) (omega arith) refl;
-      runs = λ on. bit_told (ids_core (numbers_of K.cores)) (Forks (record { threads = K.cores.threads })) (ids_at K.cores on) (omega arith) refl;
+      runs = λ on. bit_told (ids_core (numbers_of K.cores)) (ThreadIds (record { threads = K.cores.threads })) (thread_ids_at K.cores on) (omega arith) refl;
     }
 
     -- ---- what they ask

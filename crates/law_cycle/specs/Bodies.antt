@@ -13,8 +13,8 @@ use Rattle.leaf_machine.specs.Leaves.{LeafPorts, IsThreadLeaf, IsSlotBit}
 use Rattle.leaf_machine.specs.Steady.{IsSteadyThread}
 use Rattle.leaf_machine.specs.Ports.{IsRoutineModule}
 use Rattle.core_family.specs.declared.cores.Cores.{Cores}
-use Rattle.core_family.specs.Family.{CoreShape, machine_at, ask_width, told_width}
-use Rattle.core_family.specs.Kinds.{cores_of, ports_of}
+use Rattle.core_family.specs.Family.{CoreKind, machine_at, ask_width, told_width}
+use Rattle.core_family.specs.Kinds.{kinds_of, ports_of}
 use Rattle.block_ir.specs.Asked.{Numbers, printer_core}
 use Rattle.block_refine.specs.Routines.{RoutineCode}
 use Rattle.thread_promise.specs.Slots.{Places}
@@ -24,17 +24,17 @@ use Rattle.law_banks.specs.Partition.{globals_of}
 -- ---- the cores of a program by number
 
 abbrev pub numbers_of : Cores → Numbers
-numbers_of c = record { banks = length c.banks; mutexes = length c.mutexes; barriers = c.barriers; ids = c.ids }
+numbers_of c = record { banks = length c.banks; mutexes = length c.mutexes; barriers = c.barriers; ids = c.thread_ids }
 
-abbrev pub core_at : Cores → ℕ → Option CoreShape
-core_at c k = slice_get (cores_of c) k
+abbrev pub core_at : Cores → ℕ → Option CoreKind
+core_at c k = slice_get (kinds_of c) k
 
 -- as many as there are in the list
 abbrev pub core_count : Cores → ℕ
 core_count c = suc (printer_core (numbers_of c))
 
 abbrev pub core_machine : Cores → ℕ → CoreMachine
-core_machine c k = machine_at (cores_of c) k
+core_machine c k = machine_at (kinds_of c) k
 
 -- ---- a thread's module
 

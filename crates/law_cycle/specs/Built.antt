@@ -111,7 +111,7 @@ pub record IsBuilt (P : Program) (K : Parts) : Type 0 where
   pub few_cores : core_count K.cores < 2 ^ 15
   pub mutexes : AreMutexes P K.cores.threads K.cores.mutexes
   pub barriers : K.cores.barriers ≡ barrier_elements P
-  pub ids : K.cores.ids ≡ nat_lt 1 K.cores.threads
+  pub thread_ids : K.cores.thread_ids ≡ nat_lt 1 K.cores.threads
   pub chain : ℕ → ℕ → ℕ
   pub coded : AreCoded P K.codes chain
   pub codes : (f : ℕ) → IsCode P K.spreads (K.codes f) K.cores.printer.values

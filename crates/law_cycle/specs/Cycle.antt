@@ -116,7 +116,7 @@ pub record First (P : Program) (K : Parts) : Type 0 where
   pub mutexes : (n : ℕ) (s : MutexShape) → slice_get K.cores.mutexes n ≡ Some s → cores_shown P K stage.net [] (mutex_core (numbers_of K.cores) n) ≡ OfMutex (first_lock s.initialised)
   pub barriers : (n : ℕ) → n < K.cores.barriers →
       cores_shown P K stage.net [] (barrier_core (numbers_of K.cores) n) ≡ OfBarrier (record { count = 0; waiting = replicate K.cores.threads 0 })
-  pub ids : K.cores.ids ≡ true →
+  pub thread_ids : K.cores.thread_ids ≡ true →
       cores_shown P K stage.net [] (ids_core (numbers_of K.cores)) ≡ OfIds (record { statuses = replicate K.cores.threads 0; arguments = replicate K.cores.threads 0 })
   pub printer : cores_shown P K stage.net [] (printer_core (numbers_of K.cores)) ≡ OfPrinter []
 

@@ -1,5 +1,5 @@
 -- Cycles and runs of the net are steps and runs of the machine, from state to state.
-use Rattle.std.proofs.Common.{◌≡◌, ◌≢◌, ℕ, ◌^◌, ◌<◌, List, [], ◌∷◌, Option, Some, None, refl, sym, ◌∙◌, subst}
+use Rattle.std.proofs.Common.{◌≡◌, ℕ, ◌^◌, ◌<◌, List, [], ◌∷◌, Option, Some, None, refl, subst}
 use Rattle.std.proofs.lemmas.List.{append-nil}
 use Rattle.c_program.specs.Tree.{Program}
 use Rattle.netlist.specs.declared.netlist.Module.{Module}
@@ -9,32 +9,23 @@ use Rattle.circuit.proofs.Staged.{net_fits, net_statements, no_deeper}
 use Rattle.circuit.proofs.States.{keeps_states}
 use Rattle.circuit.proofs.NetRuns.{starts, cycle_steps, runs_steps}
 use Rattle.block_ir.specs.Asked.{printer_core}
-use Rattle.law_cycle.specs.Family.{CoreShape, Bank, Mutex, Barrier, Forks, Prints, machine_of}
+use Rattle.law_cycle.specs.Family.{CoreKind, Bank, Mutex, Barrier, ThreadIds, Printer, machine_of}
 use Rattle.print_core.specs.declared.printer.Shape.{Shape as PrinterShape}
 use Rattle.law_cycle.specs.Built.{Parts, Machine}
 use Rattle.law_cycle.specs.Bodies.{numbers_of, core_at, core_machine, core_count}
-use Rattle.law_cycle.proofs.Cores.{Kind, IsBank, IsMutex, IsBarrier, IsForks, IsPrinter, IsPast, kind_of}
+use Rattle.law_cycle.proofs.Listed.{printer_back}
 use Rattle.law_net.specs.Follows.{machine_of_thread}
 use Rattle.law_net.specs.Whole.{places_of, IsWhole}
 
 -- a core that is no printer prints nothing
-prints_none : (o : Option CoreShape) → ((s : PrinterShape) → o ≡ Some (Prints s) → ⊥) → (state : (machine_of o).State) (i : ℕ) (a : (machine_of o).Ask) →
+prints_none : (o : Option CoreKind) → ((s : PrinterShape) → o ≡ Some (Printer s) → ⊥) → (state : (machine_of o).State) (i : ℕ) (a : (machine_of o).Ask) →
     (machine_of o).prints state i a ≡ []
 prints_none None none state i a = refl
 prints_none (Some (Bank c)) none state i a = refl
 prints_none (Some (Mutex c)) none state i a = refl
 prints_none (Some (Barrier c)) none state i a = refl
-prints_none (Some (Forks c)) none state i a = refl
-prints_none (Some (Prints c)) none state i a = absurd (none c refl)
-
--- the printer is the last core
-no_printer : (K : Parts) (k : ℕ) → k ≢ printer_core (numbers_of K.cores) → Kind K.cores k → (s : PrinterShape) → core_at K.cores k ≡ Some (Prints s) → ⊥
-no_printer K k other (IsBank b listed core) s e = let z = sym core ∙ e in cc
-no_printer K k other (IsMutex n m listed at core) s e = let z = sym core ∙ e in cc
-no_printer K k other (IsBarrier n below at core) s e = let z = sym core ∙ e in cc
-no_printer K k other (IsForks on at core) s e = let z = sym core ∙ e in cc
-no_printer K k other (IsPrinter at core) s e = other at
-no_printer K k other (IsPast past core) s e = let z = sym core ∙ e in cc
+prints_none (Some (ThreadIds c)) none state i a = refl
+prints_none (Some (Printer c)) none state i a = absurd (none c refl)
 
 -- what is the same as a state is one
 same_state : (modules : List Module) (top : Module) (h g : Valuation) → IsSameIn modules top [] h g → IsState modules top h → IsState modules top g
@@ -56,7 +47,7 @@ module _ (P : Program) (K : Parts) (modules : List Module) (top : Module) (whole
       (places_of P K modules top whole.at) modules top h s
 
   pub prints_alone : PrintsAlone K.cores.threads (core_count K.cores) (machine_of_thread K) (core_machine K.cores) (printer_core (numbers_of K.cores))
-  prints_alone k l other s i a = prints_none (core_at K.cores k) (no_printer K k other (kind_of K.cores k)) s i a
+  prints_alone k l other s i a = prints_none (core_at K.cores k) (λ p e. other (printer_back K.cores k p e)) s i a
 
   pub initial_shows : Shows (initial_state modules top) (start K.cores.threads (core_count K.cores) (machine_of_thread K) (core_machine K.cores))
   initial_shows = starts K.cores.threads (core_count K.cores) (machine_of_thread K) (core_machine K.cores)

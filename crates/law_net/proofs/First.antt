@@ -84,7 +84,7 @@ module _ (P : Program) (K : Parts) (built : IsBuilt P K) where
   are_first = record {
     mutexes = first_mutex_is;
     barriers = λ n lt. nothing_yet (barrier_core N n) ∙ begin.barriers n lt;
-    ids = λ on. (replicate K.cores.threads 0, length-replicate K.cores.threads 0, nothing_yet (ids_core N) ∙ begin.ids on);
+    ids = λ on. (replicate K.cores.threads 0, length-replicate K.cores.threads 0, nothing_yet (ids_core N) ∙ begin.thread_ids on);
     printer = nothing_yet (printer_core N) ∙ begin.printer;
   }
 

@@ -1,38 +1,31 @@
 -- The table of a program's parts is whole.
-use Rattle.std.proofs.Common.{◌≡◌, ℕ, suc, ◌^◌, ◌<◌, ◌≤◌, List, [], ◌∷◌, length, None, Some, refl, sym, ap, ◌∙◌, subst, arith}
+use Rattle.std.proofs.Common.{◌≡◌, ℕ, ◌^◌, ◌<◌, ◌≤◌, List, length, Some, sym, ap, ◌∙◌, subst, arith}
 use Rattle.std.specs.Prelude.{slice_get, sum_by}
-use Rattle.std.proofs.lemmas.Option.{same_Some, none-some, slice_get_within}
+use Rattle.std.proofs.lemmas.Option.{same_Some, slice_get_within}
 use Rattle.c_program.specs.Tree.{Program}
 use Rattle.c_program.specs.declared.tree.ThreadObject.{ThreadObject}
 use Rattle.bank_partition.specs.declared.banks.Spread.{Spread}
 use Rattle.bank_cores.specs.declared.bank.Shape.{Shape as BankShape}
-use Rattle.fork_join_cores.specs.declared.forks.Shape.{Shape as ForksShape}
-use Rattle.print_core.specs.declared.printer.Shape.{Shape as PrinterShape}
 use Rattle.netlist.specs.declared.netlist.Module.{Module}
 use Rattle.circuit.specs.Rows.{EachOf}
 use Rattle.circuit.specs.Interfaces.{IsTableModule}
 use Rattle.leaf_machine.specs.Standing.{IsSilent}
-use Rattle.block_ir.specs.Asked.{ids_core, printer_core}
+use Rattle.block_ir.specs.Asked.{printer_core}
 use Rattle.law_banks.proofs.Partitioned.{bank_is, count_low}
 use Rattle.leaf_machine.specs.Ports as port
-use Rattle.core_tables.specs.Family.{CoreShape, Bank, Mutex, Barrier, Forks, Prints}
-use Rattle.core_tables.specs.Tables.{PlacedCore, Table, HasCores, IsNarrow, IsArbiterModule, shapes_of, ports_of}
+use Rattle.core_tables.specs.Family.{CoreKind, Bank, Mutex, Barrier, ThreadIds, Printer}
+use Rattle.core_tables.specs.Tables.{PlacedCore, Table, HasCores, IsNarrow, IsArbiterModule, kinds_in, ports_of}
 use Rattle.core_tables.specs.Laws.{SameOf, IsLow, StandOnce, HasPrinter}
 use Rattle.core_tables.specs.Whole.{IsThreadName, HasRoutines, IsWholeTable}
-use Rattle.core_tables.proofs.Lists.{map_back, map_get}
+use Rattle.core_tables.proofs.Lists.{map_back, map_get, each_of}
 use Rattle.law_cycle.specs.Built.{Parts, IsBuilt}
 use Rattle.law_cycle.specs.Bodies.{numbers_of, core_at, core_count}
-use Rattle.law_cycle.proofs.Cores.{printer_at, Kind, IsBank, IsMutex, IsBarrier, IsForks, IsPrinter, IsPast, kind_of}
+use Rattle.law_cycle.proofs.Listed.{printer_at, bank_back, thread_ids_back, printer_back}
+use Rattle.net_emitter.proofs.CoresPlaced.{narrow}
 use Rattle.net_emitter.specs.Placing.{IsNumbered}
-use Rattle.law_cycle.specs.Kinds.{barrier, forks}
 use Rattle.law_net.proofs.ThreadsStand.{count_there, routine_there}
 use Rattle.law_net.specs.Tables.{IsLaidTable, LaidTablesAreWhole}
 use Rattle.law_net.proofs.NamesApart.{same_name}
-
--- a property of each by number
-each_of : {A : Type 0} (P : A → Type 0) (xs : List A) → ((k : ℕ) (x : A) → slice_get xs k ≡ Some x → P x) → EachOf P xs
-each_of P [] h = tt
-each_of P (x ∷ xs) h = (h 0 x refl, each_of P xs (λ k y e. h (suc k) y e))
 
 module _ (P : Program) (K : Parts) (built : IsBuilt P K) where
   -- ---- banks
@@ -57,22 +50,14 @@ module _ (P : Program) (K : Parts) (built : IsBuilt P K) where
 module _ (P : Program) (K : Parts) (t : Table) (built : IsBuilt P K) (is : IsLaidTable K t) where
   -- ---- cores
 
-  core_is : (k : ℕ) (c : PlacedCore) → slice_get t.cores k ≡ Some c → core_at K.cores k ≡ Some c.shape
-  core_is k c e = ap (λ (l : List CoreShape). slice_get l k) (sym is.shapes) ∙ map_get (λ (z : PlacedCore). z.shape) t.cores k c e
+  core_is : (k : ℕ) (c : PlacedCore) → slice_get t.cores k ≡ Some c → core_at K.cores k ≡ Some c.kind
+  core_is k c e = ap (λ (l : List CoreKind). slice_get l k) (sym is.shapes) ∙ map_get (λ (z : PlacedCore). z.kind) t.cores k c e
 
   count : length t.cores ≡ core_count K.cores
   count = count_there P K t built is.shapes
 
   below : (k : ℕ) (c : PlacedCore) → slice_get t.cores k ≡ Some c → k < 2 ^ 15
   below k c e = let w = slice_get_within t.cores k c e in let n = count in let f = built.few_cores in omega (arith, w, n, f)
-
-  narrow : (k : ℕ) (s : CoreShape) → core_at K.cores k ≡ Some s → Kind K.cores k → IsNarrow s
-  narrow k s e (IsBank b listed core) = subst IsNarrow (same_Some (Bank b) s (sym core ∙ e)) tt
-  narrow k s e (IsMutex n m listed at core) = subst IsNarrow (same_Some (Mutex m) s (sym core ∙ e)) tt
-  narrow k s e (IsBarrier n below at core) = subst IsNarrow (same_Some (barrier K.cores) s (sym core ∙ e)) tt
-  narrow k s e (IsForks on at core) = subst IsNarrow (same_Some (forks K.cores) s (sym core ∙ e)) tt
-  narrow k s e (IsPrinter at core) = subst IsNarrow (same_Some (Prints K.cores.printer) s (sym core ∙ e)) is.narrow
-  narrow k s e (IsPast past core) = absurd (none-some s (sym core ∙ e))
 
   some_threads : 1 ≤ K.cores.threads
   some_threads = let e = built.threads in let n = sum_by (λ (object : ThreadObject). object.length) P.threads in omega (arith, e)
@@ -82,7 +67,7 @@ module _ (P : Program) (K : Parts) (t : Table) (built : IsBuilt P K) (is : IsLai
     some = (let e = is.threads.count in let s = some_threads in omega (arith, e, s));
     few_threads = (let e = is.threads.count in let f = built.few_threads in omega (arith, e, f));
     few_cores = (let e = count in let f = built.few_cores in omega (arith, e, f));
-    narrow = each_of (λ (c : PlacedCore). IsNarrow c.shape) t.cores (λ k c e. narrow k c.shape (core_is k c e) (kind_of K.cores k));
+    narrow = each_of (λ (c : PlacedCore). IsNarrow c.kind) t.cores (λ k c e. narrow K.cores is.narrow k c.kind (core_is k c e));
     granting = subst (λ n. IsArbiterModule n t.arbiter) (sym is.threads.count) is.granting;
     each = is.each;
     threads = λ i number e. slice_get_within t.routines number (K.bodies i).body (is.threads.runs i number e);
@@ -90,69 +75,44 @@ module _ (P : Program) (K : Parts) (t : Table) (built : IsBuilt P K) (is : IsLai
 
   -- ---- each stands once
 
-  -- which core it is, by its shape
-  bank_listed : (k : ℕ) (s : BankShape) → core_at K.cores k ≡ Some (Bank s) → Kind K.cores k → slice_get K.cores.banks k ≡ Some s
-  bank_listed k s e (IsBank b listed core) = let z : Some (Bank b) ≡ Some (Bank s) = sym core ∙ e in let same : b ≡ s = cc in listed ∙ ap (λ (x : BankShape). Some x) same
-  bank_listed k s e (IsMutex n m listed at core) = absurd (let z : Some (Mutex m) ≡ Some (Bank s) = sym core ∙ e in cc)
-  bank_listed k s e (IsBarrier n below at core) = absurd (let z : Some (barrier K.cores) ≡ Some (Bank s) = sym core ∙ e in cc)
-  bank_listed k s e (IsForks on at core) = absurd (let z : Some (forks K.cores) ≡ Some (Bank s) = sym core ∙ e in cc)
-  bank_listed k s e (IsPrinter at core) = absurd (let z : Some (Prints K.cores.printer) ≡ Some (Bank s) = sym core ∙ e in cc)
-  bank_listed k s e (IsPast past core) = absurd (let z : None ≡ Some (Bank s) = sym core ∙ e in cc)
-
-  forks_place : (k : ℕ) (s : ForksShape) → core_at K.cores k ≡ Some (Forks s) → Kind K.cores k → k ≡ ids_core (numbers_of K.cores)
-  forks_place k s e (IsBank b listed core) = absurd (let z : Some (Bank b) ≡ Some (Forks s) = sym core ∙ e in cc)
-  forks_place k s e (IsMutex n m listed at core) = absurd (let z : Some (Mutex m) ≡ Some (Forks s) = sym core ∙ e in cc)
-  forks_place k s e (IsBarrier n below at core) = absurd (let z : Some (barrier K.cores) ≡ Some (Forks s) = sym core ∙ e in cc)
-  forks_place k s e (IsForks on at core) = at
-  forks_place k s e (IsPrinter at core) = absurd (let z : Some (Prints K.cores.printer) ≡ Some (Forks s) = sym core ∙ e in cc)
-  forks_place k s e (IsPast past core) = absurd (let z : None ≡ Some (Forks s) = sym core ∙ e in cc)
-
-  printer_place : (k : ℕ) (s : PrinterShape) → core_at K.cores k ≡ Some (Prints s) → Kind K.cores k → k ≡ printer_core (numbers_of K.cores)
-  printer_place k s e (IsBank b listed core) = absurd (let z : Some (Bank b) ≡ Some (Prints s) = sym core ∙ e in cc)
-  printer_place k s e (IsMutex n m listed at core) = absurd (let z : Some (Mutex m) ≡ Some (Prints s) = sym core ∙ e in cc)
-  printer_place k s e (IsBarrier n below at core) = absurd (let z : Some (barrier K.cores) ≡ Some (Prints s) = sym core ∙ e in cc)
-  printer_place k s e (IsForks on at core) = absurd (let z : Some (forks K.cores) ≡ Some (Prints s) = sym core ∙ e in cc)
-  printer_place k s e (IsPrinter at core) = at
-  printer_place k s e (IsPast past core) = absurd (let z : None ≡ Some (Prints s) = sym core ∙ e in cc)
-
-  low : (k : ℕ) (s : CoreShape) (n : ℕ) → core_at K.cores k ≡ Some s → IsNumbered K.cores k s n → k < 2 ^ 15 → IsLow s n
-  low k (Bank s) n e numbered few = low_bank P K built k s (bank_listed k s e (kind_of K.cores k))
+  low : (k : ℕ) (s : CoreKind) (n : ℕ) → core_at K.cores k ≡ Some s → IsNumbered K.cores k s n → k < 2 ^ 15 → IsLow s n
+  low k (Bank s) n e numbered few = low_bank P K built k s (bank_back K.cores k s e)
   low k (Mutex s) n e numbered few = omega (arith, numbered, few)
   low k (Barrier s) n e numbered few = omega (arith, numbered, few)
-  low k (Forks s) n e numbered few = omega (arith, numbered)
-  low k (Prints s) n e numbered few = omega (arith, numbered)
+  low k (ThreadIds s) n e numbered few = omega (arith, numbered)
+  low k (Printer s) n e numbered few = omega (arith, numbered)
 
-  once : (k l : ℕ) (s : CoreShape) (n : ℕ) (r : CoreShape) (m : ℕ) → core_at K.cores k ≡ Some s → core_at K.cores l ≡ Some r → IsNumbered K.cores k s n → IsNumbered K.cores l r m → SameOf s n r m → k ≡ l
-  once k l (Bank s) n (Bank r) m e f g h same = same_bank P K built k l s r (bank_listed k s e (kind_of K.cores k)) (bank_listed l r f (kind_of K.cores l)) same.0 same.1
+  once : (k l : ℕ) (s : CoreKind) (n : ℕ) (r : CoreKind) (m : ℕ) → core_at K.cores k ≡ Some s → core_at K.cores l ≡ Some r → IsNumbered K.cores k s n → IsNumbered K.cores l r m → SameOf s n r m → k ≡ l
+  once k l (Bank s) n (Bank r) m e f g h same = same_bank P K built k l s r (bank_back K.cores k s e) (bank_back K.cores l r f) same.0 same.1
   once k l (Bank s) n (Mutex r) m e f g h same = absurd same
   once k l (Bank s) n (Barrier r) m e f g h same = absurd same
-  once k l (Bank s) n (Forks r) m e f g h same = absurd same
-  once k l (Bank s) n (Prints r) m e f g h same = absurd same
+  once k l (Bank s) n (ThreadIds r) m e f g h same = absurd same
+  once k l (Bank s) n (Printer r) m e f g h same = absurd same
   once k l (Mutex s) n (Bank r) m e f g h same = absurd same
   once k l (Mutex s) n (Mutex r) m e f g h same = omega (arith, g, h, same)
   once k l (Mutex s) n (Barrier r) m e f g h same = absurd same
-  once k l (Mutex s) n (Forks r) m e f g h same = absurd same
-  once k l (Mutex s) n (Prints r) m e f g h same = absurd same
+  once k l (Mutex s) n (ThreadIds r) m e f g h same = absurd same
+  once k l (Mutex s) n (Printer r) m e f g h same = absurd same
   once k l (Barrier s) n (Bank r) m e f g h same = absurd same
   once k l (Barrier s) n (Mutex r) m e f g h same = absurd same
   once k l (Barrier s) n (Barrier r) m e f g h same = omega (arith, g, h, same)
-  once k l (Barrier s) n (Forks r) m e f g h same = absurd same
-  once k l (Barrier s) n (Prints r) m e f g h same = absurd same
-  once k l (Forks s) n (Bank r) m e f g h same = absurd same
-  once k l (Forks s) n (Mutex r) m e f g h same = absurd same
-  once k l (Forks s) n (Barrier r) m e f g h same = absurd same
-  once k l (Forks s) n (Forks r) m e f g h same = forks_place k s e (kind_of K.cores k) ∙ sym (forks_place l r f (kind_of K.cores l))
-  once k l (Forks s) n (Prints r) m e f g h same = absurd same
-  once k l (Prints s) n (Bank r) m e f g h same = absurd same
-  once k l (Prints s) n (Mutex r) m e f g h same = absurd same
-  once k l (Prints s) n (Barrier r) m e f g h same = absurd same
-  once k l (Prints s) n (Forks r) m e f g h same = absurd same
-  once k l (Prints s) n (Prints r) m e f g h same = printer_place k s e (kind_of K.cores k) ∙ sym (printer_place l r f (kind_of K.cores l))
+  once k l (Barrier s) n (ThreadIds r) m e f g h same = absurd same
+  once k l (Barrier s) n (Printer r) m e f g h same = absurd same
+  once k l (ThreadIds s) n (Bank r) m e f g h same = absurd same
+  once k l (ThreadIds s) n (Mutex r) m e f g h same = absurd same
+  once k l (ThreadIds s) n (Barrier r) m e f g h same = absurd same
+  once k l (ThreadIds s) n (ThreadIds r) m e f g h same = thread_ids_back K.cores k s e ∙ sym (thread_ids_back K.cores l r f)
+  once k l (ThreadIds s) n (Printer r) m e f g h same = absurd same
+  once k l (Printer s) n (Bank r) m e f g h same = absurd same
+  once k l (Printer s) n (Mutex r) m e f g h same = absurd same
+  once k l (Printer s) n (Barrier r) m e f g h same = absurd same
+  once k l (Printer s) n (ThreadIds r) m e f g h same = absurd same
+  once k l (Printer s) n (Printer r) m e f g h same = printer_back K.cores k s e ∙ sym (printer_back K.cores l r f)
 
   stand_once : StandOnce t
   stand_once = record {
-    low = λ k c e. low k c.shape c.number (core_is k c e) (is.numbered k c e) (below k c e);
-    once = λ k l c d e f same. once k l c.shape c.number d.shape d.number (core_is k c e) (core_is l d f) (is.numbered k c e) (is.numbered l d f) same;
+    low = λ k c e. low k c.kind c.number (core_is k c e) (is.numbered k c e) (below k c e);
+    once = λ k l c d e f same. once k l c.kind c.number d.kind d.number (core_is k c e) (core_is l d f) (is.numbered k c e) (is.numbered l d f) same;
   }
 
   -- ---- threads
@@ -184,9 +144,9 @@ module _ (P : Program) (K : Parts) (t : Table) (built : IsBuilt P K) (is : IsLai
   -- the core that is the printer
   has_printer : HasPrinter t
   has_printer =
-      let at : slice_get (shapes_of t) (printer_core (numbers_of K.cores)) ≡ Some (Prints K.cores.printer) =
-      ap (λ (l : List CoreShape). slice_get l (printer_core (numbers_of K.cores))) is.shapes ∙ printer_at K.cores in
-      let c = map_back (λ (z : PlacedCore). z.shape) t.cores (printer_core (numbers_of K.cores)) (Prints K.cores.printer) at in
+      let at : slice_get (kinds_in t) (printer_core (numbers_of K.cores)) ≡ Some (Printer K.cores.printer) =
+      ap (λ (l : List CoreKind). slice_get l (printer_core (numbers_of K.cores))) is.shapes ∙ printer_at K.cores in
+      let c = map_back (λ (z : PlacedCore). z.kind) t.cores (printer_core (numbers_of K.cores)) (Printer K.cores.printer) at in
       record {
         silent = λ number m e. let p = part_of number m e in subst (λ (z : Module). EachOf IsSilent z.actions) p.same (built.bodies p.i p.below_).1.routine.silent;
         used = is.used;

@@ -51,5 +51,5 @@ pub mod WiredFollow
 pub mod Wrapped
 pub mod WrappedRuns
 pub mod Written
-pub use Rattle.law_cycle.proofs.Cores
+pub use Rattle.law_cycle.proofs.Listed
 pub use Rattle.program_cores.proofs.Globals

@@ -27,12 +27,12 @@ use Rattle.verilog_meaning.proofs.Banks.{banks_below}
 use Rattle.circuit.proofs.Staged.{staged_settles}
 use Rattle.leaf_machine.specs.Leaves.{leaf_thread}
 use Rattle.good_verilog.specs.Program.{HasBits, seen_of}
-use Rattle.law_cycle.specs.Family.{CoreShape, Mutex, Barrier, Forks, Prints, machine_of, places_of, words_of}
+use Rattle.law_cycle.specs.Family.{CoreKind, Mutex, Barrier, ThreadIds, Printer, machine_of, places_of, words_of}
 use Rattle.law_cycle.specs.Family as family
 use Rattle.law_banks.proofs.Partitioned.{some_banks, count_low, bank_below, core_of, type_here}
 use Rattle.law_cycle.specs.Built.{Parts, Machine}
 use Rattle.law_cycle.specs.Bodies.{core_at}
-use Rattle.law_cycle.proofs.Cores.{bank_at}
+use Rattle.law_cycle.proofs.Listed.{bank_at}
 use Rattle.law_net.specs.Follows as machine
 use Rattle.law_net.specs.Follows.{machine_from, printed_from, IsFull, Changes}
 use Rattle.law_net.proofs.MachineFollows.{machine_follows_from}
@@ -53,14 +53,14 @@ in_last (inr (inl b)) f = inr (inl b)
 in_last (inr (inr c)) f = inr (inr (f c))
 
 -- a reading that shows a core shows its words
-core_words : (o : Option CoreShape) (b : Bank) → o ≡ Some (family.Bank b) → (r : Reading) (s : (machine_of o).State) → (places_of o).shows r s → (a : ℕ) →
+core_words : (o : Option CoreKind) (b : Bank) → o ≡ Some (family.Bank b) → (r : Reading) (s : (machine_of o).State) → (places_of o).shows r s → (a : ℕ) →
     a < length b.initial → r.word 0 a ≡ slice_index (words_of o s).words a
 core_words None b e r s shown a l = absurd cc
 core_words (Some (family.Bank d)) b e r s shown a l = let same : d ≡ b = cc in shown.words a (subst (λ (z : Bank). a < length z.initial) (sym same) l)
 core_words (Some (Mutex d)) b e r s shown a l = absurd cc
 core_words (Some (Barrier d)) b e r s shown a l = absurd cc
-core_words (Some (Forks d)) b e r s shown a l = absurd cc
-core_words (Some (Prints d)) b e r s shown a l = absurd cc
+core_words (Some (ThreadIds d)) b e r s shown a l = absurd cc
+core_words (Some (Printer d)) b e r s shown a l = absurd cc
 
 -- an element that is there is below its row's length
 element_within : (rows : List (List ℤ)) (gs : List GlobalVariable) (x j : ℕ) (v : ℤ) (g : GlobalVariable) → map length rows ≡ map (λ (d : GlobalVariable). d.length) gs →

@@ -18,7 +18,7 @@ use Rattle.netlist.specs.declared.netlist.Netlist.{Netlist}
 use Rattle.verilog_meaning.specs.Cycles.{module_at}
 use Rattle.verilog_meaning.specs.Threads.{slot, IsThreaded}
 use Rattle.leaf_machine.specs.Steady.{IsSteadyMain}
-use Rattle.core_tables.specs.Tables.{PlacedCore, Table, shapes_of}
+use Rattle.core_tables.specs.Tables.{PlacedCore, Table, kinds_in}
 use Rattle.core_tables.specs.Tables as table
 use Rattle.core_tables.specs.Whole.{IsThreadName, IsWholeTable, AreThreads}
 use Rattle.core_tables.specs.Nets.{IsNetOfTable}
@@ -29,11 +29,11 @@ use Rattle.law_net.specs.Grants.{IsGranting}
 use Rattle.law_net.proofs.TablesGrant.{net_of_table_grants}
 use Rattle.law_cycle.specs.Cores.{Cores}
 use Rattle.program_cores.specs.Placing.{placed}
-use Rattle.law_cycle.specs.Kinds.{cores_of}
+use Rattle.law_cycle.specs.Kinds.{kinds_of}
 use Rattle.program_cores.proofs.CoresPlaced.{cores_are_placed}
 use Rattle.law_routines.specs.Surroundings.{routine_in, routine_of}
 use Rattle.law_routines.specs.Built.{Parts, thread_modules, thread_leaves, IsBuilt, IsCode}
-use Rattle.law_routines.proofs.Cores.{count_is}
+use Rattle.law_cycle.proofs.Listed.{count_is}
 use Rattle.law_net.proofs.ThreadsStand.{leaf_there, done_there, steady_there}
 use Rattle.law_routines.specs.Plans.{IsRoutine, AreRoutines, chain_of}
 use Rattle.law_routines.proofs.Routines.{routines_are_code, routines_are_coded}
@@ -171,11 +171,11 @@ module _ (P : Program) (spreads : List Spread) (w : Cores) (made : List RoutineC
     threads_count : length (module_numbers P) ≡ w.threads
     threads_count = numbers.count P R ∙ sym cores.threads
 
-    shapes : shapes_of t ≡ cores_of w
+    shapes : kinds_in t ≡ kinds_of w
     shapes = (cores_are_placed w t refl threads_count is.are).shapes
 
     core_total : length t.cores ≡ core_count w
-    core_total = sym (length-map t.cores (λ (c : PlacedCore). c.shape)) ∙ ap length shapes ∙ count_is w
+    core_total = sym (length-map t.cores (λ (c : PlacedCore). c.kind)) ∙ ap length shapes ∙ count_is w
 
     is_built : IsBuilt P K
     is_built = record {
@@ -185,7 +185,7 @@ module _ (P : Program) (spreads : List Spread) (w : Cores) (made : List RoutineC
       few_cores = let few = cores.few in let b : length (placed w) ≡ core_count w = core_total in omega (arith, few, b);
       mutexes = cores.mutexes;
       barriers = cores.barriers;
-      ids = cores.ids;
+      thread_ids = cores.thread_ids;
       chain = chain_of P (codes_of P spreads w made bodies);
       coded = routines_are_coded P (codes_of P spreads w made bodies) R are_routines;
       codes = λ f.

@@ -22,7 +22,7 @@ use Rattle.planned_block.specs.Hardware.{changes_left, hardware_of}
 use Rattle.planned_block.specs.Headline.{PlannedProgram}
 use Rattle.verilog_meaning.specs.Cycles.{Choice}
 use Rattle.block_ir.specs.Asked.{Numbers, printer_core}
-use Rattle.law_cycle.specs.Family.{CoreShape, Bank, Mutex, Barrier, Forks, Prints, machine_of}
+use Rattle.law_cycle.specs.Family.{CoreKind, Bank, Mutex, Barrier, ThreadIds, Printer, machine_of}
 use Rattle.print_core.specs.declared.printer.Shape.{Shape as PrinterShape}
 use Rattle.law_threads.specs.Cores.{Core, OfPrinter}
 use Rattle.law_threads.specs.Stands.{StandsFor}
@@ -33,7 +33,7 @@ use Rattle.law_threads.proofs.WhoBlocks.{marks_threads}
 use Rattle.law_cycle.specs.Built.{Parts, IsBuilt}
 use Rattle.law_cycle.specs.Bodies.{numbers_of, core_at}
 use Rattle.law_cycle.specs.Stage.{Stage, shown_as, cores_shown, look}
-use Rattle.law_cycle.proofs.Cores.{printer_at}
+use Rattle.law_cycle.proofs.Listed.{printer_at}
 use Rattle.law_cycle.proofs.BuiltCode.{numbers}
 use Rattle.law_cycle.proofs.Steps.{threads_are_done}
 use Rattle.law_net.specs.Start.{StartsThere}
@@ -48,13 +48,13 @@ blocked_is (Steps s) e = absurd cc
 blocked_is (Blocks cause) e = refl
 blocked_is (Undefines offset cause) e = absurd cc
 
-prints_as : (o : Option CoreShape) (p : PrinterShape) → o ≡ Some (Prints p) → (s : (machine_of o).State) (out : List ℕ) → shown_as o s out ≡ OfPrinter out
+prints_as : (o : Option CoreKind) (p : PrinterShape) → o ≡ Some (Printer p) → (s : (machine_of o).State) (out : List ℕ) → shown_as o s out ≡ OfPrinter out
 prints_as None p e s out = absurd cc
 prints_as (Some (Bank b)) p e s out = absurd cc
 prints_as (Some (Mutex b)) p e s out = absurd cc
 prints_as (Some (Barrier b)) p e s out = absurd cc
-prints_as (Some (Forks b)) p e s out = absurd cc
-prints_as (Some (Prints b)) p e s out = refl
+prints_as (Some (ThreadIds b)) p e s out = absurd cc
+prints_as (Some (Printer b)) p e s out = refl
 
 -- what n threads have left that have at most B each
 total_within : (B : ℕ) (left : Slot → ℕ) (w : World ℤ Slot (ℕ → Core)) → ((i : ℕ) → left (w.slots i) ≤ B) → (n : ℕ) → total_left n left w ≤ B * n

@@ -29,9 +29,9 @@ use Rattle.leaf_machine.specs.Steady.{KeepsToItself}
 use Rattle.leaf_machine.proofs.Leaves.{slot_bit_is}
 use Rattle.law_net.proofs.AgreedReadings.{agree_on}
 use Rattle.print_core.specs.declared.printer.Shape.{Shape as PrinterShape}
-use Rattle.core_tables.specs.Family.{CoreShape, Bank, Mutex, Barrier, Forks, Prints, machine_of, machine_at}
+use Rattle.core_tables.specs.Family.{CoreKind, Bank, Mutex, Barrier, ThreadIds, Printer, machine_of, machine_at}
 use Rattle.core_tables.proofs.OffersToAskers.{each_waits}
-use Rattle.core_tables.specs.Tables.{PlacedCore, Table, laid_core, kinds_at, layout_of, modules_of, shapes_of}
+use Rattle.core_tables.specs.Tables.{PlacedCore, Table, laid_core, kinds_at, layout_of, modules_of, kinds_in}
 use Rattle.core_tables.specs.Laws.{SameCore, SameOf, parts, told}
 use Rattle.core_tables.specs.Whole.{IsWholeTable, AreThreads, places_of}
 use Rattle.core_tables.specs.Nets.{IsNetOfTable}
@@ -58,18 +58,18 @@ declared_at m name x s is =
 
 -- ---- a core that prints is the printer
 
-others_print_nothing : (o : Option CoreShape) → ((p : PrinterShape) → o ≡ Some (Prints p) → ⊥) → (s : (machine_of o).State) (i : ℕ) (a : (machine_of o).Ask) →
+others_print_nothing : (o : Option CoreKind) → ((p : PrinterShape) → o ≡ Some (Printer p) → ⊥) → (s : (machine_of o).State) (i : ℕ) (a : (machine_of o).Ask) →
     (machine_of o).prints s i a ≡ []
 others_print_nothing None other s i a = refl
 others_print_nothing (Some (Bank b)) other s i a = refl
 others_print_nothing (Some (Mutex b)) other s i a = refl
 others_print_nothing (Some (Barrier b)) other s i a = refl
-others_print_nothing (Some (Forks b)) other s i a = refl
-others_print_nothing (Some (Prints p)) other s i a = absurd (other p refl)
+others_print_nothing (Some (ThreadIds b)) other s i a = refl
+others_print_nothing (Some (Printer p)) other s i a = absurd (other p refl)
 
-two_printers : (a b : PlacedCore) (p q : PrinterShape) → a.shape ≡ Prints p → b.shape ≡ Prints q → SameCore a b
+two_printers : (a b : PlacedCore) (p q : PrinterShape) → a.kind ≡ Printer p → b.kind ≡ Printer q → SameCore a b
 two_printers a b p q first second =
-    subst (λ (s : CoreShape). SameOf s a.number b.shape b.number) (sym first) (subst (λ (s : CoreShape). SameOf (Prints p) a.number s b.number) (sym second) tt)
+    subst (λ (s : CoreKind). SameOf s a.number b.kind b.number) (sym first) (subst (λ (s : CoreKind). SameOf (Printer p) a.number s b.number) (sym second) tt)
 
 module _ (t : Table) (modules : ℕ → Module) (leaves : ℕ → LeafPorts) (n : Netlist) (whole : IsWholeTable t) (runs : AreThreads t modules leaves)
     (steady : AreSteady t modules leaves) (wired : IsWired (modules_of t) (layout_of t) n) where
@@ -86,7 +86,7 @@ module _ (t : Table) (modules : ℕ → Module) (leaves : ℕ → LeafPorts) (n 
   thread_machines i = leaf_thread (modules i) (leaves i)
 
   abbrev core_machines : ℕ → CoreMachine
-  core_machines = machine_at (shapes_of t)
+  core_machines = machine_at (kinds_in t)
 
   is : IsNetOfTable t modules leaves n top
   is = tables_are_nets t modules leaves n whole runs wired
@@ -175,9 +175,9 @@ module _ (t : Table) (modules : ℕ → Module) (leaves : ℕ → LeafPorts) (n 
       subst HoldsNothing (same_Some t.arbiter (is.net.arbiters_stand k l).0 (sym (arbiter_there k l) ∙ (is.net.arbiters_stand k l).1))
       (arbiter_holds T t.arbiter whole.cores.granting.table)
 
-  printer_is : (k : ℕ) (p : PrinterShape) → slice_get (shapes_of t) k ≡ Some (Prints p) → k ≡ whole.printer.place
+  printer_is : (k : ℕ) (p : PrinterShape) → slice_get (kinds_in t) k ≡ Some (Printer p) → k ≡ whole.printer.place
   printer_is k p e =
-      let there = map_back (λ (z : PlacedCore). z.shape) t.cores k (Prints p) e in
+      let there = map_back (λ (z : PlacedCore). z.kind) t.cores k (Printer p) e in
       whole.once.once k whole.printer.place there.0 whole.printer.core there.1 whole.printer.listed
       (two_printers there.0 whole.printer.core p whole.printer.shape (sym there.2) whole.printer.is)
 
@@ -193,15 +193,15 @@ module _ (t : Table) (modules : ℕ → Module) (leaves : ℕ → LeafPorts) (n 
     slots = is.slots;
     need = λ i l x s named. need_only i l x s (subst (λ (z : Module). IsSignal z (codes "need") x s) (sym (own_module i l)) named);
     keep = keeps;
-    wait = λ k l. each_waits (slice_get (shapes_of t) k);
+    wait = λ k l. each_waits (slice_get (kinds_in t) k);
     arbiters = arbiters_hold;
     outside = top_holds (modules_of t) layout top wired.is_top;
     printer = whole.printer.place;
-    alone = λ k l other s i a. others_print_nothing (slice_get (shapes_of t) k) (λ p e. other (printer_is k p e)) s i a;
+    alone = λ k l other s i a. others_print_nothing (slice_get (kinds_in t) k) (λ p e. other (printer_is k p e)) s i a;
     ends = subst (ShowsEnd (threads layout) (cores layout) thread_machines core_machines (places_of t modules leaves) n.modules top) (own_module 0 some_thread) ends;
   }
 
 pub net_of_table_is_threaded : NetOfTableIsThreaded
 net_of_table_is_threaded t modules leaves n whole runs steady wired =
-    steady_is_threaded (threads (layout_of t)) (cores (layout_of t)) (λ i. leaf_thread (modules i) (leaves i)) (machine_at (shapes_of t)) (places_of t modules leaves) n.modules
+    steady_is_threaded (threads (layout_of t)) (cores (layout_of t)) (λ i. leaf_thread (modules i) (leaves i)) (machine_at (kinds_in t)) (places_of t modules leaves) n.modules
     wired.top (is_steady t modules leaves n whole runs steady wired)

@@ -17,7 +17,7 @@ use Rattle.top_wiring.specs.Wired.{IsWired}
 use Rattle.top_wiring.proofs.TopPlaces as standing
 use Rattle.leaf_machine.specs.Leaves.{LeafPorts, leaf_thread, leaf_places}
 use Rattle.core_tables.specs.Family.{machine_at}
-use Rattle.core_tables.specs.Tables.{Table, layout_of, modules_of, shapes_of}
+use Rattle.core_tables.specs.Tables.{Table, layout_of, modules_of, kinds_in}
 use Rattle.core_tables.specs.Whole.{IsWholeTable, AreThreads, places_of}
 use Rattle.core_tables.specs.Nets.{IsNetOfTable}
 use Rattle.core_tables.proofs.TableNets.{tables_are_nets}
@@ -43,7 +43,7 @@ module _ (t : Table) (modules : ℕ → Module) (leaves : ℕ → LeafPorts) (be
   machines i = leaf_thread (modules i) (leaves i)
 
   abbrev core_machines : ℕ → CoreMachine
-  core_machines = machine_at (shapes_of t)
+  core_machines = machine_at (kinds_in t)
 
   abbrev places : NetPlaces T K machines core_machines
   places = places_of t modules leaves

@@ -1,5 +1,5 @@
 -- What is wired of a table of a program's parts is the whole net of the program.
-use Rattle.std.proofs.Common.{◌≡◌, ℕ, ◌+◌, ◌<◌, List, [], ◌∷◌, Option, Some, inr, sym, ap, ◌∙◌, subst, arith}
+use Rattle.std.proofs.Common.{◌≡◌, ℕ, ◌+◌, ◌<◌, List, [], ◌∷◌, Some, inr, sym, ap, ◌∙◌, subst, arith}
 use Rattle.std.specs.Prelude.{slice_get, decimal}
 use Rattle.std.proofs.lemmas.List.{length-map}
 use Rattle.std.proofs.lemmas.Option.{same_Some}
@@ -17,17 +17,16 @@ use Rattle.top_wiring.specs.Ports.{threads, cores}
 use Rattle.top_wiring.specs.Wired.{IsWired}
 use Rattle.bank_arbiter.specs.Arbiter as arbiter
 use Rattle.leaf_machine.specs.Leaves.{leaf_places}
-use Rattle.core_tables.specs.Family.{CoreShape, Bank, Mutex, Barrier, Forks, Prints, machine_at, places_at}
-use Rattle.core_tables.specs.Tables.{Table, kinds_at, laid_core, layout_of, modules_of, shapes_of}
+use Rattle.core_tables.specs.Family.{CoreKind, Bank, machine_at, places_at}
+use Rattle.core_tables.specs.Tables.{Table, kinds_at, laid_core, layout_of, modules_of, kinds_in}
 use Rattle.core_tables.specs.Tables as table
 use Rattle.core_tables.specs.Nets.{IsNetOfTable}
 use Rattle.core_tables.proofs.TableNets.{tables_are_nets}
 use Rattle.law_banks.proofs.Partitioned.{core_of, bank_is}
 use Rattle.law_cycle.specs.Built.{Parts, thread_modules, thread_leaves}
 use Rattle.law_cycle.specs.Bodies.{core_at, core_count}
-use Rattle.law_cycle.specs.Kinds.{cores_of}
-use Rattle.law_cycle.proofs.Cores.{Kind, kind_of, bank_at}
-use Rattle.law_cycle.proofs.Cores.Kind.{IsBank, IsMutex, IsBarrier, IsForks, IsPrinter, IsPast}
+use Rattle.law_cycle.specs.Kinds.{kinds_of}
+use Rattle.law_cycle.proofs.Listed.{bank_at, bank_back}
 use Rattle.law_net.specs.Follows.{machine_of_thread}
 use Rattle.law_net.specs.Whole.{Instances, TellsDone, AreBanked, IsWhole}
 use Rattle.law_net.proofs.NetFollows.{net_follows}
@@ -58,7 +57,7 @@ module _ (P : Program) (K : Parts) (t : Table) (n : Netlist) (is : IsWholeTableO
   at = record { thread = λ i. i; core = λ k. T + k; arbiter = λ k. T + C + k; arbiter_places = arbiter.places T }
 
   -- the places among so many threads and these cores
-  abbrev places_among : (a b : ℕ) (S : List CoreShape) → NetPlaces a b (machine_of_thread K) (machine_at S)
+  abbrev places_among : (a b : ℕ) (S : List CoreKind) → NetPlaces a b (machine_of_thread K) (machine_at S)
   places_among a b S = record {
     thread_at = λ i. i;
     core_at = λ k. T + k;
@@ -68,13 +67,13 @@ module _ (P : Program) (K : Parts) (t : Table) (n : Netlist) (is : IsWholeTableO
     arbiter = λ k. arbiter.places T;
   }
 
-  abbrev NetOf : ℕ → ℕ → List CoreShape → Type 0
+  abbrev NetOf : ℕ → ℕ → List CoreKind → Type 0
   NetOf a b S = IsNet a b (machine_of_thread K) (machine_at S) (places_among a b S) n.modules top
 
-  is_net : NetOf K.cores.threads (core_count K.cores) (cores_of K.cores)
+  is_net : NetOf K.cores.threads (core_count K.cores) (kinds_of K.cores)
   is_net =
-      subst (λ (S : List CoreShape). NetOf K.cores.threads (core_count K.cores) S) is.cores
-      (subst (λ b. NetOf K.cores.threads b (shapes_of t)) cores_are (subst (λ a. NetOf a C (shapes_of t)) is.count of_table.net))
+      subst (λ (S : List CoreKind). NetOf K.cores.threads (core_count K.cores) S) is.cores
+      (subst (λ b. NetOf K.cores.threads b (kinds_in t)) cores_are (subst (λ a. NetOf a C (kinds_in t)) is.count of_table.net))
 
   tells_done : TellsDone P K n.modules top at
   tells_done =
@@ -92,27 +91,15 @@ module _ (P : Program) (K : Parts) (t : Table) (n : Netlist) (is : IsWholeTableO
 
   bank_there : (k : ℕ) (c : BankShape) → slice_get K.cores.banks k ≡ Some c → IsBankAt k c c.name c.number
   bank_there k c e =
-      let b = of_table.banks k c (ap (λ (S : List CoreShape). slice_get S k) is.cores ∙ bank_at K.cores k c e) in
+      let b = of_table.banks k c (ap (λ (S : List CoreKind). slice_get S k) is.cores ∙ bank_at K.cores k c e) in
       record { instance = b.instance; place = b.place; first = b.number; memory = b.memory }
-
-  -- a core that is a bank is one of the parts
-  is_bank : (k : ℕ) (b : BankShape) → core_at K.cores k ≡ Some (Bank b) → slice_get K.cores.banks k ≡ Some b
-  is_bank k b e = by (kind_of K.cores k)
-    where
-      by : Kind K.cores k → slice_get K.cores.banks k ≡ Some b
-      by (IsBank c listed core) = let q : Some (Bank c) ≡ Some (Bank b) = sym core ∙ e in let same : c ≡ b = cc in listed ∙ ap Some same
-      by (IsMutex i s listed at_ core) = let q : Some (Mutex s) ≡ Some (Bank b) = sym core ∙ e in absurd cc
-      by (IsBarrier i below at_ core) = let q : Some (Barrier (record { threads = K.cores.threads })) ≡ Some (Bank b) = sym core ∙ e in absurd cc
-      by (IsForks on at_ core) = let q : Some (Forks (record { threads = K.cores.threads })) ≡ Some (Bank b) = sym core ∙ e in absurd cc
-      by (IsPrinter at_ core) = let q : Some (Prints K.cores.printer) ≡ Some (Bank b) = sym core ∙ e in absurd cc
-      by (IsPast past core) = let q : Option.None ≡ Some (Bank b) = sym core ∙ e in absurd cc
 
   only_bank : (x : ℕ) (g : GlobalVariable) (s : Spread) → slice_get P.globals x ≡ Some g → slice_get K.spreads x ≡ Some s → (digits : List ℕ) → IsMinimal digits →
       BankOf n.modules top g.name digits → (k : ℕ) × (k < s.count) × (digits ≡ decimal k)
   only_bank x g s declared listed digits minimal b =
       let named = of_table.only_banks g.name digits minimal b in
-      let core : core_at K.cores named.core ≡ Some (Bank named.shape) = ap (λ (S : List CoreShape). slice_get S named.core) (sym is.cores) ∙ named.listed in
-      let own = bank_is P K.cores.threads K.spreads K.cores.banks is.built.banked named.core named.shape (is_bank named.core named.shape core) in
+      let core : core_at K.cores named.core ≡ Some (Bank named.shape) = ap (λ (S : List CoreKind). slice_get S named.core) (sym is.cores) ∙ named.listed in
+      let own = bank_is P K.cores.threads K.spreads K.cores.banks is.built.banked named.core named.shape (bank_back K.cores named.core named.shape core) in
       let one : x ≡ own.x = same_name P is.built.resolved x own.x g own.global declared own.declared (sym named.named ∙ own.named) in
       let spread_is : Some s ≡ Some own.spread = sym listed ∙ ap (slice_get K.spreads) one ∙ own.listed in
       let counts = ap (λ (z : Spread). z.count) (same_Some s own.spread spread_is) in

@@ -20,8 +20,8 @@ nothing_printed c s asks (Some w) h = h s w (asks w)
 module _ (threads cores : ℕ) (T : ℕ → ThreadMachine) (C : ℕ → CoreMachine) (p : NetPlaces threads cores T C) (modules : List Module) (top : Module)
     (steady : IsSteady threads cores T C p modules top) (h v : Valuation) (c : Choice) (settled : IsSettled modules top h c v) where
   -- the core that prints stands at a path
-  abbrev Prints : Path → Type 0
-  Prints path = (steady.printer < cores) × (path ≡ p.core_at steady.printer ∷ [])
+  abbrev Printer : Path → Type 0
+  Printer path = (steady.printer < cores) × (path ≡ p.core_at steady.printer ∷ [])
 
   core_writes : (k : ℕ) (l : k < cores) → k ≢ steady.printer → written (steady.net.cores_stand k l).0 (v (p.core_at k ∷ [])) ≡ []
   core_writes k l other =
@@ -35,7 +35,7 @@ module _ (threads cores : ℕ) (T : ℕ → ThreadMachine) (C : ℕ → CoreMach
       ∙ nothing_printed (C k) s (machines.asked (C k) (p.core k) r) o (steady.alone k l other)
 
   by_kind : (j : ℕ) (m : Module) → module_at modules top (j ∷ []) ≡ Some m → IsInstanceOf threads cores T C p modules top j →
-      (written m (v (j ∷ [])) ≡ []) ⊎ Prints (j ∷ [])
+      (written m (v (j ∷ [])) ≡ []) ⊎ Printer (j ∷ [])
   by_kind j m at (inl (i, l, e)) =
       let t = steady.net.threads_stand i l in
       inl (ap (λ (z : Module). written z (v (j ∷ []))) (one_module threads cores T C p modules top steady j (p.thread_at i) m t.0 at e t.1) ∙ t.2.silent (v (j ∷ [])))
@@ -53,7 +53,7 @@ module _ (threads cores : ℕ) (T : ℕ → ThreadMachine) (C : ℕ → CoreMach
       let t = steady.net.arbiters_stand k l in
       inl (ap (λ (z : Module). written z (v (j ∷ []))) (one_module threads cores T C p modules top steady j (p.arbiter_at k) m t.0 at e t.1) ∙ t.2.silent (v (j ∷ [])))
 
-  by_path : (path : Path) (o : Option Module) → module_at modules top path ≡ o → (written_at modules top v path o ≡ []) ⊎ Prints path
+  by_path : (path : Path) (o : Option Module) → module_at modules top path ≡ o → (written_at modules top v path o ≡ []) ⊎ Printer path
   by_path path None e = inl refl
   by_path [] (Some m) e =
       let same : top ≡ m = cc in
@@ -70,7 +70,7 @@ module _ (threads cores : ℕ) (T : ℕ → ThreadMachine) (C : ℕ → CoreMach
         written_at modules top v there (module_at modules top there),
         record {
           each = λ path. ⊎_elim (λ (z : written_at modules top v path (module_at modules top path) ≡ []). inl z)
-              (λ (q : Prints path). inr (ap (λ x. written_at modules top v x (module_at modules top x)) q.1)) (by_path path (module_at modules top path) refl);
+              (λ (q : Printer path). inr (ap (λ x. written_at modules top v x (module_at modules top x)) q.1)) (by_path path (module_at modules top path) refl);
           one = inr (there, refl);
         },
       ))
@@ -78,7 +78,7 @@ module _ (threads cores : ℕ) (T : ℕ → ThreadMachine) (C : ℕ → CoreMach
         [],
         record {
           each = λ path. ⊎_elim (λ (z : written_at modules top v path (module_at modules top path) ≡ []). inl z)
-              (λ (q : Prints path). absurd (let l = q.0 in omega (arith, l, none))) (by_path path (module_at modules top path) refl);
+              (λ (q : Printer path). absurd (let l = q.0 in omega (arith, l, none))) (by_path path (module_at modules top path) refl);
           one = inl refl;
         },
       )) d

@@ -2,11 +2,11 @@
 use Rattle.std.specs.Prelude.{◌≡◌, ℕ, ◌<◌, ◌≤◌, length, Some, slice_get}
 use Rattle.c_program.specs.Tree.{Program}
 use Rattle.netlist.specs.declared.netlist.Module.{Module}
-use Rattle.core_tables.specs.Tables.{PlacedCore, Table, IsArbiterModule, HasModule, shapes_of}
+use Rattle.core_tables.specs.Tables.{PlacedCore, Table, IsArbiterModule, HasModule, kinds_in}
 use Rattle.core_tables.specs.Whole.{IsThreadName, KindsStandOnce, IsWholeTable}
 use Rattle.net_emitter.specs.Placing.{IsNumbered}
 use Rattle.law_cycle.specs.Built.{Parts, IsBuilt}
-use Rattle.law_cycle.specs.Kinds.{cores_of}
+use Rattle.law_cycle.specs.Kinds.{kinds_of}
 
 -- each thread has its module, each module is one of a thread, and they have names of their own
 pub record HaveThreads (K : Parts) (t : Table) : Type 0 where
@@ -20,10 +20,10 @@ pub record HaveThreads (K : Parts) (t : Table) : Type 0 where
 pub record IsLaidTable (K : Parts) (t : Table) : Type 0 where
   pub threads : HaveThreads K t
   pub granting : IsArbiterModule K.cores.threads t.arbiter
-  pub shapes : shapes_of t ≡ cores_of K.cores
-  pub numbered : (k : ℕ) (c : PlacedCore) → slice_get t.cores k ≡ Some c → IsNumbered K.cores k c.shape c.number
+  pub shapes : kinds_in t ≡ kinds_of K.cores
+  pub numbered : (k : ℕ) (c : PlacedCore) → slice_get t.cores k ≡ Some c → IsNumbered K.cores k c.kind c.number
   pub each : (k : ℕ) (c : PlacedCore) → slice_get t.cores k ≡ Some c → HasModule t c
-  pub used : (j : ℕ) (m : Module) → slice_get t.kinds j ≡ Some m → (k : ℕ) × (c : PlacedCore) × (slice_get t.cores k ≡ Some c) × (c.kind ≡ j)
+  pub used : (j : ℕ) (m : Module) → slice_get t.kinds j ≡ Some m → (k : ℕ) × (c : PlacedCore) × (slice_get t.cores k ≡ Some c) × (c.place ≡ j)
   pub kinds : KindsStandOnce t
   pub narrow : K.cores.printer.values ≤ 4
 

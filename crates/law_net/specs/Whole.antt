@@ -25,7 +25,7 @@ use Rattle.leaf_machine.specs.Leaves.{leaf_places}
 use Rattle.law_cycle.specs.Family.{places_at}
 use Rattle.law_cycle.specs.Built.{Parts, IsBuilt}
 use Rattle.law_cycle.specs.Bodies.{core_machine, core_count}
-use Rattle.law_cycle.specs.Kinds.{cores_of}
+use Rattle.law_cycle.specs.Kinds.{kinds_of}
 use Rattle.law_net.specs.Follows.{machine_of_thread}
 use Rattle.good_verilog.specs.Program.{seen_of}
 
@@ -43,7 +43,7 @@ module _ (P : Program) (K : Parts) (modules : List Module) (top : Module) where
     core_at = at.core;
     arbiter_at = at.arbiter;
     thread = λ i. leaf_places (K.bodies i).body (K.bodies i).leaf;
-    core = λ k. places_at (cores_of K.cores) k;
+    core = λ k. places_at (kinds_of K.cores) k;
     arbiter = λ k. at.arbiter_places;
   }
 

@@ -6,18 +6,18 @@ use Rattle.thread_semantics.specs.Races.{IsGood}
 use Rattle.netlist.specs.declared.netlist.Netlist.{Netlist}
 use Rattle.verilog_meaning.specs.Follows.{IsDetermined, FollowsAlways}
 use Rattle.top_wiring.specs.Wired.{IsWired}
-use Rattle.core_tables.specs.Tables.{Table, layout_of, modules_of, shapes_of}
+use Rattle.core_tables.specs.Tables.{Table, layout_of, modules_of, kinds_in}
 use Rattle.core_tables.specs.Whole.{IsWholeTable}
 use Rattle.good_verilog.specs.Program.{seen_of}
 use Rattle.law_cycle.specs.Built.{Parts, IsBuilt}
-use Rattle.law_cycle.specs.Kinds.{cores_of}
+use Rattle.law_cycle.specs.Kinds.{kinds_of}
 use Rattle.law_net.specs.Whole.{IsWhole, RunsExist}
 
 -- a whole table of what is built of a program: thread i of the table has the module of thread i
 pub record IsWholeTableOf (P : Program) (K : Parts) (t : Table) : Type 0 where
   pub built : IsBuilt P K
   pub whole : IsWholeTable t
-  pub cores : shapes_of t ≡ cores_of K.cores
+  pub cores : kinds_in t ≡ kinds_of K.cores
   pub count : length t.threads ≡ K.cores.threads
   pub runs : (i number : ℕ) → slice_get t.threads i ≡ Some number → slice_get t.routines number ≡ Some (K.bodies i).body
 

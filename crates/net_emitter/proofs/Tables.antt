@@ -1,5 +1,5 @@
 -- The table of threads and cores that fit has its cores, so that its layout is small.
-use Rattle.std.proofs.Common.{◌≡◌, ℕ, ◌^◌, ◌<◌, List, length, refl, sym, subst, arith}
+use Rattle.std.proofs.Common.{◌≡◌, ℕ, List, refl, sym, subst, arith}
 use Rattle.verilog_tree.specs.declared.tree.Net.{Net}
 use Rattle.verilog_tree.specs.Reads.{IsFull, Reads}
 use Rattle.verilog_tree.specs.WellFormed.{IsWellFormed}
@@ -15,9 +15,9 @@ use Rattle.top_wiring.specs.Wired.{IsWired}
 use Rattle.core_places.specs.Tables.{IsArbiterModule, HasCores, layout_of}
 use Rattle.core_places.proofs.Small.{is_small}
 use Rattle.core_family.specs.declared.cores.Cores.{Cores}
-use Rattle.core_places.specs.Placing.{AreKinds, placed}
+use Rattle.core_places.specs.Placing.{AreKinds}
 use Rattle.core_places.specs.Kinds.{HaveModules}
-use Rattle.core_places.proofs.CoresPlaced.{placed_count, placed_narrow, cores_are_placed}
+use Rattle.core_places.proofs.CoresPlaced.{placed_narrow, cores_are_placed}
 use Rattle.net_emitter.specs.Written.{IsWritten, table_of, FitsTable}
 
 module _ (threads : List ℕ) (routines : List Module) (w : Cores) (right : HaveModules w) (fits : FitsTable threads routines w) (arbiter : Module) (kinds : List Module)
@@ -35,9 +35,6 @@ module _ (threads : List ℕ) (routines : List Module) (w : Cores) (right : Have
 
   pub layout_small : IsSmall (layout_of (table_of threads routines arbiter w kinds))
   layout_small = is_small (table_of threads routines arbiter w kinds) has_cores
-
-pub few_banks : (w : Cores) → length (placed w) < 2 ^ 15 → length w.banks < 2 ^ 15
-few_banks w few = let n = placed_count w in omega (arith, n, few)
 
 pub written_as : (modules table : List Module) (laid layout : Layout) (n : Netlist) (net : Net) (text : List ℕ) → table ≡ modules → layout ≡ laid → IsWired table layout n →
     (AreSound layout table → IsSound n) → (IsLaid n → netlist_of net ≡ n) → (IsSound n → IsWellFormed net) → (IsFull net → Reads text net) → IsWritten laid modules n net text

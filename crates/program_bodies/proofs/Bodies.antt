@@ -21,7 +21,7 @@ use Rattle.thread_slots.specs.declared.shape.Shape.{Shape}
 use Rattle.verilog_tree.specs.Scope.{is_clk}
 use Rattle.fsm_datapath.specs.Thread.{core_ports, cores_of, inputs_of, places_of, IsServed}
 use Rattle.fsm_datapath.specs.Leaf.{leaf_of}
-use Rattle.law_net.proofs.Cores.{count_is}
+use Rattle.law_net.proofs.Listed.{count_is}
 use Rattle.law_net.specs.Cores.{AreCoresOf}
 use Rattle.law_net.specs.Bodies.{core_count, numbers_of, promised_ports, IsBody}
 use Rattle.program_bodies.specs.Bodies.{served_by, shape_of, laid_body, IsLaid, LaidAreBodies, LaidMainStays}
@@ -78,28 +78,28 @@ module _ (P : Program) (spreads : List Spread) (w : Cores) (cores : AreCoresOf P
     abbrev shape : Shape
     shape = shape_of P spreads w main name
 
-    ports : core_ports shape ≡ map port_of (kinds.cores_of w)
+    ports : core_ports shape ≡ map port_of (kinds.kinds_of w)
     ports = ports_are P spreads w cores.banked served.spreads main name
 
     count : cores_of shape ≡ core_count w
     count = same_count main name
 
-    parts_same : (k : ℕ) → k < cores_of shape → (machine_at (kinds.cores_of w) k).parts ≡ parts_of (core_ports shape) k
-    parts_same k l = parts_fit (kinds.cores_of w) k (let n = count in let c = count_is w in omega (arith, n, c, l)) ∙ ap (λ (ps : List CorePort). parts_of ps k) (sym ports)
+    parts_same : (k : ℕ) → k < cores_of shape → (machine_at (kinds.kinds_of w) k).parts ≡ parts_of (core_ports shape) k
+    parts_same k l = parts_fit (kinds.kinds_of w) k (let n = count in let c = count_is w in omega (arith, n, c, l)) ∙ ap (λ (ps : List CorePort). parts_of ps k) (sym ports)
 
-    told_same : (k : ℕ) → k < cores_of shape → (machine_at (kinds.cores_of w) k).told ≡ tells_of (core_ports shape) k
-    told_same k l = told_fit (kinds.cores_of w) k (let n = count in let c = count_is w in omega (arith, n, c, l)) ∙ ap (λ (ps : List CorePort). tells_of ps k) (sym ports)
+    told_same : (k : ℕ) → k < cores_of shape → (machine_at (kinds.kinds_of w) k).told ≡ tells_of (core_ports shape) k
+    told_same k l = told_fit (kinds.kinds_of w) k (let n = count in let c = count_is w in omega (arith, n, c, l)) ∙ ap (λ (ps : List CorePort). tells_of ps k) (sym ports)
 
     is_body : IsBody P spreads w main c name (laid_body shape c m)
     is_body = record {
       routine = subst (λ (ps : List CorePort). IsRoutineModule name ps m (inputs_of shape) (leaf_of shape m)) ports (laid.routine other served);
-      leaf = subst (λ n. IsThreadLeaf m (inputs_of shape) (leaf_of shape m) n (λ k. (machine_at (kinds.cores_of w) k).parts) (λ k. (machine_at (kinds.cores_of w) k).told)) count
-          (thread_leaf m (inputs_of shape) (leaf_of shape m) (cores_of shape) (parts_of (core_ports shape)) (λ k. (machine_at (kinds.cores_of w) k).parts)
-          (tells_of (core_ports shape)) (λ k. (machine_at (kinds.cores_of w) k).told) parts_same told_same (laid.leaf served).thread);
-      done = subst (λ n. IsSlotBit m (inputs_of shape) (leaf_of shape m) n (λ k. (machine_at (kinds.cores_of w) k).parts) (λ k. (machine_at (kinds.cores_of w) k).told)
+      leaf = subst (λ n. IsThreadLeaf m (inputs_of shape) (leaf_of shape m) n (λ k. (machine_at (kinds.kinds_of w) k).parts) (λ k. (machine_at (kinds.kinds_of w) k).told)) count
+          (thread_leaf m (inputs_of shape) (leaf_of shape m) (cores_of shape) (parts_of (core_ports shape)) (λ k. (machine_at (kinds.kinds_of w) k).parts)
+          (tells_of (core_ports shape)) (λ k. (machine_at (kinds.kinds_of w) k).told) parts_same told_same (laid.leaf served).thread);
+      done = subst (λ n. IsSlotBit m (inputs_of shape) (leaf_of shape m) n (λ k. (machine_at (kinds.kinds_of w) k).parts) (λ k. (machine_at (kinds.kinds_of w) k).told)
           (leaf_of shape m).done) count
-          (slot_bit m (inputs_of shape) (leaf_of shape m) (cores_of shape) (parts_of (core_ports shape)) (λ k. (machine_at (kinds.cores_of w) k).parts)
-          (tells_of (core_ports shape)) (λ k. (machine_at (kinds.cores_of w) k).told) parts_same told_same (leaf_of shape m).done (laid.leaf served).done);
+          (slot_bit m (inputs_of shape) (leaf_of shape m) (cores_of shape) (parts_of (core_ports shape)) (λ k. (machine_at (kinds.kinds_of w) k).parts)
+          (tells_of (core_ports shape)) (λ k. (machine_at (kinds.kinds_of w) k).told) parts_same told_same (leaf_of shape m).done (laid.leaf served).done);
       runs = λ f. subst (λ (n : Numbers). RunsCode (globals_of P) spreads n main f c.code c.plan m (places_of (inputs_of shape) c.code c.plan) (promised_ports (leaf_of shape m)))
           same_numbers (laid.serves served f);
       beats =

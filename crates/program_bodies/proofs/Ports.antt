@@ -9,10 +9,10 @@ use Rattle.bank_partition.specs.declared.banks.Spread.{Spread}
 use Rattle.bank_cores.specs.declared.bank.Shape.{Shape as BankShape}
 use Rattle.mutex_cores.specs.declared.mutex.Shape.{Shape as MutexShape}
 use Rattle.leaf_machine.specs.Ports.{CorePort}
-use Rattle.core_family.specs.Family.{CoreShape, Bank, Mutex, Prints, machine_at, port_of}
+use Rattle.core_family.specs.Family.{CoreKind, Bank, Mutex, Printer, machine_at, port_of}
 use Rattle.core_family.proofs.OnePrinter.{each_fits}
 use Rattle.core_family.specs.declared.cores.Cores.{Cores}
-use Rattle.core_family.specs.Kinds.{barrier, forks, ids_shapes, cores_of}
+use Rattle.core_family.specs.Kinds.{barrier, thread_ids, thread_ids_kinds, kinds_of}
 use Rattle.thread_promise.specs.Globals.{bank_total}
 use Rattle.law_banks.specs.Partition.{globals_of, ArePartitioned}
 use Rattle.law_banks.proofs.Partitioned.{total, bank_is, type_here}
@@ -48,7 +48,7 @@ barrier_ports : (w : Cores) (n : ℕ) → map (act_port (served_by w)) (replicat
 barrier_ports w zero = refl
 barrier_ports w (suc n) = ap (λ (l : List CorePort). port_of (barrier w) ∷ l) (barrier_ports w n)
 
-last_ports : (w : Cores) (on : Bool) → map (act_port (served_by w)) (if_ids on (kind.Ids ∷ []) ++ kind.Prints ∷ []) ≡ map port_of ((if on then forks w ∷ [] else []) ++ (Prints w.printer ∷ []))
+last_ports : (w : Cores) (on : Bool) → map (act_port (served_by w)) (if_ids on (kind.Ids ∷ []) ++ kind.Prints ∷ []) ≡ map port_of ((if on then thread_ids w ∷ [] else []) ++ (Printer w.printer ∷ []))
 last_ports w true = refl
 last_ports w false = refl
 
@@ -59,25 +59,25 @@ bank_ports (b ∷ bs) = ap (λ (l : List CorePort). port_of (Bank b) ∷ l) (ban
 abbrev act : Cores → Kind → CorePort
 act w k = act_port (served_by w) k
 
-act_ports : (w : Cores) → map (act w) (services (served_by w)) ≡ map port_of (map Mutex w.mutexes ++ (replicate w.barriers (barrier w) ++ (ids_shapes w ++ (Prints w.printer ∷ []))))
+act_ports : (w : Cores) → map (act w) (services (served_by w)) ≡ map port_of (map Mutex w.mutexes ++ (replicate w.barriers (barrier w) ++ (thread_ids_kinds w ++ (Printer w.printer ∷ []))))
 act_ports w =
-    map-append (act w) (replicate (length w.mutexes) kind.Mutexes) (replicate w.barriers kind.Barriers ++ (if_ids w.ids (kind.Ids ∷ []) ++ kind.Prints ∷ []))
-    ∙ ap (λ (l : List CorePort). l ++ map (act w) (replicate w.barriers kind.Barriers ++ (if_ids w.ids (kind.Ids ∷ []) ++ kind.Prints ∷ []))) (mutex_ports w w.mutexes)
+    map-append (act w) (replicate (length w.mutexes) kind.Mutexes) (replicate w.barriers kind.Barriers ++ (if_ids w.thread_ids (kind.Ids ∷ []) ++ kind.Prints ∷ []))
+    ∙ ap (λ (l : List CorePort). l ++ map (act w) (replicate w.barriers kind.Barriers ++ (if_ids w.thread_ids (kind.Ids ∷ []) ++ kind.Prints ∷ []))) (mutex_ports w w.mutexes)
     ∙ ap (λ (l : List CorePort). map port_of (map Mutex w.mutexes) ++ l)
-    (map-append (act w) (replicate w.barriers kind.Barriers) (if_ids w.ids (kind.Ids ∷ []) ++ kind.Prints ∷ [])
-    ∙ ap (λ (l : List CorePort). l ++ map (act w) (if_ids w.ids (kind.Ids ∷ []) ++ kind.Prints ∷ [])) (barrier_ports w w.barriers)
-    ∙ ap (λ (l : List CorePort). map port_of (replicate w.barriers (barrier w)) ++ l) (last_ports w w.ids)
-    ∙ sym (map-append port_of (replicate w.barriers (barrier w)) (ids_shapes w ++ (Prints w.printer ∷ []))))
-    ∙ sym (map-append port_of (map Mutex w.mutexes) (replicate w.barriers (barrier w) ++ (ids_shapes w ++ (Prints w.printer ∷ []))))
+    (map-append (act w) (replicate w.barriers kind.Barriers) (if_ids w.thread_ids (kind.Ids ∷ []) ++ kind.Prints ∷ [])
+    ∙ ap (λ (l : List CorePort). l ++ map (act w) (if_ids w.thread_ids (kind.Ids ∷ []) ++ kind.Prints ∷ [])) (barrier_ports w w.barriers)
+    ∙ ap (λ (l : List CorePort). map port_of (replicate w.barriers (barrier w)) ++ l) (last_ports w w.thread_ids)
+    ∙ sym (map-append port_of (replicate w.barriers (barrier w)) (thread_ids_kinds w ++ (Printer w.printer ∷ []))))
+    ∙ sym (map-append port_of (map Mutex w.mutexes) (replicate w.barriers (barrier w) ++ (thread_ids_kinds w ++ (Printer w.printer ∷ []))))
 
 -- ---- parts
 
-pub parts_fit : (shapes : List CoreShape) (k : ℕ) → k < length shapes → (machine_at shapes k).parts ≡ parts_of (map port_of shapes) k
+pub parts_fit : (shapes : List CoreKind) (k : ℕ) → k < length shapes → (machine_at shapes k).parts ≡ parts_of (map port_of shapes) k
 parts_fit [] k l = absurd (omega (arith, l))
 parts_fit (s ∷ shapes) zero l = (each_fits s).asks
 parts_fit (s ∷ shapes) (suc k) l = parts_fit shapes k (omega (arith, l))
 
-pub told_fit : (shapes : List CoreShape) (k : ℕ) → k < length shapes → (machine_at shapes k).told ≡ tells_of (map port_of shapes) k
+pub told_fit : (shapes : List CoreKind) (k : ℕ) → k < length shapes → (machine_at shapes k).told ≡ tells_of (map port_of shapes) k
 told_fit [] k l = absurd (omega (arith, l))
 told_fit (s ∷ shapes) zero l = (each_fits s).told
 told_fit (s ∷ shapes) (suc k) l = told_fit shapes k (omega (arith, l))
@@ -108,9 +108,9 @@ module _ (P : Program) (spreads : List Spread) (w : Cores) (banked : ArePartitio
       ap (slice_get own) (sym at) ∙ spread_there spreads (map width_of (globals_of P)) is.x is.k (width_of is.global.ty) is.spread is.listed declared is.below
       ∙ ap Some (sym is.width ∙ b.2))
 
-  pub ports_are : (main : Bool) (name : List ℕ) → core_ports (shape_of P spreads w main name) ≡ map port_of (cores_of w)
+  pub ports_are : (main : Bool) (name : List ℕ) → core_ports (shape_of P spreads w main name) ≡ map port_of (kinds_of w)
   ports_are main name =
       ap (λ (l : List ℕ). map bank_port l ++ map (act_port (served_by w)) (services (served_by w))) same_words
       ∙ ap (λ (l : List CorePort). l ++ map (act_port (served_by w)) (services (served_by w))) (bank_ports w.banks)
       ∙ ap (λ (l : List CorePort). map port_of (map Bank w.banks) ++ l) (act_ports w)
-      ∙ sym (map-append port_of (map Bank w.banks) (map Mutex w.mutexes ++ (replicate w.barriers (barrier w) ++ (ids_shapes w ++ (Prints w.printer ∷ [])))))
+      ∙ sym (map-append port_of (map Bank w.banks) (map Mutex w.mutexes ++ (replicate w.barriers (barrier w) ++ (thread_ids_kinds w ++ (Printer w.printer ∷ [])))))

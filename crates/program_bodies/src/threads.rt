@@ -53,7 +53,7 @@ fn served(wanted: &Cores) -> Served
     Served {
         mutexes: wanted.mutexes.len(),
         barriers: wanted.barriers as usize,
-        ids: wanted.ids,
+        ids: wanted.thread_ids,
         printer: Printer {
             site_width: SITE_WIDTH,
             values: wanted.printer.values,

@@ -40,7 +40,7 @@ module _ (P : Program) (resolved : IsResolved P) (limits : first_passed P ≡ No
     banks = core_shapes T (shapes parted);
     mutexes = mutex_shapes T P.mutexes;
     barriers = barrier_elements P;
-    ids = nat_lt 1 T;
+    thread_ids = nat_lt 1 T;
     printer = printer_shape T P;
   }
 
@@ -70,7 +70,7 @@ module _ (P : Program) (resolved : IsResolved P) (limits : first_passed P ≡ No
     banked = are_partitioned P part.0 T parted (core_shapes T (shapes parted)) part.1.is part.1.are part.1.elements part.1.held refl;
     mutexes = are_mutexes T P;
     barriers = refl;
-    ids = refl;
+    thread_ids = refl;
     printer = record { threads = refl; sites = refl };
     values = refl;
     modules = record {
@@ -85,20 +85,20 @@ module _ (P : Program) (resolved : IsResolved P) (limits : first_passed P ≡ No
   }
 
 abbrev made : ℕ → List Bank → List MutexShape → ℕ → Bool → PrinterShape → Cores
-made t bs ms n on p = record { threads = t; banks = bs; mutexes = ms; barriers = n; ids = on; printer = p }
+made t bs ms n on p = record { threads = t; banks = bs; mutexes = ms; barriers = n; thread_ids = on; printer = p }
 
 -- and so are those that equal them
 pub same_cores : (P : Program) → IsResolved P → first_passed P ≡ None → (parted : Banks) → IsPartedProgram P parted → (w : Cores) → w.threads ≡ thread_count P →
-    w.banks ≡ core_shapes w.threads (shapes parted) → w.mutexes ≡ mutex_shapes w.threads P.mutexes → w.barriers ≡ barrier_elements P → w.ids ≡ nat_lt 1 w.threads →
+    w.banks ≡ core_shapes w.threads (shapes parted) → w.mutexes ≡ mutex_shapes w.threads P.mutexes → w.barriers ≡ barrier_elements P → w.thread_ids ≡ nat_lt 1 w.threads →
     w.printer ≡ printer_shape w.threads P → AreCoresOf P parted.spreads.items w
-same_cores P resolved limits parted part w threads banks mutexes barriers ids printer =
+same_cores P resolved limits parted part w threads banks mutexes barriers thread_ids printer =
     subst (AreCoresOf P parted.spreads.items) (sym same) (are_cores P resolved limits parted part)
   where
     same : w ≡ cores P resolved limits parted part
     same =
-        ap (λ (l : List Bank). made w.threads l w.mutexes w.barriers w.ids w.printer) banks
-        ∙ ap (λ (l : List MutexShape). made w.threads (core_shapes w.threads (shapes parted)) l w.barriers w.ids w.printer) mutexes
-        ∙ ap (λ n. made w.threads (core_shapes w.threads (shapes parted)) (mutex_shapes w.threads P.mutexes) n w.ids w.printer) barriers
-        ∙ ap (λ on. made w.threads (core_shapes w.threads (shapes parted)) (mutex_shapes w.threads P.mutexes) (barrier_elements P) on w.printer) ids
+        ap (λ (l : List Bank). made w.threads l w.mutexes w.barriers w.thread_ids w.printer) banks
+        ∙ ap (λ (l : List MutexShape). made w.threads (core_shapes w.threads (shapes parted)) l w.barriers w.thread_ids w.printer) mutexes
+        ∙ ap (λ n. made w.threads (core_shapes w.threads (shapes parted)) (mutex_shapes w.threads P.mutexes) n w.thread_ids w.printer) barriers
+        ∙ ap (λ on. made w.threads (core_shapes w.threads (shapes parted)) (mutex_shapes w.threads P.mutexes) (barrier_elements P) on w.printer) thread_ids
         ∙ ap (λ (p : PrinterShape). made w.threads (core_shapes w.threads (shapes parted)) (mutex_shapes w.threads P.mutexes) (barrier_elements P) (nat_lt 1 w.threads) p) printer
         ∙ ap (λ t. made t (core_shapes t (shapes parted)) (mutex_shapes t P.mutexes) (barrier_elements P) (nat_lt 1 t) (printer_shape t P)) threads

@@ -27,7 +27,7 @@ pub record AreCoresOf (P : Program) (spreads : List Spread) (w : Cores) : Type 0
   pub banked : ArePartitioned P w.threads spreads w.banks
   pub mutexes : AreMutexes P w.threads w.mutexes
   pub barriers : w.barriers ≡ barrier_elements P
-  pub ids : w.ids ≡ nat_lt 1 w.threads
+  pub thread_ids : w.thread_ids ≡ nat_lt 1 w.threads
   pub printer : IsPrinterOf P w.threads w.printer
   pub values : w.printer.values ≡ 4
   -- each has a module, and they are few

@@ -71,7 +71,7 @@ pub fn wanted(alloc: Global, program: &Program, banks: &Banks) -> Result<Cores, 
         banks: shapes,
         mutexes,
         barriers,
-        ids: threads > 1,
+        thread_ids: threads > 1,
         printer,
     })
 }

@@ -3,11 +3,11 @@ use Rattle.top_wiring.specs.Top.{IsSmall}
 use Rattle.core_places.specs.Tables.{layout_of, modules_of}
 use Rattle.core_places.specs.Laying as laying
 use Rattle.net_emitter.specs.Written.{table_of}
-use Rattle.net_emitter.proofs.Tables.{few_banks, layout_small, written_as}
+use Rattle.net_emitter.proofs.Tables.{layout_small, written_as}
 use Rattle.net_emitter.proofs.verilog.Goals as goal
 
 pub layout-requires : goal.layout-requires
-layout-requires c = record { few = (let f = c.requires.fits.few_routines in omega arith); few_banks = few_banks c.args.wanted.now c.requires.fits.few_cores }
+layout-requires c = record { few = (let f = c.requires.fits.few_routines in omega arith); few_cores = c.requires.fits.few_cores }
 
 pub wire-requires : goal.wire-requires
 wire-requires c =

@@ -1,12 +1,21 @@
-use Rattle.std.proofs.Common.{List, length, ap, ◌∙◌, ◌++◌, subst}
-use Rattle.netlist.specs.declared.netlist.Module.{Module}
-use Rattle.bank_cores.specs.declared.bank.Shape.{Shape}
-use Rattle.core_places.specs.Kinds.{AreBankModules}
-use Rattle.core_places.proofs.Modules.{are_kinds}
+use Rattle.std.proofs.Common.{◌≡◌, map, Some, sym, ap, ◌∙◌}
+use Rattle.std.proofs.lemmas.Option.{slice_get-get_or}
+use Rattle.core_family.specs.View.{kind_of}
+use Rattle.core_places.specs.Placing.{distinct}
+use Rattle.core_places.proofs.Modules.{is_right, one_made}
 use Rattle.core_places.proofs.kinds.kinds.Goals as goal
 
-pub returns : goal.returns
-returns c =
-    are_kinds c.args.wanted.now c.requires c.in_ok-banks.banks c.in_ok-mutexes.mutexes c.in_ok-last.last c.in_ok-kinds.kinds
-    (subst (λ (bs : List Shape). AreBankModules c.args.wanted.now.threads bs (length bs) c.in_ok-banks.banks) c.as_slice.ensures c.in_ok-banks.ensures) c.in_ok-mutexes.ensures
-    c.in_ok-last.ensures (c.in_ok-kinds.ensures ∙ ap (λ (l : List Module). l ++ c.in_ok-last.last) c.in_ok-objects.ensures)
+pub module-requires : goal.module-requires
+module-requires c =
+    let kinds = c.as_slice-kinds.result.now in
+    let i = c.loop-kind.kind-index in
+    let are : map kind_of kinds ≡ distinct c.args.wanted.now = ap (map kind_of) c.as_slice-kinds.ensures ∙ c.in_ok-listed.ensures in
+    is_right c.args.wanted.now c.requires kinds are i c.kind-item.result (slice_get-get_or kinds i _ c.loop-kind-test.true ∙ ap Some (sym c.kind-item.is))
+
+pub loop-kind-preserved : goal.loop-kind-preserved
+loop-kind-preserved c =
+    let kinds = c.as_slice-kinds.result.now in
+    let i = c.loop-kind.kind-index in
+    let are : map kind_of kinds ≡ distinct c.args.wanted.now = ap (map kind_of) c.as_slice-kinds.ensures ∙ c.in_ok-listed.ensures in
+    one_made c.args.wanted.now c.requires kinds are i c.kind-item.result (slice_get-get_or kinds i _ c.loop-kind-test.true ∙ ap Some (sym c.kind-item.is)) c.loop-kind.modules
+    c.push.new.self c.in_ok-made.made c.loop-kind.invariant c.in_ok-made.ensures c.in_ok-push.ensures.ok
