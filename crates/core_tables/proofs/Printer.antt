@@ -71,7 +71,7 @@ module _ (layout : Layout) (number : ℕ) (name : List ℕ) (c : ℕ) (sites : L
 
     offers_first : first_of m (core_outputs n core) ≡ P row.offers
     offers_first =
-        let a = ap length is.table.signals in let b = length-laid n (printer.table_of shape) in
+        let a = ap length is.table.signals in let b = length-laid n (table.table_of shape) in
         let d = length-replicate {A = ℕ} n 1 in let e = ap length same_outputs in
         omega (arith, a, b, d, e)
 

@@ -92,7 +92,7 @@ fn module_name(alloc: Global, function: &str) -> Result<Identifier, AllocError>
 }
 
 /// The module of the threads that run a function.
-fn function_module(
+fn routine_module(
     alloc: Global,
     program: &Program,
     spreads: &[Spread],
@@ -150,7 +150,7 @@ fn idle_module(
 }
 
 /// A module for each thread function, in their order.
-fn function_modules(
+fn routine_modules(
     alloc: Global,
     program: &Program,
     spreads: &[Spread],
@@ -163,7 +163,7 @@ fn function_modules(
 {
     let mut modules: Items<Module> = Items::new(alloc);
     for (k, planned) in plans.iter().enumerate() {
-        let made = function_module(alloc, program, spreads, wanted, k == 0, planned)?;
+        let made = routine_module(alloc, program, spreads, wanted, k == 0, planned)?;
         modules.push(made)?;
     }
     Ok(modules)
@@ -188,7 +188,7 @@ pub fn modules(
         (bodies_of (program_of program.now) spreads.now wanted.now (map routine_of plans.now) modules) modules) }
 {
     planned_are_routines();
-    let mut modules = function_modules(alloc, program, spreads, wanted, plans)?;
+    let mut modules = routine_modules(alloc, program, spreads, wanted, plans)?;
     if !has_idle(program) {
         return Ok(modules);
     }

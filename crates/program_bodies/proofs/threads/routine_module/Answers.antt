@@ -4,7 +4,7 @@ use Rattle.program_modules.specs.Numbers.{module_name}
 use Rattle.program_plans.specs.Plans.{routine_of}
 use Rattle.program_bodies.specs.Bodies.{shape_of}
 use Rattle.program_bodies.proofs.LaidModules.{laid_for}
-use Rattle.program_bodies.proofs.threads.function_module.Goals as goal
+use Rattle.program_bodies.proofs.threads.routine_module.Goals as goal
 
 pub returns : goal.returns
 returns c =

@@ -5,15 +5,15 @@ use Rattle.netlist.specs.declared.netlist.Module.{Module}
 use Rattle.program_plans.specs.Plans.{routine_of}
 use Rattle.program_bodies.specs.Modules.{AreLaid}
 use Rattle.program_bodies.proofs.LaidModules.{none_laid, one_more, function_named, laid_at_place}
-use Rattle.program_bodies.proofs.threads.function_modules.Goals as goal
+use Rattle.program_bodies.proofs.threads.routine_modules.Goals as goal
 
 pub loop-k-init : goal.loop-k-init
 loop-k-init c =
     subst (λ (ms : List Module). AreLaid (program_of c.args.program.now) c.args.spreads.now c.args.wanted.now (map routine_of c.args.plans.now) 0 ms) (sym c.new-modules.ensures)
     (none_laid (program_of c.args.program.now) c.args.spreads.now c.args.wanted.now (map routine_of c.args.plans.now))
 
-pub function_module-requires : goal.function_module-requires
-function_module-requires c =
+pub routine_module-requires : goal.routine_module-requires
+routine_module-requires c =
     let at : slice_get c.args.plans.now c.loop-k.k ≡ Some c.index-plans-k.result = slice_get-get_or c.args.plans.now c.loop-k.k _ c.loop-k-test.true ∙ ap Some (sym c.index-plans-k.is) in
     function_named (program_of c.args.program.now) c.requires.resolved c.args.plans.now c.requires.planned c.loop-k.k c.index-plans-k.result at
 
