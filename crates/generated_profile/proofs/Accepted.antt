@@ -10,6 +10,7 @@ use Rattle.generated_profile.proofs.Texts.{text_length, text_tokens, text_lexes}
 use Rattle.generated_profile.proofs.Reading as read
 use Rattle.generated_profile.proofs.Whole as whole
 use Rattle.generated_profile.proofs.Limits as limits
+use Rattle.generated_profile.proofs.Generated.{is_generated}
 
 pub generated_is_accepted : GeneratedIsAccepted
 generated_is_accepted zero lines some most few = absurd (omega (arith, some))
@@ -32,5 +33,6 @@ generated_is_accepted (suc k) lines some most few =
           weighs = refl;
         };
       },
+      is_generated k most (read.before (suc k) lines) (read.last (suc k) lines) (read.at (suc k) lines) o lines,
       limits.threads_are k most (read.before (suc k) lines) (read.last (suc k) lines) (read.at (suc k) lines) o lines few,
     )

@@ -41,18 +41,12 @@ use Rattle.c_resolution.specs.Simple.{simple, assigned, compound, compound_by, c
 use Rattle.c_resolution.specs.States.{state, in_scope}
 use Rattle.c_resolution.specs.Statements.{Adds, item, with_step}
 use Rattle.generated_text.specs.declared.draws.Letter.{Letter}
-use Rattle.generated_text.specs.declared.draws.Letter.TheVariants.{A, B, C, D}
 use Rattle.generated_text.specs.Text.{byte_of}
+use Rattle.generated_program.specs.Worker.{local_of}
 use Rattle.generated_profile.proofs.Trees as tr
 use Rattle.generated_profile.proofs.Layers.{variable_value, constant_value, between_value, right_of, target_alone, target_element, address_alone}
 use Rattle.generated_profile.proofs.Layers.{call_is, lock_is, unlock_is}
 use Rattle.generated_profile.proofs.Layers.{statement_item, simple_statement}
-
-abbrev pub local_of : Letter → ℕ
-local_of A = 2
-local_of B = 3
-local_of C = 4
-local_of D = 5
 
 abbrev pub automatic : ℕ → BasicType → Meaning
 automatic n ty = meaning.Variable (record { storage = Automatic; number = n; ty = ty; length = None; is_const = false })

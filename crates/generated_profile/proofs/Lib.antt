@@ -24,4 +24,5 @@ mod MainCalls
 mod MainBody
 mod Whole
 mod Limits
+mod Generated
 mod Accepted

@@ -195,6 +195,9 @@ worker_calls size at after o lines =
 
 -- ---- the program
 
+pub size_is : (k : ℕ) → suc k ≤ 63 → size_of (suc k) ≡ suc k
+size_is k fits = omega (arith, fits)
+
 module _ (k : ℕ) (fits : suc k ≤ 63) (before behind_lines last : ℕ → ℕ) (o : ℕ) (lines : List Line) (few : length lines ≤ 1000) where
   abbrev P : Program
   P = whole.program k before behind_lines last o lines
@@ -202,13 +205,10 @@ module _ (k : ℕ) (fits : suc k ≤ 63) (before behind_lines last : ℕ → ℕ
   abbrev size : ℕ
   size = size_of (suc k)
 
-  pub size_is : size ≡ suc k
-  size_is = omega (arith, fits)
-
   objects_within : over_objects P ≡ None
   objects_within =
       both _ _ (over_none limit.Functions 2 (omega arith))
-      (both _ _ (over_none limit.ThreadIds (thread_ids P) (omega (arith, size_is, fits)))
+      (both _ _ (over_none limit.ThreadIds (thread_ids P) (omega (arith, size_is k fits, fits)))
       (both _ _ (over_none limit.MutexElements 1 (omega arith)) (over_none limit.BarrierElements 0 (omega arith))))
 
   main_prints : print_count (whole.main_function_is k before behind_lines last o lines).body ≡ 2
@@ -217,8 +217,8 @@ module _ (k : ℕ) (fits : suc k ≤ 63) (before behind_lines last : ℕ → ℕ
 
   data_within : over_data P ≡ None
   data_within =
-      both _ _ (over_none limit.OneArray (longest_array P) (omega (arith, size_is, fits)))
-      (both _ _ (over_none limit.GlobalElements (global_elements P) (omega (arith, size_is, fits)))
+      both _ _ (over_none limit.OneArray (longest_array P) (omega (arith, size_is k fits, fits)))
+      (both _ _ (over_none limit.GlobalElements (global_elements P) (omega (arith, size_is k fits, fits)))
       (over_none limit.PrintSites (capped (print_sites P)) (omega (arith, worker_prints size before behind_lines o lines, main_prints))))
 
   abbrev no_worker_calls : calls_of (whole.worker_is k before behind_lines last o lines).body ≡ []
@@ -250,4 +250,4 @@ module _ (k : ℕ) (fits : suc k ≤ 63) (before behind_lines last : ℕ → ℕ
   limits = both _ _ objects_within (both _ _ data_within inlined_within)
 
   pub threads_are : thread_count P ≡ suc k + 1
-  threads_are = omega (arith, size_is)
+  threads_are = omega (arith, size_is k fits)

@@ -1,4 +1,4 @@
-//! The law that the text of a generated program is accepted.
+//! The laws of the text of a generated program: it has a tree, and is accepted as the program that it writes out.
 #![tactic(auto)]
 
 ghost use Rattle.generated_profile.specs.Laws.{GeneratedHasTree, GeneratedIsAccepted};
@@ -8,7 +8,8 @@ pub fn generated_has_tree()
     ensures { GeneratedHasTree }
 {}
 
-/// The text of 1 to 63 threads and at most 1,000 lines is accepted, and its program has that many threads beside main.
+/// The text of 1 to 63 threads and at most 1,000 lines is accepted. Its program is, statement by statement, the one that the text writes
+/// out (`IsGenerated`), and has that many threads beside main.
 pub fn generated_is_accepted()
     ensures { GeneratedIsAccepted }
 {}
