@@ -25,4 +25,4 @@ mod MainBody
 mod Whole
 mod Limits
 mod Generated
-mod Accepted
+pub mod Accepted
