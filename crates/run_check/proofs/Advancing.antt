@@ -1,6 +1,6 @@
 -- One more step of a run, as the code takes it.
-use Rattle.std.proofs.Common.{◌≡◌, ℕ, zero, suc, ◌+◌, ◌<◌, ◌≤◌, List, [], ◌∷◌, ◌++◌, length, refl, ap, sym, ◌∙◌, subst, ⊎_elim, inl, inr, arith, add-one}
-use Rattle.std.specs.Prelude.{Bool, true, false, Vec, Option, Some, None, Result, Ok, Err, IfOk, slice_get}
+use Rattle.std.proofs.Common.{◌≡◌, ℕ, zero, suc, ◌+◌, ◌<◌, ◌≤◌, List, [], ◌∷◌, ◌++◌, length, refl, ap, sym, ◌∙◌, subst, ⊎_elim, arith}
+use Rattle.std.specs.Prelude.{true, false, Vec, None, Result, Ok, Err, IfOk, slice_get}
 use Rattle.std.specs.declared.alloc.Global.{Global}
 use Rattle.std.proofs.lemmas.Bool.{cases_lt}
 use Rattle.lists.proofs.Places.{length_more}
@@ -125,7 +125,7 @@ next_of P a b c i progress.Stepped other x y = λ run. let z = y (same_run P a b
 next_of P a b c i progress.Blocked other x y = absurd (other refl)
 next_of P a b c i (progress.Undefined thread offset cause) other x y =
     (same_on a b c x y.0, subst (λ s. step P s thread ≡ Undefines offset cause) x.state y.1)
-next_of P a b c i (progress.Unordered thread stamp on_mutex) other x y = tt
+next_of P a b c i (progress.Unordered thread stamp class) other x y = tt
 
 -- what a run is that has stopped
 pub stopped_of : (P : Program) (a b : Run) (p : Progress) → (p ≡ progress.Stepped → ⊥) → IsRun P a → a.state.ended ≡ false → IsNext P a b p → IsStopped P b p
@@ -140,7 +140,7 @@ stopped_of P a b (progress.Undefined thread offset cause) other run running x = 
   ap (λ (s : State). s.ended) x.0.state ∙ running,
   subst (λ s. step P s thread ≡ Undefines offset cause) (sym x.0.state) x.1,
 )
-stopped_of P a b (progress.Unordered thread stamp on_mutex) other run running x = tt
+stopped_of P a b (progress.Unordered thread stamp class) other run running x = tt
 
 pub ok_given : {V E : Type 0} (r : Result V E) (A : Type 0) (B : V → Type 0) → IfOk r (λ v. A → B v) → A → IfOk r B
 ok_given (Ok v) A B x a = x a

@@ -5,7 +5,7 @@ use Rattle.std.proofs.lemmas.Bool.{eqb-true, eq-eqb, leb-true}
 use Rattle.run_check.specs.declared.clocks.Stamp.{Stamp}
 use Rattle.run_check.specs.declared.class.Class.{Class}
 use Rattle.run_check.specs.Clocks.{is_heard, ticked}
-use Rattle.run_check.specs.Shadow.{ClocksAfter, stamp, next_stamp}
+use Rattle.run_check.specs.Shadow.{ClocksAfter, next_stamp}
 use Rattle.run_check.specs.Shown.{Covers, HasPeaks}
 use Rattle.run_check.proofs.Telling.{told_class, told_more, told_by}
 

@@ -1,6 +1,6 @@
 -- The last accesses to the elements of globals, once one more is kept.
-use Rattle.std.proofs.Common.{◌≡◌, ◌≢◌, ℕ, zero, suc, ◌<◌, ◌≤◌, List, [], ◌∷◌, length, get_or, refl, ap, ap₂, sym, ◌∙◌, subst, ⊎_elim, inl, inr, arith}
-use Rattle.std.specs.Prelude.{◌⊎◌, Bool, true, false, Vec, Option, Some, None, slice_get, slice_set, slice_index, Contains}
+use Rattle.std.proofs.Common.{◌≡◌, ℕ, zero, suc, ◌<◌, List, [], ◌∷◌, length, get_or, refl, ap, ap₂, sym, ◌∙◌, subst, ⊎_elim, inl, inr, arith}
+use Rattle.std.specs.Prelude.{◌⊎◌, true, false, Vec, Some, slice_get, slice_set, Contains}
 use Rattle.std.specs.List.{AllByRecursion}
 use Rattle.std.specs.declared.alloc.Global.{Global}
 use Rattle.std.proofs.lemmas.Bool.{cases_eq}
@@ -10,7 +10,7 @@ use Rattle.thread_semantics.specs.Races.{Touch}
 use Rattle.run_check.specs.declared.clocks.Stamp.{Stamp}
 use Rattle.run_check.specs.declared.elements.Element.{Element}
 use Rattle.run_check.specs.Objects.{Elements, element_in, element_at, write_of, read_of, write_at, read_at}
-use Rattle.run_check.specs.Marks.{IsElementMarked, IsRowMarked, IsOneMarked}
+use Rattle.run_check.specs.Marks.{IsElementMarked, IsOneMarked}
 use Rattle.run_check.specs.Shadow.{IsMarked}
 
 abbrev location : ℕ → ℕ → Location

@@ -1,7 +1,6 @@
 -- What a step at a barrier leaves of it.
 use Rattle.std.proofs.Common.{◌≡◌, ◌≢◌, ℕ, ◌+◌, List, [], ◌∷◌, length, refl, ap, sym, ◌∙◌, subst, ⊎_elim, inl, inr}
-use Rattle.std.specs.Prelude.{◌⊎◌, Bool, true, false, ◌||◌, if◌then◌else◌, nat_eq, Option, Some, None, slice_get, ℤ, unsigned_abs}
-use Rattle.std.specs.List.{list_any}
+use Rattle.std.specs.Prelude.{◌⊎◌, Bool, true, false, if◌then◌else◌, nat_eq, Option, Some, None, slice_get, ℤ, unsigned_abs}
 use Rattle.std.proofs.lemmas.Bool.{eq-eqb, cases_eq, or_left, or_right}
 use Rattle.lists.proofs.Places.{set_there}
 use Rattle.c_program.specs.Tree.{Program}

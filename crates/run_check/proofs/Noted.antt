@@ -1,15 +1,15 @@
 -- A step is noted: its parts together.
-use Rattle.std.proofs.Common.{◌≡◌, ℕ, ◌+◌, ◌≤◌, List, [], ◌∷◌, refl, ap, sym, ◌∙◌, subst, ⊎_elim, inl, inr, arith}
-use Rattle.std.specs.Prelude.{◌⊎◌, Bool, true, Option, Some, None, Contains}
+use Rattle.std.proofs.Common.{◌≡◌, ℕ, ◌≤◌, List, [], ◌∷◌, ap, ◌∙◌, subst, ⊎_elim, inl, inr, arith}
+use Rattle.std.specs.Prelude.{Bool, true, Option, Some}
 use Rattle.thread_semantics.specs.Races.{Touch}
 use Rattle.run_check.specs.declared.clocks.Stamp.{Stamp}
 use Rattle.run_check.specs.declared.class.Class.{Class}
 use Rattle.run_check.specs.declared.class.Class.TheVariants as class
 use Rattle.run_check.specs.declared.known.Known.{Known}
-use Rattle.run_check.specs.Clocks.{Rows, clock, is_heard, Ticks, ticked}
-use Rattle.run_check.specs.Class.{mutex_of, barrier_of, id_of, opened, barrier_set}
+use Rattle.run_check.specs.Clocks.{Rows, clock, is_heard, Ticks}
+use Rattle.run_check.specs.Class.{is_print, mutex_of, barrier_of, id_of, barrier_set}
 use Rattle.run_check.specs.Objects.{stamp_at, write_at, read_at}
-use Rattle.run_check.specs.Shadow.{stamp, next_stamp, ClocksAfter, IsOrdered, AreOrdered, IsMarked, IsUsed, IsNoted}
+use Rattle.run_check.specs.Shadow.{stamp, next_stamp, last_print, IsOrdered, AreOrdered, IsMarked, IsUsed, IsNoted}
 use Rattle.run_check.specs.Known.{shadow_of, IsActOrdered, IsPut, IsTold}
 use Rattle.run_check.proofs.LastAccesses.{one_of_all}
 
@@ -36,8 +36,10 @@ pub noted : (old new : Known) (mid : Rows) (i n : ℕ) (c : Class) (touches : Li
     IsPut (stamp_at old.mutexes.items) (stamp_at new.mutexes.items) (stamp i n) (mutex_of c) →
     IsPut (stamp_at old.barriers.items) (stamp_at new.barriers.items) (stamp i n) (barrier_set c r) →
     IsPut (stamp_at old.ids.items) (stamp_at new.ids.items) (stamp i n) (id_of c) →
+    new.print ≡ last_print (is_print c) (stamp i n) old.print →
+    (new.one_output ≡ true → (old.one_output ≡ true) × (is_print c ≡ true → is_heard (clock old.clocks.items i) old.print ≡ true)) →
     IsTold mid new.clocks.items i c r → IsNoted (shadow_of old) (shadow_of new) i c touches r ended
-noted old new mid i n c touches r ended accesses act last ticks marks mutex barrier id told =
+noted old new mid i n c touches r ended accesses act last ticks marks mutex barrier id print outputs told =
     let is : stamp i n ≡ next_stamp (clock old.clocks.items) i = ap (stamp i) ticks.number in
     let heard = clock old.clocks.items i in
     let next = next_stamp (clock old.clocks.items) i in
@@ -59,5 +61,7 @@ noted old new mid i n c touches r ended accesses act last ticks marks mutex barr
           used (stamp_at old.barriers.items) (stamp_at new.barriers.items) heard (stamp i n) next (barrier_set c r) is
           (λ x e. act.barrier x (set_barrier c r x e)) barrier;
       meets = act.barrier;
+      print = print ∙ ap (λ (step : Stamp). last_print (is_print c) step old.print) is;
+      outputs = outputs;
       last = last;
     }

@@ -1,21 +1,20 @@
 -- The steps of a run that what is kept of it stands for: the next step, once it is noted, happens behind those on which it
 -- depends, and what is kept stands for it too.
-use Rattle.std.proofs.Common.{◌≡◌, ◌≢◌, ℕ, ◌+◌, ◌≤◌, List, [], ◌∷◌, ◌++◌, refl, ap, sym, ◌∙◌, subst, ⊎_elim, inl, inr, arith}
-use Rattle.std.specs.Prelude.{◌⊎◌, Bool, true, false, ◌||◌, nat_eq, Option, Some, slice_get, Contains}
-use Rattle.std.proofs.lemmas.Bool.{eqb-true, ne_eqb, or_from, or_cases, cases_Bool}
+use Rattle.std.proofs.Common.{◌≡◌, ℕ, ◌+◌, ◌≤◌, List, refl, ap, sym, ◌∙◌, subst, ⊎_elim, inl, inr, arith}
+use Rattle.std.specs.Prelude.{◌⊎◌, Bool, true, false, ◌||◌, nat_eq, Option, Some, Contains}
+use Rattle.std.proofs.lemmas.Bool.{eqb-true, ne_eqb, or_from, cases_Bool}
 use Rattle.c_program.specs.Tree.{Program}
-use Rattle.thread_semantics.specs.Memory.{Location}
 use Rattle.thread_semantics.specs.State.{State}
 use Rattle.thread_semantics.specs.Move.{Move}
 use Rattle.thread_semantics.specs.Step.{Steps, step}
 use Rattle.thread_semantics.specs.Races.{Touch, touched}
-use Rattle.run_races.specs.Order.{next_move, barrier_of_move, awaited, told, waits_in, Meet, Conflict, Depends, OnData, OnMutex, OnBarrier, OnId, OnAll}
+use Rattle.run_races.specs.Order.{next_move, barrier_of_move, prints, told, Meet, Conflict, Depends, DependsOrPrints, OnData, OnMutex, OnBarrier, OnId, OnAll}
 use Rattle.run_check.specs.declared.clocks.Stamp.{Stamp}
 use Rattle.run_check.specs.declared.class.Class.{Class}
 use Rattle.run_check.specs.Clocks.{is_heard}
-use Rattle.run_check.specs.Class.{class_of, mutex_of, barrier_of, id_of, barrier_set, released_by}
-use Rattle.run_check.specs.Shadow.{Shadow, stamp, next_stamp, IsUsed, IsNoted}
-use Rattle.run_check.proofs.Telling.{told_class, told_is, told_wider, told_all, mutex_is, barrier_is, id_is}
+use Rattle.run_check.specs.Class.{class_of, is_print, mutex_of, id_of, barrier_set, released_by}
+use Rattle.run_check.specs.Shadow.{Shadow, stamp, next_stamp, last_print, IsUsed, IsNoted}
+use Rattle.run_check.proofs.Telling.{told_class, told_is, told_wider, told_all, mutex_is, barrier_is, id_is, prints_is}
 use Rattle.run_check.specs.Shown.{Covers, HasPeaks, IsWaiting, StandsFor}
 use Rattle.run_check.proofs.Covers.{covers_as, heard_by, covers_on, covers_new, peaks_on}
 use Rattle.run_check.proofs.Meetings.{LetGo, awaits, sets, main_ended, waits_on, stands_still}
@@ -89,6 +88,23 @@ module _ (P : Program) (s t : State) (j : ℕ) (K K' : Shadow) (steps : step P s
         let past = y.own.past in
         inl (y.own.known j (omega (arith, past, last)))
 
+    -- and behind the last print, where prints are ordered
+    pub ordered_prints : K'.one_output ≡ true → DependsOrPrints e j m → (h j ≡ true) ⊎ Meet s i e again m
+    ordered_prints one (inl depends) = ordered depends
+    ordered_prints one (inr both) =
+        let o = x.outputs one in
+        inl (heard_by K.clock K.print h j (y.print o.0 both.first) (o.1 (prints_is m ∙ both.second)))
+
+    print_on : K'.one_output ≡ true → prints e ≡ true → Covers K'.clock K'.print (after h)
+    print_on one q =
+        let o = x.outputs one in
+        let old = y.print o.0 q in
+        ⊎_elim
+        (λ w. subst (λ step. Covers K'.clock step (after h)) (sym (x.print ∙ ap (λ b. last_print b (next_stamp K.clock j) K.print) w))
+        (heard_new h (heard_by K.clock K.print h j old (o.1 w))))
+        (λ w. subst (λ step. Covers K'.clock step (after h)) (sym (x.print ∙ ap (λ b. last_print b (next_stamp K.clock j) K.print) w))
+        (kept K.print h old)) (cases_Bool (is_print c))
+
     written_on : (a : Touch) → Contains (touched e) a → a.written ≡ true → Covers K'.clock (K'.write a.place) (after h)
     written_on a in_it w =
         ⊎_elim (λ same. subst (λ step. Covers K'.clock step (after h)) (sym same) (kept (K.write a.place) h (y.written a in_it w)))
@@ -124,6 +140,7 @@ module _ (P : Program) (s t : State) (j : ℕ) (K K' : Shadow) (steps : step P s
       own = kept (stamp i y.number) h y.own;
       written = written_on;
       was_read = read_on;
+      print = print_on;
       mutex = λ z q. used K.mutex K'.mutex (mutex_of c) h z x.mutex (y.mutex z q);
       id = λ z q. used K.id K'.id (id_of c) h z x.id (y.id z q);
       barrier = λ z q.
@@ -136,6 +153,9 @@ module _ (P : Program) (s t : State) (j : ℕ) (K K' : Shadow) (steps : step P s
     own = own_new;
     written = λ a in_it w. subst (λ step. Covers K'.clock step (after (nat_eq j))) (sym (x.marks.written a in_it w)) own_new;
     was_read = λ a in_it w. subst (λ n. Covers K'.clock (stamp j n) (after (nat_eq j))) (sym (x.marks.was_read a in_it w)) own_new;
+    print = λ one q.
+        subst (λ step. Covers K'.clock step (after (nat_eq j)))
+        (sym (x.print ∙ ap (λ b. last_print b (next_stamp K.clock j) K.print) (prints_is m ∙ q))) own_new;
     mutex = λ z q. subst (λ step. Covers K'.clock step (after (nat_eq j))) (sym (x.mutex.set z q)) own_new;
     id = λ z q. subst (λ step. Covers K'.clock step (after (nat_eq j))) (sym (x.id.set z q)) own_new;
     barrier = λ z q.
@@ -151,6 +171,7 @@ module _ (P : Program) (s t : State) (j : ℕ) (K K' : Shadow) (steps : step P s
         own = on (stamp i z.number) z.own;
         written = λ a in_it w. on (K'.write a.place) (z.written a in_it w);
         was_read = λ a in_it w. on (stamp i (K'.read a.place i)) (z.was_read a in_it w);
+        print = λ one q. on K'.print (z.print one q);
         mutex = λ n q. on (K'.mutex n) (z.mutex n q);
         id = λ n q. on (K'.id n) (z.id n q);
         barrier = λ n q. ⊎_elim (λ y. inl (on (K'.barrier n) y)) (λ w. inr w) (z.barrier n q);

@@ -1,6 +1,6 @@
 -- What the next step of a thread acts on, by the code's plan of it.
 use Rattle.std.proofs.Common.{◌≡◌, ℕ, List, [], ◌∷◌, refl, ap, sym, ◌∙◌}
-use Rattle.std.specs.Prelude.{ℤ, Some, slice_get}
+use Rattle.std.specs.Prelude.{ℤ}
 use Rattle.std.specs.Option.{option_to_list}
 use Rattle.c_program.specs.Tree.{Program}
 use Rattle.thread_semantics.specs.State.{Frame, State}
@@ -11,7 +11,6 @@ use Rattle.c_step_parts.specs.declared.plan.Plan.{Plan}
 use Rattle.c_step_parts.specs.declared.plan.Plan.TheVariants as plan
 use Rattle.c_step_parts.specs.Plan.{erased, plan_of}
 use Rattle.c_step_parts.specs.Planned.{IsPlan}
-use Rattle.run_check.specs.declared.class.Class.{Class}
 use Rattle.run_check.specs.declared.class.Class.TheVariants as class
 use Rattle.run_check.specs.Class.{class_of, plan_class}
 

@@ -1,10 +1,10 @@
 -- The clocks as rows of numbers.
-use Rattle.std.proofs.Common.{◌≡◌, ◌≢◌, ℕ, zero, suc, ◌+◌, ◌≤◌, ◌<◌, List, [], ◌∷◌, ◌++◌, length, replicate, get_or, refl, ap, sym, ◌∙◌, subst, ⊎_elim, inl, inr, arith}
+use Rattle.std.proofs.Common.{◌≡◌, ℕ, zero, suc, ◌+◌, ◌≤◌, ◌<◌, List, [], ◌∷◌, ◌++◌, length, replicate, get_or, refl, ap, sym, ◌∙◌, ⊎_elim, inl, inr, arith}
 use Rattle.std.specs.Prelude.{◌⊎◌, Bool, true, false, ◌&&◌, if◌then◌else◌, nat_eq, Vec, Option, Some, None, MatchOption, ⊤, slice_get, slice_set, slice_index}
 use Rattle.std.specs.declared.alloc.Global.{Global}
 use Rattle.std.proofs.lemmas.Bool.{cases_eq, cases_lt, eq-eqb, ne_eqb, or_left, or_right}
 use Rattle.std.proofs.lemmas.List.{get_or-set_same, get_or-set_other, get_or_past}
-use Rattle.lists.proofs.Places.{set_there, set_elsewhere, get_there}
+use Rattle.lists.proofs.Places.{set_there, set_elsewhere}
 use Rattle.run_races.specs.Order.{is_in}
 use Rattle.run_check.specs.Clocks.{Rows, items_of, row, clock, IsRaised, Hears, Shares, IsTickedRow, Ticks, ticked}
 

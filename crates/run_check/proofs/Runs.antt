@@ -1,6 +1,6 @@
 -- A run of which each step was noted, and what remains to be shown of how it goes on.
-use Rattle.std.proofs.Common.{◌≡◌, ℕ, zero, suc, ◌+◌, ◌<◌, ◌≤◌, length, take, get_or, replicate, List, [], ◌∷◌, ◌++◌, refl, ap, sym, ◌∙◌, subst, append_assoc}
-use Rattle.std.specs.Prelude.{Bool, true, false, ◌||◌, nat_eq}
+use Rattle.std.proofs.Common.{◌≡◌, ℕ, zero, suc, ◌+◌, ◌<◌, length, take, get_or, replicate, List, [], ◌∷◌, ◌++◌, refl, ap, sym, ◌∙◌, subst, append_assoc}
+use Rattle.std.specs.Prelude.{◌⊎◌, Bool, true, false, ◌||◌, nat_eq}
 use Rattle.std.proofs.lemmas.List.{append-nil, take_more}
 use Rattle.c_program.specs.Tree.{Program}
 use Rattle.thread_semantics.specs.State.{State, start}
@@ -10,12 +10,12 @@ use Rattle.thread_semantics.specs.Races.{touched}
 use Rattle.turns.specs.declared.Turn.{Turn}
 use Rattle.turns.specs.Turns.{threads_of}
 use Rattle.run_check.specs.Race.{LeadsTo, IsTurnTaken}
-use Rattle.run_races.specs.Order.{next_move, told, AllOrdered}
-use Rattle.run_races.specs.Clean.{IsClean}
+use Rattle.run_races.specs.Order.{next_move, told, Meet, Depends, DependsOrPrints, AllOrderedBy}
+use Rattle.run_races.specs.Clean.{IsOrderedBy, IsClean, IsOrdered}
 use Rattle.run_check.specs.Class.{class_of, released_by}
 use Rattle.run_check.specs.Shadow.{Shadow, IsNoted}
-use Rattle.run_check.specs.Shown.{HasPeaks, StandsFor, IsShown}
-use Rattle.run_check.proofs.Ordered.{ordered, stays, stands_new, noted_peaks}
+use Rattle.run_check.specs.Shown.{HasPeaks, StandsFor, GoesOn, IsShown}
+use Rattle.run_check.proofs.Ordered.{ordered, ordered_prints, stays, stands_new, noted_peaks}
 
 pub and_step : (P : Program) (stepped : Stepped) (list : List ℕ) (s t : State) (j : ℕ) → and_steps P stepped list ≡ Steps s → step P s j ≡ Steps t →
     and_steps P stepped (list ++ j ∷ []) ≡ Steps t
@@ -30,7 +30,28 @@ pub after_step : (P : Program) (list : List ℕ) (s t : State) (j : ℕ) → aft
 after_step P list s t j e q = and_step P (Steps (start P)) list s t j e q
 
 pub none_shown : (P : Program) (K : Shadow) → HasPeaks K.clock → IsShown P [] (start P) K
-none_shown P K peaks = record { taken = refl; peaks = peaks; rest = λ rest all clean. clean }
+none_shown P K peaks = record { taken = refl; peaks = peaks; clean = λ rest all clean. clean; outputs = λ one rest all clean. clean }
+
+-- what is kept of a run behind one more step, by a dependence of which the step happens behind all
+goes_on : (D : Move → ℕ → Move → Type 0) (P : Program) (list : List ℕ) (s t : State) (j : ℕ) (K K' : Shadow) → HasPeaks K.clock → (steps : step P s j ≡ Steps t) →
+    IsNoted K K' j (class_of (next_move P s j)) (touched (next_move P s j)) (released_by s j (class_of (next_move P s j))) t.ended →
+    ((i : ℕ) (m : Move) (h : ℕ → Bool) (again : Bool) → StandsFor s K i m h again → D m j (next_move P s j) → (h j ≡ true) ⊎ Meet s i m again (next_move P s j)) →
+    GoesOn D P list s K → GoesOn D P (list ++ j ∷ []) t K'
+goes_on D P list s t j K K' peaks steps x behind on = λ rest all clean.
+    subst (λ l. IsOrderedBy D P (start P) l) (sym (append_assoc list (j ∷ []) rest))
+    (on (j ∷ rest)
+    (λ i m h again y. (
+      behind i m h again y,
+      (λ u e.
+          let same : t ≡ u = cc in
+          subst (λ v. AllOrderedBy D P i m (told s j (next_move P s j) h) (again || nat_eq j i) v rest) same
+          (all i m (told s j (next_move P s j) h) (again || nat_eq j i) (stays P s t j K K' steps peaks x i m h again y))),
+    )) (
+      t,
+      steps,
+      all j (next_move P s j) (told s j (next_move P s j) (nat_eq j)) false (stands_new P s t j K K' steps peaks x),
+      clean,
+    ))
 
 pub one_more : (P : Program) (list : List ℕ) (s t : State) (j : ℕ) (K K' : Shadow) → IsShown P list s K → step P s j ≡ Steps t →
     IsNoted K K' j (class_of (next_move P s j)) (touched (next_move P s j)) (released_by s j (class_of (next_move P s j))) t.ended →
@@ -38,26 +59,19 @@ pub one_more : (P : Program) (list : List ℕ) (s t : State) (j : ℕ) (K K' : S
 one_more P list s t j K K' z steps x = record {
   taken = after_step P list s t j z.taken steps;
   peaks = noted_peaks P s t j K K' steps z.peaks x;
-  rest = λ rest all clean.
-      subst (λ l. IsClean P (start P) l) (sym (append_assoc list (j ∷ []) rest))
-      (z.rest (j ∷ rest)
-      (λ i m h again y. (
-        ordered P s t j K K' steps z.peaks x i m h again y,
-        (λ u e.
-            let same : t ≡ u = cc in
-            subst (λ v. AllOrdered P i m (told s j (next_move P s j) h) (again || nat_eq j i) v rest) same
-            (all i m (told s j (next_move P s j) h) (again || nat_eq j i) (stays P s t j K K' steps z.peaks x i m h again y))),
-      )) (
-        t,
-        steps,
-        all j (next_move P s j) (told s j (next_move P s j) (nat_eq j)) false (stands_new P s t j K K' steps z.peaks x),
-        clean,
-      ));
+  clean = goes_on Depends P list s t j K K' z.peaks steps x (ordered P s t j K K' steps z.peaks x) z.clean;
+  outputs = λ one.
+      goes_on DependsOrPrints P list s t j K K' z.peaks steps x
+      (λ i m h again y. ordered_prints P s t j K K' steps z.peaks x i m h again y one) (z.outputs (x.outputs one).0);
 }
 
 pub all_shown : (P : Program) (list : List ℕ) (s : State) (K : Shadow) → IsShown P list s K → s.ended ≡ true → IsClean P (start P) list
 all_shown P list s K z ended =
-    subst (λ l. IsClean P (start P) l) (append-nil list) (z.rest [] (λ i m h again y. tt) ended)
+    subst (λ l. IsClean P (start P) l) (append-nil list) (z.clean [] (λ i m h again y. tt) ended)
+
+pub all_ordered : (P : Program) (list : List ℕ) (s : State) (K : Shadow) → IsShown P list s K → s.ended ≡ true → K.one_output ≡ true → IsOrdered P (start P) list
+all_ordered P list s K z ended one =
+    subst (λ l. IsOrdered P (start P) l) (append-nil list) (z.outputs one [] (λ i m h again y. tt) ended)
 
 pub replicate_more : (n x : ℕ) → replicate n x ++ x ∷ [] ≡ replicate (suc n) x
 replicate_more zero x = refl

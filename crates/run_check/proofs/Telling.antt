@@ -1,16 +1,16 @@
 -- Who has heard of a step, by what the next step acts on.
-use Rattle.std.proofs.Common.{◌≡◌, ℕ, List, [], ◌∷◌, refl, ap, sym, ◌∙◌, ⊎_elim, inl, inr}
-use Rattle.std.specs.Prelude.{◌⊎◌, Bool, true, false, ◌&&◌, ◌||◌, nat_eq, Option, slice_get}
+use Rattle.std.proofs.Common.{◌≡◌, ℕ, List, [], ◌∷◌, refl, ap, sym, ◌∙◌, ⊎_elim}
+use Rattle.std.specs.Prelude.{Bool, true, ◌&&◌, ◌||◌, nat_eq}
 use Rattle.std.specs.List.{list_any}
 use Rattle.std.proofs.lemmas.Bool.{eqb-true, eq-eqb, and_parts, and_from, or_left, or_right, or_cases}
 use Rattle.thread_semantics.specs.Work.{Act}
 use Rattle.thread_semantics.specs.State.{State}
 use Rattle.thread_semantics.specs.Move.{Move}
 use Rattle.thread_semantics.specs.Races.{id_of_move}
-use Rattle.run_races.specs.Order.{is_in, told, mutex_of_move, barrier_of_move}
+use Rattle.run_races.specs.Order.{is_in, told, mutex_of_move, barrier_of_move, prints}
 use Rattle.run_check.specs.declared.class.Class.{Class}
 use Rattle.run_check.specs.declared.class.Class.TheVariants as class
-use Rattle.run_check.specs.Class.{class_of, mutex_of, barrier_of, id_of, released_by, Tells}
+use Rattle.run_check.specs.Class.{class_of, is_print, mutex_of, barrier_of, id_of, released_by, Tells}
 
 abbrev pub told_class : Class → List ℕ → ℕ → (ℕ → Bool) → ℕ → Bool
 told_class (class.Creates n) released i heard j = heard j || (nat_eq j n && heard i)
@@ -70,6 +70,19 @@ id_is (Move.Acts offset Act.BarrierInit operands fs) = refl
 id_is (Move.Acts offset Act.BarrierDestroy operands fs) = refl
 id_is (Move.Acts offset Act.BarrierWait operands fs) = refl
 id_is m = refl
+
+pub prints_is : (m : Move) → is_print (class_of m) ≡ prints m
+prints_is (Move.Acts offset (Act.Print format) operands fs) = refl
+prints_is (Move.Acts offset (Act.Create routine) operands fs) = refl
+prints_is (Move.Acts offset Act.Join operands fs) = refl
+prints_is (Move.Acts offset Act.MutexInit operands fs) = refl
+prints_is (Move.Acts offset Act.MutexDestroy operands fs) = refl
+prints_is (Move.Acts offset Act.MutexLock operands fs) = refl
+prints_is (Move.Acts offset Act.MutexUnlock operands fs) = refl
+prints_is (Move.Acts offset Act.BarrierInit operands fs) = refl
+prints_is (Move.Acts offset Act.BarrierDestroy operands fs) = refl
+prints_is (Move.Acts offset Act.BarrierWait operands fs) = refl
+prints_is m = refl
 
 any_of : (p : ℕ → Bool) (xs : List ℕ) (v : ℕ) → is_in v xs ≡ true → p v ≡ true → list_any p xs ≡ true
 any_of p [] v x e = absurd cc

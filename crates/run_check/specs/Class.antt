@@ -1,5 +1,5 @@
 -- What a step acts on, and which threads tell which what they have heard.
-use Rattle.std.specs.Prelude.{◌≡◌, ℕ, true, List, [], ◌∷◌, ℤ, Option, Some, None, slice_get}
+use Rattle.std.specs.Prelude.{◌≡◌, ℕ, Bool, true, false, List, [], ◌∷◌, Option, Some, None, slice_get}
 use Rattle.thread_semantics.specs.Work.{Act}
 use Rattle.thread_semantics.specs.State.{State}
 use Rattle.thread_semantics.specs.Move.{Move, Acts}
@@ -12,7 +12,7 @@ use Rattle.run_check.specs.declared.class.Class.{Class}
 use Rattle.run_check.specs.declared.class.Class.TheVariants as class
 
 abbrev pub class_of_act : Act → ℕ → Class
-class_of_act (Act.Print format) n = class.Plain
+class_of_act (Act.Print format) n = class.Prints
 class_of_act (Act.Create routine) n = class.Creates n
 class_of_act Act.Join n = class.Joins n
 class_of_act Act.MutexInit n = class.UsesMutex n
@@ -31,6 +31,10 @@ class_of m = class.Plain
 abbrev pub plan_class : Plan → ℕ → Class
 plan_class (plan.Perform offset act work) n = class_of_act (act_of act) n
 plan_class p n = class.Plain
+
+abbrev pub is_print : Class → Bool
+is_print class.Prints = true
+is_print c = false
 
 -- the mutex, the barrier or the thread id on which a step acts
 abbrev pub mutex_of : Class → Option ℕ

@@ -1,5 +1,6 @@
 -- Vector clocks: clock j k is how many steps of thread k thread j has heard of (Fidge 1988, Mattern 1989).
-use Rattle.std.specs.Prelude.{◌≡◌, ◌⊎◌, ℕ, ◌+◌, ◌≤◌, ◌<◌, Bool, true, ◌&&◌, if◌then◌else◌, nat_eq, nat_le, List, [], length, Vec, Option, Some, None, slice_get, slice_set, slice_index}
+use Rattle.std.specs.Prelude.{◌≡◌, ◌⊎◌, ℕ, ◌+◌, ◌≤◌, ◌<◌, Bool, true, ◌&&◌, if◌then◌else◌, nat_eq, nat_le, List}
+use Rattle.std.specs.Prelude.{[], length, Vec, Option, Some, None, slice_get, slice_set, slice_index}
 use Rattle.std.specs.declared.alloc.Global.{Global}
 use Rattle.run_races.specs.Order.{is_in}
 use Rattle.run_check.specs.declared.clocks.Stamp.{Stamp}

@@ -4,9 +4,9 @@ use Rattle.run_check.specs.declared.clocks.Stamp.{Stamp}
 use Rattle.run_check.specs.declared.class.Class.{Class}
 use Rattle.run_check.specs.declared.known.Known.{Known}
 use Rattle.run_check.specs.Clocks.{Rows, clock, is_heard}
-use Rattle.run_check.specs.Class.{mutex_of, barrier_of, id_of, barrier_set, Tells}
+use Rattle.run_check.specs.Class.{is_print, mutex_of, barrier_of, id_of, barrier_set, Tells}
 use Rattle.run_check.specs.Objects.{stamp_at, write_at, read_at}
-use Rattle.run_check.specs.Shadow.{Shadow}
+use Rattle.run_check.specs.Shadow.{Shadow, last_print}
 
 abbrev pub shadow_of : Known → Shadow
 shadow_of k = record {
@@ -16,6 +16,8 @@ shadow_of k = record {
   mutex = stamp_at k.mutexes.items;
   barrier = stamp_at k.barriers.items;
   id = stamp_at k.ids.items;
+  print = k.print;
+  one_output = k.one_output;
 }
 
 -- who has heard of so many steps has heard of the last act on the object of such a step
@@ -34,6 +36,8 @@ pub record IsActPut (old new : Known) (step : Stamp) (c : Class) (released : Lis
   pub mutex : IsPut (stamp_at old.mutexes.items) (stamp_at new.mutexes.items) step (mutex_of c)
   pub barrier : IsPut (stamp_at old.barriers.items) (stamp_at new.barriers.items) step (barrier_set c released)
   pub id : IsPut (stamp_at old.ids.items) (stamp_at new.ids.items) step (id_of c)
+  pub print : new.print ≡ last_print (is_print c) step old.print
+  pub one_output : new.one_output ≡ old.one_output
 
 pub record IsTold (old new : Rows) (i : ℕ) (c : Class) (released : List ℕ) : Type 0 where
   pub grows : (j k : ℕ) → clock old j k ≤ clock new j k

@@ -1,10 +1,10 @@
 -- What the code keeps of one access.
-use Rattle.std.specs.Prelude.{◌≡◌, ◌⊎◌, ℕ, Bool, true, false, List, Option, Some, slice_get, slice_set, slice_index}
+use Rattle.std.specs.Prelude.{◌≡◌, ◌⊎◌, ℕ, Bool, true, false, List, Some, slice_get, slice_set, slice_index}
 use Rattle.thread_semantics.specs.Memory.{Location}
 use Rattle.thread_semantics.specs.Races.{Touch}
 use Rattle.run_check.specs.declared.clocks.Stamp.{Stamp}
 use Rattle.run_check.specs.declared.elements.Element.{Element}
-use Rattle.run_check.specs.Objects.{Elements, element_at, write_at, read_at}
+use Rattle.run_check.specs.Objects.{Elements, write_at, read_at}
 
 pub record IsElementMarked (old new : Element) (written : Bool) (step : Stamp) : Type 0 where
   pub write : (new.write ≡ old.write) ⊎ (new.write ≡ step)

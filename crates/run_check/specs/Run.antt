@@ -1,7 +1,7 @@
 -- A run under way.
 use Rattle.std.specs.Prelude.{◌≡◌, ℕ, ◌+◌, true, false, List, [], ◌∷◌, ◌++◌, length}
 use Rattle.c_program.specs.Tree.{Program}
-use Rattle.thread_semantics.specs.Step.{Undefines, is_blocked, step, IsDeadlocked}
+use Rattle.thread_semantics.specs.Step.{Undefines, is_blocked, step}
 use Rattle.c_state.specs.View.{state_of}
 use Rattle.turns.specs.Turns.{threads_of}
 use Rattle.run_check.specs.declared.run.Run.{Run}
@@ -37,7 +37,7 @@ IsAdvanced P old new i progress.Stepped = IsRun P old → IsRun P new × (new.st
 IsAdvanced P old new i progress.Blocked = IsSameRun old new × (is_blocked (step P (state_of old.state) i) ≡ true)
 IsAdvanced P old new i (progress.Undefined thread offset cause) =
     IsSameRun old new × (step P (state_of old.state) thread ≡ Undefines offset cause)
-IsAdvanced P old new i (progress.Unordered thread other on_mutex) = Unit {0}
+IsAdvanced P old new i (progress.Unordered thread other class) = Unit {0}
 
 -- what the next step of a run comes to
 abbrev pub IsNext : Program → Run → Run → Progress → Type 0
@@ -46,7 +46,7 @@ IsNext P old new progress.Blocked =
     IsSameRun old new × ((i : ℕ) → is_blocked (step P (state_of old.state) i) ≡ true)
 IsNext P old new (progress.Undefined thread offset cause) =
     IsSameRun old new × (step P (state_of old.state) thread ≡ Undefines offset cause)
-IsNext P old new (progress.Unordered thread other on_mutex) = Unit {0}
+IsNext P old new (progress.Unordered thread other class) = Unit {0}
 
 -- what a run is that has come to such a step before main has returned
 abbrev pub IsStopped : Program → Run → Progress → Type 0
@@ -55,4 +55,4 @@ IsStopped P run progress.Blocked =
     IsRun P run × ((state_of run.state).ended ≡ false) × ((i : ℕ) → is_blocked (step P (state_of run.state) i) ≡ true)
 IsStopped P run (progress.Undefined thread offset cause) =
     IsRun P run × ((state_of run.state).ended ≡ false) × (step P (state_of run.state) thread ≡ Undefines offset cause)
-IsStopped P run (progress.Unordered thread other on_mutex) = Unit {0}
+IsStopped P run (progress.Unordered thread other class) = Unit {0}

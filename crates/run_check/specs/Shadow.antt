@@ -1,13 +1,13 @@
 -- What is kept of the steps of a run: of each element the last write and each thread's last read, of each object the last
 -- act, and who has heard of how many steps.
-use Rattle.std.specs.Prelude.{◌≡◌, ◌⊎◌, ℕ, ◌+◌, ◌≤◌, Bool, true, false, List, Option, Some, Contains}
+use Rattle.std.specs.Prelude.{◌≡◌, ◌⊎◌, ℕ, ◌+◌, ◌≤◌, Bool, true, false, if◌then◌else◌, List, Option, Some, Contains}
 use Rattle.std.specs.List.{AllByRecursion}
 use Rattle.thread_semantics.specs.Memory.{Location}
 use Rattle.thread_semantics.specs.Races.{Touch}
 use Rattle.run_check.specs.declared.clocks.Stamp.{Stamp}
 use Rattle.run_check.specs.declared.class.Class.{Class}
 use Rattle.run_check.specs.Clocks.{is_heard, ticked}
-use Rattle.run_check.specs.Class.{mutex_of, barrier_of, id_of, barrier_set, Tells}
+use Rattle.run_check.specs.Class.{is_print, mutex_of, barrier_of, id_of, barrier_set, Tells}
 
 pub record Shadow : Type 0 where
   pub clock : ℕ → ℕ → ℕ
@@ -16,6 +16,9 @@ pub record Shadow : Type 0 where
   pub mutex : ℕ → Stamp
   pub barrier : ℕ → Stamp
   pub id : ℕ → Stamp
+  pub print : Stamp
+  -- whether each print so far happens behind the one before it
+  pub one_output : Bool
 
 abbrev pub stamp : ℕ → ℕ → Stamp
 stamp i n = record { thread = i; number = n }
@@ -55,6 +58,10 @@ pub record IsUsed (old new : ℕ → Stamp) (heard : ℕ → ℕ) (step : Stamp)
   pub set : (x : ℕ) → object ≡ Some x → new x ≡ step
   pub change : (x : ℕ) → (new x ≡ old x) ⊎ ((object ≡ Some x) × (new x ≡ step))
 
+-- the last print behind a step
+abbrev pub last_print : Bool → Stamp → Stamp → Stamp
+last_print print step old = if print then step else old
+
 -- what is kept behind a step of thread i, which happens behind all steps on which it depends
 pub record IsNoted (old new : Shadow) (i : ℕ) (c : Class) (touches : List Touch) (released : List ℕ) (ended : Bool) : Type 0 where
   pub clocks : ClocksAfter old.clock new.clock i c released
@@ -64,4 +71,6 @@ pub record IsNoted (old new : Shadow) (i : ℕ) (c : Class) (touches : List Touc
   pub id : IsUsed old.id new.id (old.clock i) (next_stamp old.clock i) (id_of c)
   pub barrier : IsUsed old.barrier new.barrier (old.clock i) (next_stamp old.clock i) (barrier_set c released)
   pub meets : (x : ℕ) → barrier_of c ≡ Some x → is_heard (old.clock i) (old.barrier x) ≡ true
+  pub print : new.print ≡ last_print (is_print c) (next_stamp old.clock i) old.print
+  pub outputs : new.one_output ≡ true → (old.one_output ≡ true) × (is_print c ≡ true → is_heard (old.clock i) old.print ≡ true)
   pub last : ended ≡ true → (k : ℕ) → old.clock k k ≤ old.clock i k

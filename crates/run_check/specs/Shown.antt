@@ -5,8 +5,8 @@ use Rattle.thread_semantics.specs.State.{State, start}
 use Rattle.thread_semantics.specs.Move.{Move}
 use Rattle.thread_semantics.specs.Step.{Steps, after}
 use Rattle.thread_semantics.specs.Races.{Touch, touched}
-use Rattle.run_races.specs.Order.{awaited, waits_in, AllOrdered}
-use Rattle.run_races.specs.Clean.{IsClean}
+use Rattle.run_races.specs.Order.{awaited, prints, waits_in, Depends, DependsOrPrints, AllOrderedBy}
+use Rattle.run_races.specs.Clean.{IsOrderedBy}
 use Rattle.run_check.specs.declared.clocks.Stamp.{Stamp}
 use Rattle.run_check.specs.Class.{class_of, mutex_of, barrier_of, id_of}
 use Rattle.run_check.specs.Shadow.{Shadow, stamp}
@@ -32,16 +32,22 @@ pub record StandsFor (s : State) (K : Shadow) (i : ℕ) (m : Move) (heard : ℕ 
   pub own : Covers K.clock (stamp i number) heard
   pub written : (t : Touch) → Contains (touched m) t → t.written ≡ true → Covers K.clock (K.write t.place) heard
   pub was_read : (t : Touch) → Contains (touched m) t → t.written ≡ false → Covers K.clock (stamp i (K.read t.place i)) heard
+  pub print : K.one_output ≡ true → prints m ≡ true → Covers K.clock K.print heard
   pub mutex : (x : ℕ) → mutex_of (class_of m) ≡ Some x → Covers K.clock (K.mutex x) heard
   pub id : (x : ℕ) → id_of (class_of m) ≡ Some x → Covers K.clock (K.id x) heard
   pub barrier : (x : ℕ) → barrier_of (class_of m) ≡ Some x → Covers K.clock (K.barrier x) heard ⊎ IsWaiting s i m again x
 
--- the list leads to the state s, and it is a clean run as far as it goes: it is one with each rest in which the steps that
--- what is kept stands for are ordered
+-- the list is, by the dependence D, an ordered run as far as it goes: it is one with each rest in which the steps that what is
+-- kept stands for are ordered
+abbrev pub GoesOn : (Move → ℕ → Move → Type 0) → Program → List ℕ → State → Shadow → Type 0
+GoesOn D P list s K =
+    (rest : List ℕ) →
+    ((i : ℕ) (m : Move) (h : ℕ → Bool) (again : Bool) → StandsFor s K i m h again → AllOrderedBy D P i m h again s rest) →
+    IsOrderedBy D P s rest → IsOrderedBy D P (start P) (list ++ rest)
+
+-- the list leads to the state s, and it is a clean run as far as it goes, whose prints are ordered too where that is kept
 pub record IsShown (P : Program) (list : List ℕ) (s : State) (K : Shadow) : Type 0 where
   pub taken : after P list ≡ Steps s
   pub peaks : HasPeaks K.clock
-  pub rest :
-      (rest : List ℕ) →
-      ((i : ℕ) (m : Move) (h : ℕ → Bool) (again : Bool) → StandsFor s K i m h again → AllOrdered P i m h again s rest) →
-      IsClean P s rest → IsClean P (start P) (list ++ rest)
+  pub clean : GoesOn Depends P list s K
+  pub outputs : K.one_output ≡ true → GoesOn DependsOrPrints P list s K

@@ -1,10 +1,10 @@
 // What a step acts on, as far as the order of steps goes.
-ghost use Rattle.std.specs.Prelude.{◌≡◌, ◌∷◌, Some, slice_get, map, IfOk};
+ghost use Rattle.std.specs.Prelude.{◌≡◌, ◌∷◌, Some, slice_get, IfOk};
 ghost use Rattle.c_program.specs.Plain.{program_of};
 ghost use Rattle.thread_semantics.specs.State.{Frame as Frames, State as States, Running};
 ghost use Rattle.thread_semantics.specs.Step.{Steps, object_operand, step};
 ghost use Rattle.c_evaluation.specs.View.{act_of};
-ghost use Rattle.c_state.specs.View.{slot_of, barrier_of, state_of};
+ghost use Rattle.c_state.specs.View.{barrier_of, state_of};
 ghost use Rattle.c_step_parts.specs.Plan.{Callers};
 ghost use Rattle.run_races.specs.Order.{next_move, let_go};
 ghost use Rattle.run_check.specs.Class.{class_of_act, class_of, plan_class, released_by};
@@ -19,8 +19,10 @@ use std::alloc::{AllocError, Global};
 /// What a step acts on.
 #[derive(Clone, Copy)]
 pub enum Class {
-    /// No pthread object: a step that is no act, or a printf.
+    /// No pthread object, and it prints nothing.
     Plain,
+    /// A printf.
+    Prints,
     /// Creates or joins the thread of that id.
     Creates(u128),
     Joins(u128),
@@ -37,7 +39,7 @@ fn class_of_act(act: &Act, n: u128) -> Class
     ensures { result ≡ class_of_act (act_of act.now) n }
 {
     match act {
-        Act::Print(_) => Class::Plain,
+        Act::Print(_) => Class::Prints,
         Act::Create(_) => Class::Creates(n),
         Act::Join => Class::Joins(n),
         Act::MutexInit | Act::MutexDestroy | Act::MutexLock | Act::MutexUnlock => Class::UsesMutex(

@@ -1,5 +1,5 @@
 // The last accesses to each element of each global.
-ghost use Rattle.std.specs.Prelude.{◌≡◌, ◌≤◌, ℕ, true, Some, None, slice_get, slice_index, slice_set, IfOk, MatchOption};
+ghost use Rattle.std.specs.Prelude.{◌≡◌, true, Some, None, slice_index, MatchOption};
 ghost use Rattle.race_check.specs.Access.{location_of, touch_of, touches_of};
 ghost use Rattle.run_check.specs.Clocks.{is_heard};
 ghost use Rattle.run_check.specs.Objects.{element_at, write_at, read_at};

@@ -1,7 +1,8 @@
 // What is kept of the steps of a run.
 ghost use Rattle.std.specs.Prelude.{◌≡◌, ◌≤◌, ℕ, true, slice_index, IfOk};
 ghost use Rattle.race_check.specs.Access.{touches_of};
-ghost use Rattle.run_check.specs.Clocks.{clock};
+ghost use Rattle.run_check.specs.Clocks.{clock, is_heard};
+ghost use Rattle.run_check.specs.Class.{is_print};
 ghost use Rattle.run_check.specs.Objects.{write_at, read_at};
 ghost use Rattle.run_check.specs.Shadow.{AreOrdered, IsNoted};
 ghost use Rattle.run_check.specs.Known.{shadow_of, IsActOrdered, IsActPut, IsTold};
@@ -17,7 +18,8 @@ use race_check::access::Access;
 use std::alloc::{AllocError, Global};
 
 /// What is kept of the steps of a run: who has heard of how many steps, the last accesses to each element of each global,
-/// and the last act on each mutex, barrier and thread id.
+/// the last act on each mutex, barrier and thread id, the last print, and whether each print so far happens behind the one
+/// before it.
 #[derive(Drop)]
 pub struct Known {
     pub clocks: Vec<Vec<u32>>,
@@ -25,6 +27,8 @@ pub struct Known {
     pub mutexes: Vec<Stamp>,
     pub barriers: Vec<Stamp>,
     pub ids: Vec<Stamp>,
+    pub print: Stamp,
+    pub one_output: bool,
 }
 
 /// Threads tell others what they have heard, by such a step of a thread.
@@ -48,7 +52,7 @@ fn tell(
             }
         }
         Class::Waits(_) => share(clocks, released)?,
-        Class::Plain | Class::UsesMutex(_) | Class::SetsBarrier(_) => {}
+        Class::Plain | Class::Prints | Class::UsesMutex(_) | Class::SetsBarrier(_) => {}
     }
     Ok(())
 }
@@ -65,6 +69,11 @@ impl Known {
             mutexes: first_acts(alloc, state.mutexes.len())?,
             barriers: first_acts(alloc, state.barriers.len())?,
             ids: first_acts(alloc, threads)?,
+            print: Stamp {
+                thread: 0,
+                number: 0,
+            },
+            one_output: true,
         })
     }
 
@@ -73,11 +82,22 @@ impl Known {
         ensures { result ≡ true → IsActOrdered self.now (slice_index clock.now) class }
     {
         match class {
-            Class::Plain => true,
+            Class::Plain | Class::Prints => true,
             Class::Creates(n) | Class::Joins(n) => is_heard(clock, last_act(&self.ids, n)),
             Class::UsesMutex(n) => is_heard(clock, last_act(&self.mutexes, n)),
             Class::SetsBarrier(n) | Class::Waits(n) => is_heard(clock, last_act(&self.barriers, n)),
         }
+    }
+
+    /// Whether each print happens behind the one before it, once a thread takes such a step.
+    fn has_one_output(&self, thread: u32, class: Class) -> bool
+        ensures { result ≡ true → (self.now.one_output ≡ true) × (is_print class ≡ true → is_heard (clock self.now.clocks.items thread) self.now.print ≡ true) }
+    {
+        self.one_output
+            && match class {
+                Class::Prints => is_heard(clock_of(&self.clocks, thread), self.print),
+                _ => true,
+            }
     }
 
     /// Keeps an act; whether there is a place for it. A wait that lets nobody go is kept by the barrier itself.
@@ -86,6 +106,10 @@ impl Known {
     {
         match class {
             Class::Plain => true,
+            Class::Prints => {
+                self.print = step;
+                true
+            }
             Class::Creates(n) | Class::Joins(n) => put_act(&mut self.ids, n, step),
             Class::UsesMutex(n) => put_act(&mut self.mutexes, n, step),
             Class::SetsBarrier(n) => put_act(&mut self.barriers, n, step),
@@ -107,7 +131,6 @@ impl Known {
     }
 
     /// Keeps a step of a thread; whether it happens behind all steps on which it depends.
-    #[tactic(auto, using(crate::proofs::Noted::noted))]
     pub fn note(
         &mut self,
         thread: u32,
@@ -121,6 +144,7 @@ impl Known {
         if !self.is_ordered(thread, class, accesses, ended) {
             return Ok(false);
         }
+        self.one_output = self.has_one_output(thread, class);
         let Some(number) = tick(&mut self.clocks, thread) else {
             return Ok(false);
         };

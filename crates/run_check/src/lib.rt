@@ -1,4 +1,4 @@
-//! Runs a program once, with vector clocks, and says whether that run shows the program good.
+//! Runs a program once, with vector clocks, and says whether that run shows the program good, and its output the only one.
 #![tactic(auto)]
 
 mod class;

@@ -3,7 +3,6 @@ ghost use Rattle.std.specs.Prelude.{◌≡◌, true, ⊤, IfOk, MatchOption};
 ghost use Rattle.c_program.specs.Plain.{program_of, statement_of, condition_of};
 ghost use Rattle.c_state.specs.View.{frame_of, state_of};
 ghost use Rattle.thread_semantics.specs.Work.{first_offset};
-ghost use Rattle.turns.specs.Turns.{threads_of};
 ghost use Rattle.run_check.specs.Offsets.{statement_offset, frame_offset, step_offset};
 ghost use Rattle.run_check.specs.Race.{IsFound, IsTurnTaken, LeadsTo};
 

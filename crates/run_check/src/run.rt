@@ -30,6 +30,9 @@ pub enum Reason {
     Deadlock,
     /// Two acts on one mutex are not ordered: which comes first may tell.
     MutexLocked,
+    /// A wait at a barrier is not ordered behind the last act there that set it up or let threads go, as where more threads
+    /// wait there than its count: which of them meet may tell.
+    BarrierWaited,
     /// Two steps that depend on one another are not ordered: another interleaving may take them the other way round.
     Unordered,
 }
@@ -37,9 +40,11 @@ pub enum Reason {
 /// What one run of a program shows.
 #[derive(Drop)]
 pub enum RunVerdict {
-    /// Main returned after so many steps, and the program is good.
+    /// Main returned after so many steps, and the program is good. One output: any two prints are ordered too, so that each
+    /// interleaving in which main returns prints what this run prints; else another one may print otherwise.
     Good {
         steps: u32,
+        one_output: bool,
     },
     /// Some interleaving races.
     Race(FoundRace),
@@ -79,11 +84,11 @@ pub enum Progress {
         offset: u32,
         cause: UndefinedCause,
     },
-    /// The step depends on one that doesn't happen before it: an access of this number, or an act, on a mutex or not.
+    /// The step, of this class, depends on one that doesn't happen before it: an access of this number, or an act.
     Unordered {
         thread: u32,
         other: Stamp,
-        on_mutex: bool,
+        class: Class,
     },
 }
 
@@ -162,7 +167,7 @@ fn advance<'p>(
             Ok(Progress::Unordered {
                 thread,
                 other: run.known.unordered(thread, accesses.as_slice()),
-                on_mutex: matches!(class, Class::UsesMutex(_)),
+                class,
             })
         }
     }
@@ -196,7 +201,7 @@ fn advance_first<'p>(
                 thread: 0,
                 number: 0,
             },
-            on_mutex: false,
+            class: Class::Plain,
         });
     };
     for thread in 0..threads {
@@ -284,17 +289,17 @@ fn unordered(
     run: &Run,
     thread: u32,
     other: Stamp,
-    on_mutex: bool,
+    class: Class,
 ) -> Result<RunVerdict, AllocError>
     ensures { IfOk result (IsVerdict (program_of program.now)) }
 {
     match race_of(alloc, program, run, thread, other)? {
         Some(race) => Ok(RunVerdict::Race(race)),
         None => {
-            let reason = if on_mutex {
-                Reason::MutexLocked
-            } else {
-                Reason::Unordered
+            let reason = match class {
+                Class::UsesMutex(_) => Reason::MutexLocked,
+                Class::Waits(_) => Reason::BarrierWaited,
+                _ => Reason::Unordered,
             };
             Ok(RunVerdict::Unknown {
                 steps: run.steps,
@@ -335,8 +340,8 @@ fn stopped(
         Progress::Unordered {
             thread,
             other,
-            on_mutex,
-        } => unordered(alloc, program, &run, thread, other, on_mutex),
+            class,
+        } => unordered(alloc, program, &run, thread, other, class),
         Progress::Stepped => {
             Ok(RunVerdict::Unknown {
                 steps: run.steps,
@@ -355,7 +360,10 @@ pub fn check_run(alloc: Global, program: &Program, most: u32) -> Result<RunVerdi
         match advance_next(alloc, program, &mut run)? {
             Progress::Stepped => {
                 if run.state.ended {
-                    return Ok(RunVerdict::Good { steps: run.steps });
+                    return Ok(RunVerdict::Good {
+                        steps: run.steps,
+                        one_output: run.known.one_output,
+                    });
                 }
             }
             other => return stopped(alloc, program, run, other),

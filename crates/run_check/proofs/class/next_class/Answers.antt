@@ -1,4 +1,4 @@
-use Rattle.std.proofs.Common.{ℕ, ap, sym, subst, ◌∙◌}
+use Rattle.std.proofs.Common.{ℕ, ap, subst, ◌∙◌}
 use Rattle.c_program.specs.Plain.{program_of}
 use Rattle.c_state.specs.View.{state_of}
 use Rattle.c_step_parts.specs.Planned.{IsPlan}

@@ -1,11 +1,9 @@
-use Rattle.std.proofs.Common.{◌≡◌, ◌≤◌, length, get_or, take, rules, subst}
+use Rattle.std.proofs.Common.{◌≡◌, rules}
 use Rattle.std.specs.Prelude.{true}
-use Rattle.std.proofs.lemmas.List.{take_all}
 use Rattle.c_program.specs.Plain.{program_of}
 use Rattle.turns.specs.declared.Turn.{Turn}
 use Rattle.c_state.specs.View.{state_of}
-use Rattle.run_check.specs.Race.{LeadsTo}
-use Rattle.run_check.proofs.Runs.{none_lead, leads_more}
+use Rattle.run_check.proofs.Runs.{leads_more}
 use Rattle.run_check.proofs.race.replay.Goals as goal
 
 pub loop-turn-preserved : goal.loop-turn-preserved

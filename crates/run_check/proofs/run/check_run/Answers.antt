@@ -1,11 +1,10 @@
-use Rattle.std.proofs.Common.{rules}
 use Rattle.c_program.specs.Plain.{program_of}
 use Rattle.turns.specs.Turns.{threads_of}
 use Rattle.c_state.specs.View.{state_of}
 use Rattle.run_check.specs.Known.{shadow_of}
 use Rattle.run_check.specs.Run.{IsStopped}
 use Rattle.run_check.specs.Verdict.{IsVerdict}
-use Rattle.run_check.proofs.Runs.{all_shown}
+use Rattle.run_check.proofs.Runs.{all_shown, all_ordered}
 use Rattle.run_check.proofs.Advancing.{stopped_of, ok_given}
 use Rattle.run_check.proofs.run.check_run.Goals as goal
 
@@ -22,6 +21,7 @@ returns-then-run c =
       threads_of run.turns.items,
       z.0.count,
       all_shown (program_of c.args.program.now) (threads_of run.turns.items) (state_of run.state) (shadow_of run.known) z.0.shown c.if-run.true,
+      all_ordered (program_of c.args.program.now) (threads_of run.turns.items) (state_of run.state) (shadow_of run.known) z.0.shown c.if-run.true,
     )
 
 pub returns-in_default : goal.returns-in_default
