@@ -1,1 +1,2 @@
 mod ToldVerdict
+mod RunVerdict
