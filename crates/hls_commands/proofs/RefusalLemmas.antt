@@ -1,7 +1,7 @@
 use Rattle.std.proofs.Common.{◌≡◌, ℕ, ◌<◌, Bool, List, length, Option, Some, None, inr, subst, refl}
 use Rattle.std.specs.Prelude.{IsSome}
 use Rattle.hls_words.specs.declared.task.Task.{Task}
-use Rattle.hls_words.specs.declared.task.Task.TheVariants.{Build, Step, Run, Replay, Walk, Check}
+use Rattle.hls_words.specs.declared.task.Task.TheVariants.{Build, Step, Run, Replay, Walk, Check, CheckRun}
 use Rattle.turns.specs.declared.Turn.{Turn}
 use Rattle.journal_text.specs.declared.entry.Entry.{Entry}
 use Rattle.c_accepted.specs.declared.refusal.Refusal.{Refusal}
@@ -66,6 +66,11 @@ stops_check left rose stop.ReadFault is = is
 stops_check left rose (stop.Refused r) is = is
 stops_check left rose stop.Memory is = tt
 
+pub stops_check_run : (most : ℕ) (left : Option (List ℕ)) (rose : Type 0) (s : Stop) → StopsBy None left rose s → StopsBy (Some (CheckRun most)) left rose s
+stops_check_run most left rose stop.ReadFault is = is
+stops_check_run most left rose (stop.Refused r) is = is
+stops_check_run most left rose stop.Memory is = tt
+
 -- what stops a build stops a step and a run
 pub stops_step : (jobs most : ℕ) (vcd : Bool) (left : Option (List ℕ)) (rose : Type 0) (s : Stop) → StopsBy (Some (Build jobs)) left rose s → StopsBy (Some (Step most vcd)) left rose s
 stops_step jobs most vcd left rose stop.ReadFault is = is
@@ -94,3 +99,6 @@ stop_owes task left rose d s some by (status.Cycles cycles) is = absurd is
 stop_owes task left rose d s some by (status.NotNet offset) is = absurd is
 stop_owes task left rose d s some by (status.Loop signal) is = absurd is
 stop_owes task left rose d s some by (status.Doubt offset name) is = absurd is
+stop_owes task left rose d s some by (status.Race first second name) is = absurd is
+stop_owes task left rose d s some by (status.UndefinedStep offset cause) is = absurd is
+stop_owes task left rose d s some by (status.Unknown steps cause) is = absurd is

@@ -82,3 +82,6 @@ sim_owes most left rose d (status.Cycles cycles) is = is
 sim_owes most left rose d (status.NotNet offset) is = is
 sim_owes most left rose d (status.Loop signal) is = is
 sim_owes most left rose d (status.Doubt offset name) is = absurd is
+sim_owes most left rose d (status.Race first second name) is = is
+sim_owes most left rose d (status.UndefinedStep offset cause) is = is
+sim_owes most left rose d (status.Unknown steps cause) is = is

@@ -1,7 +1,7 @@
 -- What a call owes for the task that its words ask for and the text that its source gives.
 use Rattle.std.specs.Prelude.{◌≡◌, ◌⊎◌, ℕ, ◌<◌, ◌≤◌, Bool, true, false, List, [], ◌++◌, length, drop, Option, Some, None, IfSome, IsSome, string_bytes}
 use Rattle.hls_words.specs.declared.task.Task.{Task}
-use Rattle.hls_words.specs.declared.task.Task.TheVariants.{Build, Step, Run, Replay, Walk, Check, Sim}
+use Rattle.hls_words.specs.declared.task.Task.TheVariants.{Build, Step, Run, Replay, Walk, Check, CheckRun, Sim}
 use Rattle.turns.specs.declared.Turn.{Turn}
 use Rattle.turns.specs.Turns.{threads_of}
 use Rattle.c_program.specs.Tree.{Program}
@@ -17,7 +17,13 @@ use Rattle.netlist.specs.declared.netlist.Module.{Module}
 use Rattle.netlist.specs.declared.netlist.Netlist.{Netlist}
 use Rattle.netlist.specs.NetlistOf.{netlist_of}
 use Rattle.hls_compile.specs.Compiled.{IsCompiled}
+use Rattle.thread_semantics.specs.declared.cause.UndefinedCause.{UndefinedCause}
 use Rattle.check_command.specs.Told.{IsDisciplined, IsInDoubt}
+use Rattle.check_command.specs.TurnList.{list_line}
+use Rattle.check_command.specs.RunTold.{IsShownGood, IsShownRacing, IsShownUndefined}
+use Rattle.check_command.specs.Verdict.{IsReason}
+use Rattle.run_check.specs.declared.run.Reason.{Reason}
+use Rattle.run_check.specs.declared.run.Reason.TheVariants as reason
 use Rattle.sim_layout.specs.Rounds.{threads_of as enabled_of}
 use Rattle.cycle_sim.specs.Round.{IsRound}
 use Rattle.verilog_reader.specs.Faults.{IsFault, IsRead}
@@ -33,9 +39,12 @@ use Rattle.run_command.specs.Lines.{listed_lines, summary, bad_entry_line}
 use Rattle.run_command.specs.Replays.{AreRun, IsFirstBad}
 use Rattle.hls_status.specs.declared.status.Status.{Status}
 use Rattle.hls_status.specs.declared.status.Status.TheVariants as status
+use Rattle.hls_status.specs.declared.status.UnknownCause.{UnknownCause}
+use Rattle.hls_status.specs.declared.status.UnknownCause.TheVariants as unknown
 use Rattle.hls_status.specs.declared.status.WalkEnd.{WalkEnd}
 use Rattle.hls_status.specs.declared.status.WalkEnd.TheVariants as walked
-use Rattle.hls_status.specs.Lines.{built_line, cycles_line, disciplined_line, doubt_line, loop_line, memory_line, not_net_line, read_fault_line, refusal_line, usage_line, walk_line}
+use Rattle.hls_status.specs.Lines.{built_line, cycles_line, disciplined_line, doubt_line, good_line, loop_line, memory_line, not_net_line, race_line, read_fault_line, refusal_line}
+use Rattle.hls_status.specs.Lines.{undefined_step_line, unknown_line, usage_line, walk_line}
 
 -- what a call owes: its status, the Verilog, the journal, the bytes for out and the lines for err
 pub record Due : Type 0 where
@@ -250,6 +259,89 @@ abbrev pub IsDoubtOf : Option Task → Option (List ℕ) → ℕ → List ℕ �
 IsDoubtOf (Some Check) left offset name = IsFoundInDoubt left offset name
 IsDoubtOf other left offset name = ⊥
 
+-- ---- one run
+
+-- no text, no journal, this for out, and this line
+pub record IsListed (d : Due) (list line : List ℕ) : Type 0 where
+  pub text : d.text ≡ []
+  pub journal : d.journal ≡ []
+  pub out : d.out ≡ list
+  pub err : d.err ≡ line
+
+-- the text is accepted as a program that one run of so many steps shows good
+pub record IsFoundGood (left : Option (List ℕ)) (d : Due) : Type 0 where
+  pub text : List ℕ
+  pub program : Program
+  pub weight : ℕ
+  pub gave : Gave left text
+  pub accepted : IsAccepted text program weight
+  pub steps : ℕ
+  pub one_output : Bool
+  pub good : IsShownGood program steps one_output
+  pub plain : IsPlain d (good_line steps one_output)
+
+-- the text is accepted as a program that, behind turns of which the list goes to out, races by steps at these bytes at the global of this name
+pub record IsFoundRacing (left : Option (List ℕ)) (d : Due) (first second : ℕ) (name : List ℕ) : Type 0 where
+  pub text : List ℕ
+  pub program : Program
+  pub weight : ℕ
+  pub gave : Gave left text
+  pub accepted : IsAccepted text program weight
+  pub turns : List Turn
+  pub racing : IsShownRacing program turns first second name
+  pub listed : IsListed d (list_line turns) (race_line first second name)
+
+-- the text is accepted as a program that comes to a step undefined for this cause at this byte, the last one of turns of which the list goes to out
+pub record IsFoundUndefined (left : Option (List ℕ)) (d : Due) (offset : ℕ) (cause : UndefinedCause) : Type 0 where
+  pub text : List ℕ
+  pub program : Program
+  pub weight : ℕ
+  pub gave : Gave left text
+  pub accepted : IsAccepted text program weight
+  pub turns : List Turn
+  pub undefined : IsShownUndefined program turns offset cause
+  pub listed : IsListed d (list_line turns) (undefined_step_line offset cause)
+
+abbrev pub cause_of : Reason → UnknownCause
+cause_of reason.TooFewSteps = unknown.TooFewSteps
+cause_of reason.Deadlock = unknown.Deadlock
+cause_of reason.MutexLocked = unknown.MutexLocked
+cause_of reason.BarrierWaited = unknown.BarrierWaited
+cause_of reason.Unordered = unknown.Unordered
+
+-- the text is accepted as a program of which one run shows nothing after so many steps, and why
+pub record IsFoundUnknown (left : Option (List ℕ)) (d : Due) (steps : ℕ) (cause : UnknownCause) : Type 0 where
+  pub text : List ℕ
+  pub program : Program
+  pub weight : ℕ
+  pub gave : Gave left text
+  pub accepted : IsAccepted text program weight
+  pub reason : Reason
+  pub named : cause ≡ cause_of reason
+  pub shown : IsReason program steps reason
+  pub plain : IsPlain d (unknown_line steps cause)
+
+abbrev pub Racing : Option Task → Option (List ℕ) → Due → ℕ → ℕ → List ℕ → Type 0
+Racing (Some (CheckRun most)) left d first second name = IsFoundRacing left d first second name
+Racing other left d first second name = ⊥
+
+abbrev pub Undefined : Option Task → Option (List ℕ) → Due → ℕ → UndefinedCause → Type 0
+Undefined (Some (CheckRun most)) left d offset cause = IsFoundUndefined left d offset cause
+Undefined other left d offset cause = ⊥
+
+abbrev pub Unknown : Option Task → Option (List ℕ) → Due → ℕ → UnknownCause → Type 0
+Unknown (Some (CheckRun most)) left d steps cause = IsFoundUnknown left d steps cause
+Unknown other left d steps cause = ⊥
+
+abbrev pub IsRaceOf : Option Task → Option (List ℕ) → ℕ → ℕ → List ℕ → Type 0
+IsRaceOf task left first second name = (d : Due) × Racing task left d first second name
+
+abbrev pub IsUndefinedOf : Option Task → Option (List ℕ) → ℕ → UndefinedCause → Type 0
+IsUndefinedOf task left offset cause = (d : Due) × Undefined task left d offset cause
+
+abbrev pub IsUnknownOf : Option Task → Option (List ℕ) → ℕ → UnknownCause → Type 0
+IsUnknownOf task left steps cause = (d : Due) × Unknown task left d steps cause
+
 -- ---- Verilog texts
 
 -- the text spells a net that a simulator runs, of which no signal depends on itself; so many cycles of it ran under the choices of `top_rr`,
@@ -296,6 +388,7 @@ Succeeds (Some (Run most listed)) left d = IsRunBy most listed left d verdicts.D
 Succeeds (Some Replay) left d = IsReplayed left d verdicts.Done
 Succeeds (Some (Walk turns)) left d = IsWalked turns left d status.Ok
 Succeeds (Some Check) left d = IsFoundDisciplined left d
+Succeeds (Some (CheckRun most)) left d = IsFoundGood left d
 Succeeds (Some (Sim most)) left d = (cycles : ℕ) × IsSimulated most left d cycles true
 
 -- a walk ended so, before main returned
@@ -334,6 +427,9 @@ OwesAt task left rose d (status.Cycles cycles) = RunsOut task left d cycles
 OwesAt task left rose d (status.NotNet offset) = IsNotNetOf task left offset × IsPlain d (not_net_line offset)
 OwesAt task left rose d (status.Loop signal) = HasLoopOf task left (string_bytes signal) × IsPlain d (loop_line (string_bytes signal))
 OwesAt task left rose d (status.Doubt offset name) = IsDoubtOf task left offset (string_bytes name) × IsPlain d (doubt_line offset (string_bytes name))
+OwesAt task left rose d (status.Race first second name) = Racing task left d first second (string_bytes name)
+OwesAt task left rose d (status.UndefinedStep offset cause) = Undefined task left d offset cause
+OwesAt task left rose d (status.Unknown steps cause) = Unknown task left d steps cause
 
 abbrev pub Owes : Option Task → Option (List ℕ) → Type 0 → Due → Type 0
 Owes task left rose d = OwesAt task left rose d d.status

@@ -20,8 +20,13 @@ use Rattle.hls_commands.specs.declared.answer.Line.{Line}
 use Rattle.hls_commands.specs.declared.answer.Line.TheVariants as line
 use Rattle.check_command.specs.declared.check.Told.{Told}
 use Rattle.check_command.specs.declared.check.Told.TheVariants as told
-use Rattle.hls_commands.specs.Answers.{Due, Gave, HasBadEntry, HasLoop, IsFoundDisciplined, IsFoundInDoubt, IsNotNet, IsPlain, IsRefusedFor, IsReplayed, IsSimulated, verdict_status}
-use Rattle.hls_status.specs.Lines.{cycles_line, disciplined_line, doubt_line, loop_line, memory_line, not_net_line, read_fault_line, refusal_line}
+use Rattle.check_command.specs.declared.run.RunTold.{RunTold}
+use Rattle.check_command.specs.declared.run.RunTold.TheVariants as run
+use Rattle.check_command.specs.TurnList.{list_line}
+use Rattle.hls_commands.specs.Answers.{Due, Gave, HasBadEntry, HasLoop, IsFoundDisciplined, IsFoundGood, IsFoundInDoubt, IsFoundRacing, IsFoundUndefined, IsFoundUnknown, IsListed}
+use Rattle.hls_commands.specs.Answers.{IsNotNet, IsPlain, IsRefusedFor, IsReplayed, IsSimulated, cause_of, verdict_status}
+use Rattle.hls_status.specs.Lines.{cycles_line, disciplined_line, doubt_line, good_line, loop_line, memory_line, not_net_line, race_line, read_fault_line, refusal_line}
+use Rattle.hls_status.specs.Lines.{undefined_step_line, unknown_line}
 
 -- ---- the bytes that an answer owes
 
@@ -97,6 +102,26 @@ abbrev pub CheckOwes : Option (List ℕ) → Due → Status → Type 0
 CheckOwes left d status.Ok = IsFoundDisciplined left d
 CheckOwes left d (status.Doubt offset name) = IsFoundInDoubt left offset (string_bytes name) × IsPlain d (doubt_line offset (string_bytes name))
 CheckOwes left d s = ⊥
+
+-- ---- one run
+
+-- the answer that tells this
+abbrev pub TellsRun : RunTold → Due → Status → Type 0
+TellsRun (run.Good steps one_output) d s = (s ≡ status.Ok) × IsPlain d (good_line steps one_output)
+TellsRun (run.Race turns first second name) d s =
+    (s ≡ status.Race first second name) × IsListed d (list_line turns.items) (race_line first second (string_bytes name))
+TellsRun (run.Undefined turns offset cause) d s =
+    (s ≡ status.UndefinedStep offset cause) × IsListed d (list_line turns.items) (undefined_step_line offset cause)
+TellsRun (run.Unknown steps reason) d s =
+    (s ≡ status.Unknown steps (cause_of reason)) × IsPlain d (unknown_line steps (cause_of reason))
+
+-- what a check by one run owes that is told of its text
+abbrev pub RunOwes : Option (List ℕ) → Due → Status → Type 0
+RunOwes left d status.Ok = IsFoundGood left d
+RunOwes left d (status.Race first second name) = IsFoundRacing left d first second (string_bytes name)
+RunOwes left d (status.UndefinedStep offset cause) = IsFoundUndefined left d offset cause
+RunOwes left d (status.Unknown steps cause) = IsFoundUnknown left d steps cause
+RunOwes left d s = ⊥
 
 -- ---- Verilog texts
 

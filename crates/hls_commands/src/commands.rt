@@ -12,7 +12,7 @@ ghost use Rattle.hls_compile.specs.Compiled.{IsCompiled};
 ghost use Rattle.cycle_sim.specs.declared.sim.OpenError.TheVariants as causes;
 
 use crate::answer::{Answer, Line, Out};
-use crate::checks::check;
+use crate::checks::{check, check_run};
 use crate::runs::{replay_journal, run_workers};
 use crate::sims::simulate;
 use c_interpreter::walk::{WalkEnd as Ends, walk};
@@ -308,6 +308,7 @@ pub fn run_task<R: Threads + Wait + Sync, S: Source, G: Gate + Sync>(
         Task::Replay => replay_journal(rt, alloc, source),
         Task::Walk(turns) => walk_turns(alloc, source, turns.as_slice()),
         Task::Check => check(alloc, source),
+        Task::CheckRun { steps } => check_run(alloc, source, steps),
         Task::Sim { cycles } => simulate(alloc, source, cycles),
     };
     match done {

@@ -15,6 +15,8 @@ use Rattle.thread_semantics.specs.declared.cause.BlockedCause.{BlockedCause}
 use Rattle.thread_semantics.specs.declared.cause.BlockedCause.TheVariants as blocked
 use Rattle.c_interpreter.specs.declared.walk.WalkEnd.{WalkEnd}
 use Rattle.c_interpreter.specs.declared.walk.WalkEnd.TheVariants as ends
+use Rattle.hls_status.specs.declared.status.UnknownCause.{UnknownCause}
+use Rattle.hls_status.specs.declared.status.UnknownCause.TheVariants as unknown
 use Rattle.hls_status.specs.declared.status.Status.{Status}
 use Rattle.hls_status.specs.declared.status.Status.TheVariants as status
 
@@ -33,6 +35,9 @@ status_number (status.Walked end) = 10
 status_number (status.NotNet offset) = 11
 status_number (status.Loop signal) = 11
 status_number (status.Doubt offset name) = 12
+status_number (status.Race first second name) = 13
+status_number (status.UndefinedStep offset cause) = 14
+status_number (status.Unknown steps cause) = 15
 
 abbrev pub usage_line : List ℕ
 usage_line = codes "hls: usage\n"
@@ -127,6 +132,32 @@ undefined_words undefined.ThreadId = codes "thread id"
 undefined_words undefined.Mutex = codes "mutex"
 undefined_words undefined.Barrier = codes "barrier"
 undefined_words undefined.LiveThread = codes "live thread"
+
+-- ---- one run
+
+abbrev pub good_line : ℕ → Bool → List ℕ
+good_line steps true = codes "hls: good, " ++ (decimal steps ++ codes " steps, one output\n")
+good_line steps false = codes "hls: good, " ++ (decimal steps ++ codes " steps\n")
+
+abbrev pub race_line : ℕ → ℕ → List ℕ → List ℕ
+race_line first second name =
+    codes "hls: race at bytes " ++ (decimal first ++ (codes " and " ++ (decimal second ++ (codes ": " ++ (name ++ codes "\n")))))
+
+abbrev pub undefined_step_line : ℕ → UndefinedCause → List ℕ
+undefined_step_line offset cause = codes "hls: undefined at byte " ++ (decimal offset ++ (codes ": " ++ (undefined_words cause ++ codes "\n")))
+
+abbrev pub unknown_words : UnknownCause → List ℕ
+unknown_words unknown.TooFewSteps = codes "too few steps"
+unknown_words unknown.Deadlock = codes "deadlock"
+unknown_words unknown.MutexLocked = codes "a mutex was locked"
+unknown_words unknown.BarrierWaited = codes "waits at a barrier not ordered"
+unknown_words unknown.Unordered = codes "steps not ordered"
+
+abbrev pub unknown_line : ℕ → UnknownCause → List ℕ
+unknown_line steps cause =
+    codes "hls: unknown, " ++ (decimal steps ++ (codes " steps: " ++ (unknown_words cause ++ codes "\n")))
+
+-- ---- how steps end
 
 abbrev pub blocked_words : BlockedCause → List ℕ
 blocked_words blocked.Join = codes "join"

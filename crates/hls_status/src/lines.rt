@@ -3,6 +3,7 @@
 ghost use Rattle.std.specs.Prelude.{◌≡◌, IfOk, string_bytes};
 ghost use Rattle.hls_status.specs.Lines as lines;
 
+use crate::status::UnknownCause;
 use c_interpreter::walk::WalkEnd;
 use c_limits::Passed;
 use c_profile::Refusal;
@@ -181,6 +182,57 @@ pub fn doubt_line(alloc: Global, offset: usize, name: &str) -> Result<String, Al
 {
     let doubted = doubted(name);
     format!(in alloc; "hls: doubt at byte {offset}: {doubted}\n")
+}
+
+/// The line of a program that one run of so many steps shows good.
+pub fn good_line(alloc: Global, steps: u32, one_output: bool) -> Result<String, AllocError>
+    ensures { IfOk result (λ s. string_bytes s ≡ lines.good_line steps one_output) }
+{
+    if one_output {
+        format!(in alloc; "hls: good, {steps} steps, one output\n")
+    } else {
+        format!(in alloc; "hls: good, {steps} steps\n")
+    }
+}
+
+/// The line of a race at a global, by steps at two offsets.
+pub fn race_line(alloc: Global, first: u32, second: u32, name: &str) -> Result<String, AllocError>
+    ensures { IfOk result (λ s. string_bytes s ≡ lines.race_line first second name.now) }
+{
+    format!(in alloc; "hls: race at bytes {first} and {second}: {name}\n")
+}
+
+/// The line of an undefined step at an offset.
+pub fn undefined_step_line(
+    alloc: Global,
+    offset: u32,
+    cause: UndefinedCause,
+) -> Result<String, AllocError>
+    ensures { IfOk result (λ s. string_bytes s ≡ lines.undefined_step_line offset cause) }
+{
+    let words = undefined_words(cause);
+    format!(in alloc; "hls: undefined at byte {offset}: {words}\n")
+}
+
+/// Why a run shows nothing.
+fn unknown_words(cause: UnknownCause) -> &'static str
+    ensures { result.now ≡ lines.unknown_words cause }
+{
+    match cause {
+        UnknownCause::TooFewSteps => "too few steps",
+        UnknownCause::Deadlock => "deadlock",
+        UnknownCause::MutexLocked => "a mutex was locked",
+        UnknownCause::BarrierWaited => "waits at a barrier not ordered",
+        UnknownCause::Unordered => "steps not ordered",
+    }
+}
+
+/// The line of a run that shows nothing.
+pub fn unknown_line(alloc: Global, steps: u32, cause: UnknownCause) -> Result<String, AllocError>
+    ensures { IfOk result (λ s. string_bytes s ≡ lines.unknown_line steps cause) }
+{
+    let words = unknown_words(cause);
+    format!(in alloc; "hls: unknown, {steps} steps: {words}\n")
 }
 
 fn steps_line(alloc: Global, word: &str, steps: u128) -> Result<String, AllocError>

@@ -25,6 +25,21 @@ pub enum WalkEnd {
     },
 }
 
+/// Why one run of a program shows nothing.
+#[derive(Clone, Copy, Debug, PartialEq, Eq)]
+pub enum UnknownCause {
+    /// Main has not returned after as many steps as were asked for.
+    TooFewSteps,
+    /// Main has not returned, and each thread is blocked.
+    Deadlock,
+    /// Two acts on one mutex are not ordered.
+    MutexLocked,
+    /// A wait at a barrier and an earlier act there are not ordered.
+    BarrierWaited,
+    /// Two steps that depend on one another are not ordered.
+    Unordered,
+}
+
 /// How a call ended.
 #[derive(Debug, PartialEq, Eq, Drop)]
 pub enum Status {
@@ -36,26 +51,56 @@ pub enum Status {
     /// A read failed.
     ReadFault,
     /// A write failed; how many of the due bytes each sink took.
-    WriteFault { out: usize, err: usize },
+    WriteFault {
+        out: usize,
+        err: usize,
+    },
     Memory,
     /// A run or a replay has as many entries as it may have; done is not shown, and a thread can move.
     Entries,
     /// In a run or a replay done is not shown, and no cycle of one thread changes anything.
     Stuck,
     /// The entry of that index is the first of a replay's journal that is not legal, or misspelt.
-    BadEntry { index: usize },
+    BadEntry {
+        index: usize,
+    },
     /// Main has not returned in the steps of the walk.
     Walked(WalkEnd),
     /// So many cycles ran, and done is not shown.
-    Cycles { cycles: u32 },
+    Cycles {
+        cycles: u32,
+    },
     /// A Verilog text spells no net that a simulator runs: the offset of the first token at which no sentence goes on, else of the first part
     /// that breaks a rule, else of what `top` lacks; or the most bytes that are read, where the text is longer.
-    NotNet { offset: usize },
+    NotNet {
+        offset: usize,
+    },
     /// A signal of a Verilog text depends on itself: the path of the first, below `top`, with dots between the names.
-    Loop { signal: String },
+    Loop {
+        signal: String,
+    },
     /// A program keeps no lock discipline: the place of the name of the first global that has none, where it is accessed first, and the name. Or
     /// the place of the first call by which a start routine may create or join a thread, and no name.
-    Doubt { offset: usize, name: String },
+    Doubt {
+        offset: usize,
+        name: String,
+    },
+    /// Some interleaving of a program races at the global of this name: the offsets of the two steps.
+    Race {
+        first: u32,
+        second: u32,
+        name: String,
+    },
+    /// Some interleaving of a program comes to an undefined step, by the statement, operand or brace at an offset.
+    UndefinedStep {
+        offset: u32,
+        cause: UndefinedCause,
+    },
+    /// One run of a program, of so many steps, shows neither that it is good nor that it isn't.
+    Unknown {
+        steps: u32,
+        cause: UnknownCause,
+    },
 }
 
 impl Status {
@@ -78,6 +123,9 @@ impl Status {
             Status::NotNet { .. } => 11,
             Status::Loop { .. } => 11,
             Status::Doubt { .. } => 12,
+            Status::Race { .. } => 13,
+            Status::UndefinedStep { .. } => 14,
+            Status::Unknown { .. } => 15,
         }
     }
 }

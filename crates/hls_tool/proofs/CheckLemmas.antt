@@ -37,6 +37,9 @@ module _ (text : List ℕ) (P : Program) (w : ℕ) (accepted : IsAccepted text P
   owes_discipline rose d (status.NotNet offset) h = h.0
   owes_discipline rose d (status.Loop signal) h = h.0
   owes_discipline rose d (status.Doubt offset name) h = in_doubt offset (string_bytes name) h.0
+  owes_discipline rose d (status.Race first second name) h = h
+  owes_discipline rose d (status.UndefinedStep offset cause) h = h
+  owes_discipline rose d (status.Unknown steps cause) h = h
 
 ends_so : (P : Program) (owed : Status) (due line : List ℕ) (out err : Passage) (s : Status) → Ends owed due line out err s → TellsDiscipline P owed → TellsDiscipline P s
 ends_so P owed due line out err status.Ok h k = subst (TellsDiscipline P) (sym h.0) k
@@ -53,6 +56,9 @@ ends_so P owed due line out err (status.Cycles cycles) h k = subst (TellsDiscipl
 ends_so P owed due line out err (status.NotNet offset) h k = subst (TellsDiscipline P) (sym h.0) k
 ends_so P owed due line out err (status.Loop signal) h k = subst (TellsDiscipline P) (sym h.0) k
 ends_so P owed due line out err (status.Doubt offset name) h k = subst (TellsDiscipline P) (sym h.0) k
+ends_so P owed due line out err (status.Race first second name) h k = subst (TellsDiscipline P) (sym h.0) k
+ends_so P owed due line out err (status.UndefinedStep offset cause) h k = subst (TellsDiscipline P) (sym h.0) k
+ends_so P owed due line out err (status.Unknown steps cause) h k = subst (TellsDiscipline P) (sym h.0) k
 
 pub checks : (task : Option Task) (left : Option (List ℕ)) (rose : Type 0) (out err : Passage) (outcome : Outcome) (P : Program) →
     Answered task left rose out err outcome → AsksFor Check task left P → TellsDiscipline P outcome.status

@@ -1,7 +1,7 @@
 -- A task ends, for a text of the profile, with what it asks for or for want of memory, where no stream fails.
 use Rattle.std.proofs.Common.{◌≡◌, ℕ, ◌≤◌, Bool, List, length, Option, Some, None, sym, subst, ⊎_elim, arith}
 use Rattle.hls_words.specs.declared.task.Task.{Task}
-use Rattle.hls_words.specs.declared.task.Task.TheVariants.{Build, Step, Run, Replay, Walk, Check, Sim}
+use Rattle.hls_words.specs.declared.task.Task.TheVariants.{Build, Step, Run, Replay, Walk, Check, CheckRun, Sim}
 use Rattle.turns.specs.declared.Turn.{Turn}
 use Rattle.c_program.specs.Tree.{Program}
 use Rattle.c_accepted.specs.declared.refusal.Refusal.{Refusal}
@@ -53,6 +53,9 @@ module _ (text : List ℕ) (P : Program) (w : ℕ) (accepted : IsAccepted text P
   owes_build jobs rose d (status.NotNet offset) h calm = absurd h.0
   owes_build jobs rose d (status.Loop signal) h calm = absurd h.0
   owes_build jobs rose d (status.Doubt offset name) h calm = absurd h.0
+  owes_build jobs rose d (status.Race first second name) h calm = absurd h
+  owes_build jobs rose d (status.UndefinedStep offset cause) h calm = absurd h
+  owes_build jobs rose d (status.Unknown steps cause) h calm = absurd h
 
   owes_step : (most : ℕ) (vcd : Bool) (rose : Type 0) (d : Due) (s : Status) → OwesAt (Some (Step most vcd)) (Some text) rose d s → (rose → ⊥) → Completes (Step most vcd) s
   owes_step most vcd rose d status.Ok h calm = tt
@@ -69,6 +72,9 @@ module _ (text : List ℕ) (P : Program) (w : ℕ) (accepted : IsAccepted text P
   owes_step most vcd rose d (status.NotNet offset) h calm = absurd h.0
   owes_step most vcd rose d (status.Loop signal) h calm = absurd h.0
   owes_step most vcd rose d (status.Doubt offset name) h calm = absurd h.0
+  owes_step most vcd rose d (status.Race first second name) h calm = absurd h
+  owes_step most vcd rose d (status.UndefinedStep offset cause) h calm = absurd h
+  owes_step most vcd rose d (status.Unknown steps cause) h calm = absurd h
 
   owes_run : (most : ℕ) (listed : Bool) (rose : Type 0) (d : Due) (s : Status) → OwesAt (Some (Run most listed)) (Some text) rose d s → (rose → ⊥) → Completes (Run most listed) s
   owes_run most listed rose d status.Ok h calm = tt
@@ -85,6 +91,9 @@ module _ (text : List ℕ) (P : Program) (w : ℕ) (accepted : IsAccepted text P
   owes_run most listed rose d (status.NotNet offset) h calm = absurd h.0
   owes_run most listed rose d (status.Loop signal) h calm = absurd h.0
   owes_run most listed rose d (status.Doubt offset name) h calm = absurd h.0
+  owes_run most listed rose d (status.Race first second name) h calm = absurd h
+  owes_run most listed rose d (status.UndefinedStep offset cause) h calm = absurd h
+  owes_run most listed rose d (status.Unknown steps cause) h calm = absurd h
 
   owes_walk : (turns : List Turn) (rose : Type 0) (d : Due) (s : Status) → OwesAt (Some (Walk turns)) (Some text) rose d s → (rose → ⊥) → Completes (Walk turns) s
   owes_walk turns rose d status.Ok h calm = tt
@@ -101,6 +110,9 @@ module _ (text : List ℕ) (P : Program) (w : ℕ) (accepted : IsAccepted text P
   owes_walk turns rose d (status.NotNet offset) h calm = absurd h.0
   owes_walk turns rose d (status.Loop signal) h calm = absurd h.0
   owes_walk turns rose d (status.Doubt offset name) h calm = absurd h.0
+  owes_walk turns rose d (status.Race first second name) h calm = absurd h
+  owes_walk turns rose d (status.UndefinedStep offset cause) h calm = absurd h
+  owes_walk turns rose d (status.Unknown steps cause) h calm = absurd h
 
   owes_check : (rose : Type 0) (d : Due) (s : Status) → OwesAt (Some Check) (Some text) rose d s → (rose → ⊥) → Completes Check s
   owes_check rose d status.Ok h calm = tt
@@ -117,6 +129,28 @@ module _ (text : List ℕ) (P : Program) (w : ℕ) (accepted : IsAccepted text P
   owes_check rose d (status.NotNet offset) h calm = absurd h.0
   owes_check rose d (status.Loop signal) h calm = absurd h.0
   owes_check rose d (status.Doubt offset name) h calm = tt
+  owes_check rose d (status.Race first second name) h calm = absurd h
+  owes_check rose d (status.UndefinedStep offset cause) h calm = absurd h
+  owes_check rose d (status.Unknown steps cause) h calm = absurd h
+
+  owes_check_run : (most : ℕ) (rose : Type 0) (d : Due) (s : Status) → OwesAt (Some (CheckRun most)) (Some text) rose d s → (rose → ⊥) → Completes (CheckRun most) s
+  owes_check_run most rose d status.Ok h calm = tt
+  owes_check_run most rose d (status.Refused r) h calm = absurd (never_refused r h.1)
+  owes_check_run most rose d status.Usage h calm = absurd (let e : Some (CheckRun most) ≡ None = h.0 in cc)
+  owes_check_run most rose d status.ReadFault h calm = absurd (calm h.1)
+  owes_check_run most rose d (status.WriteFault n m) h calm = absurd h
+  owes_check_run most rose d status.Memory h calm = tt
+  owes_check_run most rose d status.Entries h calm = absurd h
+  owes_check_run most rose d status.Stuck h calm = absurd h
+  owes_check_run most rose d (status.BadEntry index) h calm = absurd h
+  owes_check_run most rose d (status.Walked end) h calm = absurd h
+  owes_check_run most rose d (status.Cycles cycles) h calm = absurd h
+  owes_check_run most rose d (status.NotNet offset) h calm = absurd h.0
+  owes_check_run most rose d (status.Loop signal) h calm = absurd h.0
+  owes_check_run most rose d (status.Doubt offset name) h calm = absurd h.0
+  owes_check_run most rose d (status.Race first second name) h calm = tt
+  owes_check_run most rose d (status.UndefinedStep offset cause) h calm = tt
+  owes_check_run most rose d (status.Unknown steps cause) h calm = tt
 
   -- ---- for a text behind a journal
 
@@ -142,6 +176,9 @@ module _ (text : List ℕ) (P : Program) (w : ℕ) (accepted : IsAccepted text P
     owes_replay rose d (status.NotNet offset) h calm = absurd h.0
     owes_replay rose d (status.Loop signal) h calm = absurd h.0
     owes_replay rose d (status.Doubt offset name) h calm = absurd h.0
+    owes_replay rose d (status.Race first second name) h calm = absurd h
+    owes_replay rose d (status.UndefinedStep offset cause) h calm = absurd h
+    owes_replay rose d (status.Unknown steps cause) h calm = absurd h
 
 owes_complete : (whole text : List ℕ) (P : Program) (w : ℕ) → IsAccepted text P w → (t : Task) (rose : Type 0) (d : Due) (s : Status) → GaveTo (Some t) (Some whole) text
     → OwesAt (Some t) (Some whole) rose d s → (rose → ⊥) → Completes t s
@@ -156,6 +193,8 @@ owes_complete whole text P w accepted (Walk turns) rose d s gave h calm =
     owes_walk text P w accepted turns rose d s (subst (λ (x : List ℕ). OwesAt (Some (Walk turns)) (Some x) rose d s) (sym gave) h) calm
 owes_complete whole text P w accepted Check rose d s gave h calm =
     owes_check text P w accepted rose d s (subst (λ (x : List ℕ). OwesAt (Some Check) (Some x) rose d s) (sym gave) h) calm
+owes_complete whole text P w accepted (CheckRun most) rose d s gave h calm =
+    owes_check_run text P w accepted most rose d s (subst (λ (x : List ℕ). OwesAt (Some (CheckRun most)) (Some x) rose d s) (sym gave) h) calm
 owes_complete whole text P w accepted (Sim most) rose d s gave h calm = absurd gave
 
 -- ---- how it goes out
@@ -176,6 +215,9 @@ ends_complete t owed due line out err (status.Cycles cycles) h k o e = subst (Co
 ends_complete t owed due line out err (status.NotNet offset) h k o e = subst (Completes t) (sym h.0) k
 ends_complete t owed due line out err (status.Loop signal) h k o e = subst (Completes t) (sym h.0) k
 ends_complete t owed due line out err (status.Doubt offset name) h k o e = subst (Completes t) (sym h.0) k
+ends_complete t owed due line out err (status.Race first second name) h k o e = subst (Completes t) (sym h.0) k
+ends_complete t owed due line out err (status.UndefinedStep offset cause) h k o e = subst (Completes t) (sym h.0) k
+ends_complete t owed due line out err (status.Unknown steps cause) h k o e = subst (Completes t) (sym h.0) k
 
 module _ (task : Option Task) (left : Option (List ℕ)) (rose : Type 0) (out err : Passage) (outcome : Outcome) (t : Task) (P : Program)
     (h : Answered task left rose out err outcome) (asked : AsksFor t task left P) where

@@ -21,3 +21,6 @@ may_be_owed task left rose d (status.Cycles cycles) h = tt
 may_be_owed task left rose d (status.NotNet offset) h = tt
 may_be_owed task left rose d (status.Loop signal) h = tt
 may_be_owed task left rose d (status.Doubt offset name) h = tt
+may_be_owed task left rose d (status.Race first second name) h = tt
+may_be_owed task left rose d (status.UndefinedStep offset cause) h = tt
+may_be_owed task left rose d (status.Unknown steps cause) h = tt

@@ -3,6 +3,7 @@ pub mod RefusedLemmas
 pub mod CompleteLemmas
 pub mod WalkLemmas
 pub mod CheckLemmas
+pub mod RunLemmas
 pub mod TextLemmas
 pub mod SimLemmas
 pub mod StepLemmas

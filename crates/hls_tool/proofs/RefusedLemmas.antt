@@ -2,7 +2,7 @@
 use Rattle.std.proofs.Common.{◌≡◌, ℕ, ◌<◌, ◌≤◌, true, false, List, length, Option, Some, None, sym, subst, ◌∙◌, ⊎_elim, arith}
 use Rattle.std.specs.Prelude.{⊤}
 use Rattle.hls_words.specs.declared.task.Task.{Task}
-use Rattle.hls_words.specs.declared.task.Task.TheVariants.{Build, Step, Run, Replay, Walk, Check, Sim}
+use Rattle.hls_words.specs.declared.task.Task.TheVariants.{Build, Step, Run, Replay, Walk, Check, CheckRun, Sim}
 use Rattle.c_program.specs.Tree.{Program}
 use Rattle.c_accepted.specs.declared.refusal.Refusal.{Refusal}
 use Rattle.c_accepted.specs.declared.refusal.Refusal.TheVariants as refusal
@@ -57,6 +57,9 @@ module _ (text : List ℕ) (r : Refusal) (refused : IsRefused text r) where
   others None rose d (status.NotNet offset) takes h = h.0
   others None rose d (status.Loop signal) takes h = h.0
   others None rose d (status.Doubt offset name) takes h = h.0
+  others None rose d (status.Race first second name) takes h = h
+  others None rose d (status.UndefinedStep offset cause) takes h = h
+  others None rose d (status.Unknown steps cause) takes h = h
   others (Some (Build jobs)) rose d status.Ok takes h = is_not_accepted h.text h.program h.weight h.gave h.compiled.accepted
   others (Some (Build jobs)) rose d (status.Refused s) takes h = is_refused_by s h.1
   others (Some (Build jobs)) rose d status.Usage takes h = tt
@@ -71,6 +74,9 @@ module _ (text : List ℕ) (r : Refusal) (refused : IsRefused text r) where
   others (Some (Build jobs)) rose d (status.NotNet offset) takes h = h.0
   others (Some (Build jobs)) rose d (status.Loop signal) takes h = h.0
   others (Some (Build jobs)) rose d (status.Doubt offset name) takes h = h.0
+  others (Some (Build jobs)) rose d (status.Race first second name) takes h = h
+  others (Some (Build jobs)) rose d (status.UndefinedStep offset cause) takes h = h
+  others (Some (Build jobs)) rose d (status.Unknown steps cause) takes h = h
   others (Some (Step most vcd)) rose d status.Ok takes h = is_not_accepted h.1.text h.1.program h.1.weight h.1.gave h.1.compiled.accepted
   others (Some (Step most vcd)) rose d (status.Refused s) takes h = is_refused_by s h.1
   others (Some (Step most vcd)) rose d status.Usage takes h = tt
@@ -85,6 +91,9 @@ module _ (text : List ℕ) (r : Refusal) (refused : IsRefused text r) where
   others (Some (Step most vcd)) rose d (status.NotNet offset) takes h = h.0
   others (Some (Step most vcd)) rose d (status.Loop signal) takes h = h.0
   others (Some (Step most vcd)) rose d (status.Doubt offset name) takes h = h.0
+  others (Some (Step most vcd)) rose d (status.Race first second name) takes h = h
+  others (Some (Step most vcd)) rose d (status.UndefinedStep offset cause) takes h = h
+  others (Some (Step most vcd)) rose d (status.Unknown steps cause) takes h = h
   others (Some (Run most listed)) rose d status.Ok takes h = is_not_accepted h.text h.program h.weight h.gave h.compiled.accepted
   others (Some (Run most listed)) rose d (status.Refused s) takes h = is_refused_by s h.1
   others (Some (Run most listed)) rose d status.Usage takes h = tt
@@ -99,6 +108,9 @@ module _ (text : List ℕ) (r : Refusal) (refused : IsRefused text r) where
   others (Some (Run most listed)) rose d (status.NotNet offset) takes h = h.0
   others (Some (Run most listed)) rose d (status.Loop signal) takes h = h.0
   others (Some (Run most listed)) rose d (status.Doubt offset name) takes h = h.0
+  others (Some (Run most listed)) rose d (status.Race first second name) takes h = h
+  others (Some (Run most listed)) rose d (status.UndefinedStep offset cause) takes h = h
+  others (Some (Run most listed)) rose d (status.Unknown steps cause) takes h = h
   others (Some (Walk turns)) rose d status.Ok takes h = is_not_accepted h.text h.program h.weight h.gave h.accepted
   others (Some (Walk turns)) rose d (status.Refused s) takes h = is_refused_by s h.1
   others (Some (Walk turns)) rose d status.Usage takes h = tt
@@ -113,6 +125,9 @@ module _ (text : List ℕ) (r : Refusal) (refused : IsRefused text r) where
   others (Some (Walk turns)) rose d (status.NotNet offset) takes h = h.0
   others (Some (Walk turns)) rose d (status.Loop signal) takes h = h.0
   others (Some (Walk turns)) rose d (status.Doubt offset name) takes h = h.0
+  others (Some (Walk turns)) rose d (status.Race first second name) takes h = h
+  others (Some (Walk turns)) rose d (status.UndefinedStep offset cause) takes h = h
+  others (Some (Walk turns)) rose d (status.Unknown steps cause) takes h = h
   others (Some Check) rose d status.Ok takes h = is_not_accepted h.text h.program h.weight h.gave h.accepted
   others (Some Check) rose d (status.Refused s) takes h = is_refused_by s h.1
   others (Some Check) rose d status.Usage takes h = tt
@@ -127,6 +142,26 @@ module _ (text : List ℕ) (r : Refusal) (refused : IsRefused text r) where
   others (Some Check) rose d (status.NotNet offset) takes h = h.0
   others (Some Check) rose d (status.Loop signal) takes h = h.0
   others (Some Check) rose d (status.Doubt offset name) takes h = is_not_accepted h.0.text h.0.program h.0.weight h.0.gave h.0.accepted
+  others (Some Check) rose d (status.Race first second name) takes h = h
+  others (Some Check) rose d (status.UndefinedStep offset cause) takes h = h
+  others (Some Check) rose d (status.Unknown steps cause) takes h = h
+  others (Some (CheckRun most)) rose d status.Ok takes h = is_not_accepted h.text h.program h.weight h.gave h.accepted
+  others (Some (CheckRun most)) rose d (status.Refused s) takes h = is_refused_by s h.1
+  others (Some (CheckRun most)) rose d status.Usage takes h = tt
+  others (Some (CheckRun most)) rose d status.ReadFault takes h = tt
+  others (Some (CheckRun most)) rose d (status.WriteFault n m) takes h = tt
+  others (Some (CheckRun most)) rose d status.Memory takes h = tt
+  others (Some (CheckRun most)) rose d status.Entries takes h = h
+  others (Some (CheckRun most)) rose d status.Stuck takes h = h
+  others (Some (CheckRun most)) rose d (status.BadEntry index) takes h = h
+  others (Some (CheckRun most)) rose d (status.Walked end) takes h = h
+  others (Some (CheckRun most)) rose d (status.Cycles cycles) takes h = h
+  others (Some (CheckRun most)) rose d (status.NotNet offset) takes h = h.0
+  others (Some (CheckRun most)) rose d (status.Loop signal) takes h = h.0
+  others (Some (CheckRun most)) rose d (status.Doubt offset name) takes h = h.0
+  others (Some (CheckRun most)) rose d (status.Race first second name) takes h = is_not_accepted h.text h.program h.weight h.gave h.accepted
+  others (Some (CheckRun most)) rose d (status.UndefinedStep offset cause) takes h = is_not_accepted h.text h.program h.weight h.gave h.accepted
+  others (Some (CheckRun most)) rose d (status.Unknown steps cause) takes h = is_not_accepted h.text h.program h.weight h.gave h.accepted
   others (Some Replay) rose d s takes h = absurd takes
   others (Some (Sim most)) rose d s takes h = absurd takes
 
@@ -152,6 +187,9 @@ module _ (whole : List ℕ) (r : Refusal) (long : r ≡ refusal.TooLong) (more :
   too_long_together rose d (status.NotNet offset) h = h.0
   too_long_together rose d (status.Loop signal) h = h.0
   too_long_together rose d (status.Doubt offset name) h = h.0
+  too_long_together rose d (status.Race first second name) h = h
+  too_long_together rose d (status.UndefinedStep offset cause) h = h
+  too_long_together rose d (status.Unknown steps cause) h = h
 
 -- a text behind a journal
 module _ (whole : List ℕ) (first : List Entry) (a : Option ℕ) (text : List ℕ) (gave : GaveJournal (Some whole) first a text) (r : Refusal) (refused : IsRefused text r) where
@@ -182,6 +220,9 @@ module _ (whole : List ℕ) (first : List Entry) (a : Option ℕ) (text : List �
   refused_behind rose d (status.NotNet offset) h = h.0
   refused_behind rose d (status.Loop signal) h = h.0
   refused_behind rose d (status.Doubt offset name) h = h.0
+  refused_behind rose d (status.Race first second name) h = h
+  refused_behind rose d (status.UndefinedStep offset cause) h = h
+  refused_behind rose d (status.Unknown steps cause) h = h
 
 owes_refusal : (whole : List ℕ) (r : Refusal) (task : Option Task) (rose : Type 0) (d : Due) (s : Status) → IsRefusedFor task (Some whole) r → OwesAt task (Some whole) rose d s → TellsRefusal r s
 owes_refusal whole r None rose d s is h = others whole r (refused_text whole r is) None rose d s tt h
@@ -192,6 +233,7 @@ owes_refusal whole r (Some (Run most listed)) rose d s is h =
     others whole r (refused_text whole r is) (Some (Run most listed)) rose d s tt h
 owes_refusal whole r (Some (Walk turns)) rose d s is h = others whole r (refused_text whole r is) (Some (Walk turns)) rose d s tt h
 owes_refusal whole r (Some Check) rose d s is h = others whole r (refused_text whole r is) (Some Check) rose d s tt h
+owes_refusal whole r (Some (CheckRun most)) rose d s is h = others whole r (refused_text whole r is) (Some (CheckRun most)) rose d s tt h
 owes_refusal whole r (Some (Sim most)) rose d s is h = absurd is
 owes_refusal whole r (Some Replay) rose d s is h =
     ⊎_elim (λ long. too_long_together whole r long.0 long.1 rose d s h) (λ other. refused_behind whole other.1.0 other.1.1 other.0 other.1.2 r other.2 rose d s h) is
@@ -211,6 +253,9 @@ ends_so r owed due line out err (status.Cycles cycles) h k = subst (TellsRefusal
 ends_so r owed due line out err (status.NotNet offset) h k = subst (TellsRefusal r) (sym h.0) k
 ends_so r owed due line out err (status.Loop signal) h k = subst (TellsRefusal r) (sym h.0) k
 ends_so r owed due line out err (status.Doubt offset name) h k = subst (TellsRefusal r) (sym h.0) k
+ends_so r owed due line out err (status.Race first second name) h k = subst (TellsRefusal r) (sym h.0) k
+ends_so r owed due line out err (status.UndefinedStep offset cause) h k = subst (TellsRefusal r) (sym h.0) k
+ends_so r owed due line out err (status.Unknown steps cause) h k = subst (TellsRefusal r) (sym h.0) k
 
 pub tells_refusal : (task : Option Task) (left : Option (List ℕ)) (rose : Type 0) (out err : Passage) (outcome : Outcome) (whole : List ℕ) (r : Refusal) →
     Answered task left rose out err outcome → left ≡ Some whole → IsRefusedFor task (Some whole) r → TellsRefusal r outcome.status

@@ -46,6 +46,9 @@ module _ (text : List ℕ) where
   owes_simulation most rose d (status.NotNet offset) h = none offset h.0
   owes_simulation most rose d (status.Loop signal) h = looped (string_bytes signal) h.0
   owes_simulation most rose d (status.Doubt offset name) h = h.0
+  owes_simulation most rose d (status.Race first second name) h = h
+  owes_simulation most rose d (status.UndefinedStep offset cause) h = h
+  owes_simulation most rose d (status.Unknown steps cause) h = h
 
   ends_so : (owed : Status) (due line : List ℕ) (out err : Passage) (s : Status) → Ends owed due line out err s → TellsSimulation text owed → TellsSimulation text s
   ends_so owed due line out err status.Ok h k = subst (TellsSimulation text) (sym h.0) k
@@ -62,6 +65,9 @@ module _ (text : List ℕ) where
   ends_so owed due line out err (status.NotNet offset) h k = subst (TellsSimulation text) (sym h.0) k
   ends_so owed due line out err (status.Loop signal) h k = subst (TellsSimulation text) (sym h.0) k
   ends_so owed due line out err (status.Doubt offset name) h k = subst (TellsSimulation text) (sym h.0) k
+  ends_so owed due line out err (status.Race first second name) h k = subst (TellsSimulation text) (sym h.0) k
+  ends_so owed due line out err (status.UndefinedStep offset cause) h k = subst (TellsSimulation text) (sym h.0) k
+  ends_so owed due line out err (status.Unknown steps cause) h k = subst (TellsSimulation text) (sym h.0) k
 
 module _ (task : Option Task) (left : Option (List ℕ)) (rose : Type 0) (out err : Passage) (outcome : Outcome) (most : ℕ) (text : List ℕ)
     (h : Answered task left rose out err outcome) (asked : AsksToSimulate most task left text) where

@@ -122,6 +122,9 @@ module _ (most : ℕ) (c_text : List ℕ) (d : Due) (s : Status) (stepped : IsSt
   owes_same rose owed (status.NotNet offset) h = absurd (never_none offset h.0)
   owes_same rose owed (status.Loop signal) h = absurd (never_looped (string_bytes signal) h.0)
   owes_same rose owed (status.Doubt offset name) h = absurd h.0
+  owes_same rose owed (status.Race first second name) h = absurd h
+  owes_same rose owed (status.UndefinedStep offset cause) h = absurd h
+  owes_same rose owed (status.Unknown steps cause) h = absurd h
 
   module _ (owed : Due) (out err : Passage) where
     took : (u : Status) → SameAs owed u → TookAll owed.out owed.err out err → (u ≡ s) × TookAll d.out d.err out err
@@ -142,6 +145,9 @@ module _ (most : ℕ) (c_text : List ℕ) (d : Due) (s : Status) (stepped : IsSt
     ends_so (status.NotNet offset) h k = took (status.NotNet offset) (subst (IsSame owed) (sym h.0) k) h.1
     ends_so (status.Loop signal) h k = took (status.Loop signal) (subst (IsSame owed) (sym h.0) k) h.1
     ends_so (status.Doubt offset name) h k = took (status.Doubt offset name) (subst (IsSame owed) (sym h.0) k) h.1
+    ends_so (status.Race first second name) h k = took (status.Race first second name) (subst (IsSame owed) (sym h.0) k) h.1
+    ends_so (status.UndefinedStep offset cause) h k = took (status.UndefinedStep offset cause) (subst (IsSame owed) (sym h.0) k) h.1
+    ends_so (status.Unknown steps cause) h k = took (status.Unknown steps cause) (subst (IsSame owed) (sym h.0) k) h.1
 
   pub as_step : (task : Option Task) (left : Option (List ℕ)) (rose : Type 0) (out err : Passage) (outcome : Outcome) → Answered task left rose out err outcome
       → AsksToSimulate most task left d.text → AnswersAs d s out err outcome.status

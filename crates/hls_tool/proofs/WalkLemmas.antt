@@ -41,6 +41,9 @@ module _ (turns : List Turn) (text : List ℕ) (P : Program) (w : ℕ) (accepted
   owes_end rose d (status.NotNet offset) h = absurd h.0
   owes_end rose d (status.Loop signal) h = absurd h.0
   owes_end rose d (status.Doubt offset name) h = absurd h.0
+  owes_end rose d (status.Race first second name) h = absurd h
+  owes_end rose d (status.UndefinedStep offset cause) h = absurd h
+  owes_end rose d (status.Unknown steps cause) h = absurd h
 
 ends_so : (end : WalkEnds) (owed : Status) (due line : List ℕ) (out err : Passage) (s : Status) → Ends owed due line out err s → TellsEnd end owed → TellsEnd end s
 ends_so end owed due line out err status.Ok h k = subst (TellsEnd end) (sym h.0) k
@@ -57,6 +60,9 @@ ends_so end owed due line out err (status.Cycles cycles) h k = subst (TellsEnd e
 ends_so end owed due line out err (status.NotNet offset) h k = subst (TellsEnd end) (sym h.0) k
 ends_so end owed due line out err (status.Loop signal) h k = subst (TellsEnd end) (sym h.0) k
 ends_so end owed due line out err (status.Doubt offset name) h k = subst (TellsEnd end) (sym h.0) k
+ends_so end owed due line out err (status.Race first second name) h k = subst (TellsEnd end) (sym h.0) k
+ends_so end owed due line out err (status.UndefinedStep offset cause) h k = subst (TellsEnd end) (sym h.0) k
+ends_so end owed due line out err (status.Unknown steps cause) h k = subst (TellsEnd end) (sym h.0) k
 
 pub tells_end : (task : Option Task) (left : Option (List ℕ)) (rose : Type 0) (out err : Passage) (outcome : Outcome) (turns : List Turn) (P : Program) →
     Answered task left rose out err outcome → AsksFor (Walk turns) task left P → (end : WalkEnds) (output : List ℕ) → IsWalk P (threads_of turns) end output →

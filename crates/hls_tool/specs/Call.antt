@@ -1,7 +1,7 @@
 -- What a call of the tool says of its answer.
-use Rattle.std.specs.Prelude.{◌≡◌, ◌⊎◌, ℕ, ◌<◌, ◌≤◌, List, length, Option, Some, ⊤, string_bytes}
+use Rattle.std.specs.Prelude.{◌≡◌, ◌⊎◌, ℕ, ◌<◌, ◌≤◌, Bool, List, length, Option, Some, ⊤, string_bytes}
 use Rattle.hls_words.specs.declared.task.Task.{Task}
-use Rattle.hls_words.specs.declared.task.Task.TheVariants.{Build, Step, Run, Replay, Walk, Check, Sim}
+use Rattle.hls_words.specs.declared.task.Task.TheVariants.{Build, Step, Run, Replay, Walk, Check, CheckRun, Sim}
 use Rattle.verilog_tree.specs.declared.tree.Net.{Net}
 use Rattle.netlist.specs.NetlistOf.{netlist_of}
 use Rattle.verilog_reader.specs.Faults.{IsRead}
@@ -10,13 +10,17 @@ use Rattle.sim_loops.specs.Dotted.{IsLoopPath}
 use Rattle.c_program.specs.Tree.{Program}
 use Rattle.check_command.specs.Discipline.{Doubt, verdict}
 use Rattle.check_command.specs.Told.{IsDisciplined}
+use Rattle.check_command.specs.RunTold.{IsShownGood, IsShownRacing, IsShownUndefined}
+use Rattle.check_command.specs.Verdict.{IsReason}
+use Rattle.run_check.specs.declared.run.Reason.{Reason}
+use Rattle.turns.specs.declared.Turn.{Turn}
 use Rattle.c_interpreter.specs.declared.walk.WalkEnd.{WalkEnd as Ends}
 use Rattle.c_accepted.specs.Profile.{IsAccepted}
 use Rattle.c_accepted.specs.declared.refusal.Refusal.{Refusal}
 use Rattle.hls_tool.specs.declared.outcome.Outcome.{Outcome}
 use Rattle.hls_status.specs.declared.status.Status.{Status}
 use Rattle.hls_status.specs.declared.status.Status.TheVariants as status
-use Rattle.hls_commands.specs.Answers.{Due, GaveTo, Owes, most_simulated, status_of}
+use Rattle.hls_commands.specs.Answers.{Due, GaveTo, Owes, cause_of, most_simulated, status_of}
 use Rattle.hls_tool.specs.Delivery.{Ends as Delivered, Passage, TookAll}
 
 -- the call owed an answer to its task, this is how that answer went out, and text and journal are those of the answer, also where a write failed
@@ -67,6 +71,10 @@ Completes (Walk turns) status.Ok = ⊤
 Completes (Walk turns) (status.Walked end) = ⊤
 Completes Check status.Ok = ⊤
 Completes Check (status.Doubt offset name) = ⊤
+Completes (CheckRun most) status.Ok = ⊤
+Completes (CheckRun most) (status.Race first second name) = ⊤
+Completes (CheckRun most) (status.UndefinedStep offset cause) = ⊤
+Completes (CheckRun most) (status.Unknown steps cause) = ⊤
 Completes t s = ⊥
 
 -- the status of this end of a walk, but for a fault of the source or of a sink, and want of memory
@@ -87,6 +95,20 @@ TellsDiscipline P status.ReadFault = ⊤
 TellsDiscipline P (status.WriteFault n m) = ⊤
 TellsDiscipline P status.Memory = ⊤
 TellsDiscipline P s = ⊥
+
+-- ---- one run
+
+-- how a check of the program by one run ends, but for a fault of the source or of a sink, and want of memory: good only where it is good, and a
+-- race or an undefined step only where some interleaving comes to it
+abbrev pub TellsRun : Program → Status → Type 0
+TellsRun P status.Ok = (steps : ℕ) × (one_output : Bool) × IsShownGood P steps one_output
+TellsRun P (status.Race first second name) = (turns : List Turn) × IsShownRacing P turns first second (string_bytes name)
+TellsRun P (status.UndefinedStep offset cause) = (turns : List Turn) × IsShownUndefined P turns offset cause
+TellsRun P (status.Unknown steps cause) = (reason : Reason) × (cause ≡ cause_of reason) × IsReason P steps reason
+TellsRun P status.ReadFault = ⊤
+TellsRun P (status.WriteFault n m) = ⊤
+TellsRun P status.Memory = ⊤
+TellsRun P s = ⊥
 
 -- ---- Verilog texts
 

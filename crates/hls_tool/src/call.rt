@@ -1,13 +1,14 @@
 ghost use Rattle.std.specs.Prelude.{◌≡◌, ◌⊎◌, ◌≤◌, None, Some, false, length, map, string_bytes};
 ghost use Rattle.hls_io.specs.Causes.{Rose};
 ghost use Rattle.hls_words.specs.Line.{task_of};
-ghost use Rattle.hls_words.specs.declared.task.Task.TheVariants.{Check, Walk};
-ghost use Rattle.hls_tool.specs.Call.{Answered, AnswersAs, AsksFor, AsksToSimulate, Completes, IsWriteFault, TellsDiscipline, TellsEnd, TellsRefusal, TellsSimulation};
+ghost use Rattle.hls_words.specs.declared.task.Task.TheVariants.{Check, CheckRun, Walk};
+ghost use Rattle.hls_tool.specs.Call.{Answered, AnswersAs, AsksFor, AsksToSimulate, Completes, IsWriteFault, TellsDiscipline, TellsEnd, TellsRefusal, TellsRun, TellsSimulation};
 ghost use Rattle.turns.specs.Turns.{threads_of};
 ghost use Rattle.journal_laws.specs.declared.verdict.Verdict.TheVariants.{Entries, Stuck};
 ghost use Rattle.c_interpreter.specs.Walk.{IsWalk};
 ghost use Rattle.hls_tool.specs.Delivery.{passage};
-ghost use Rattle.hls_commands.specs.Answers.{HasLoopOf, HasRunOut, IsBadEntryOf, IsDoubtOf, IsNotNetOf, IsRefusedFor, IsStepped, IsVerdict, IsWalkEnd, most_simulated};
+ghost use Rattle.hls_commands.specs.Answers.{HasLoopOf, HasRunOut, IsBadEntryOf, IsDoubtOf, IsNotNetOf, IsRaceOf, IsRefusedFor, IsStepped};
+ghost use Rattle.hls_commands.specs.Answers.{IsUndefinedOf, IsUnknownOf, IsVerdict, IsWalkEnd, most_simulated};
 
 use crate::deliver::deliver;
 use crate::outcome::Outcome;
@@ -42,6 +43,12 @@ pub fn hls<R: Threads + Wait + Sync, S: Source, O: Sink, E: Sink, G: Gate + Sync
     ensures not_net { (offset : _) → result.status ≡ Status.NotNet offset → IsNotNetOf (task_of (map string_bytes words.now)) (S.left source.old) offset }
     ensures loops { (signal : _) → result.status ≡ Status.Loop signal → HasLoopOf (task_of (map string_bytes words.now)) (S.left source.old) (string_bytes signal) }
     ensures doubt { (offset : _) (name : _) → result.status ≡ Status.Doubt offset name → IsDoubtOf (task_of (map string_bytes words.now)) (S.left source.old) offset (string_bytes name) }
+    ensures race { (first : _) (second : _) (name : _) → result.status ≡ Status.Race first second name
+        → IsRaceOf (task_of (map string_bytes words.now)) (S.left source.old) first second (string_bytes name) }
+    ensures undefined_step { (offset : _) (cause : _) → result.status ≡ Status.UndefinedStep offset cause
+        → IsUndefinedOf (task_of (map string_bytes words.now)) (S.left source.old) offset cause }
+    ensures unknown { (steps : _) (cause : _) → result.status ≡ Status.Unknown steps cause
+        → IsUnknownOf (task_of (map string_bytes words.now)) (S.left source.old) steps cause }
     ensures walked { (end : _) → result.status ≡ Status.Walked end → IsWalkEnd (task_of (map string_bytes words.now)) (S.left source.old) end }
     ensures completes { (task : _) (P : _) → AsksFor task (task_of (map string_bytes words.now)) (S.left source.old) P
         → (Rose (S.faults source.old) (S.faults source.new) → ⊥) → (Rose (O.faults out.old) (O.faults out.new) → ⊥)
@@ -49,6 +56,8 @@ pub fn hls<R: Threads + Wait + Sync, S: Source, O: Sink, E: Sink, G: Gate + Sync
     ensures tells_end { (turns : _) (P : _) (end : _) (output : _) → AsksFor (Walk turns) (task_of (map string_bytes words.now)) (S.left source.old) P
         → IsWalk P (threads_of turns) end output → TellsEnd end result.status }
     ensures checks { (P : _) → AsksFor Check (task_of (map string_bytes words.now)) (S.left source.old) P → TellsDiscipline P result.status }
+    ensures checks_run { (most : _) (P : _) → AsksFor (CheckRun most) (task_of (map string_bytes words.now)) (S.left source.old) P
+        → TellsRun P result.status }
     ensures simulates { (most : _) (text : _) → AsksToSimulate most (task_of (map string_bytes words.now)) (S.left source.old) text → TellsSimulation text result.status }
     ensures as_step { (most : _) (c_text : _) (d : _) (s : _) → IsStepped most false (Some c_text) d s → length d.text ≤ most_simulated
         → AsksToSimulate most (task_of (map string_bytes words.now)) (S.left source.old) d.text

@@ -7,6 +7,6 @@ mod outcome;
 
 pub use call::{hls, perform};
 pub use deliver::tell_memory;
-pub use hls_status::status::{Status, WalkEnd};
+pub use hls_status::status::{Status, UnknownCause, WalkEnd};
 pub use hls_words::Task;
 pub use outcome::Outcome;

@@ -1,8 +1,10 @@
 -- What a parse of the command line says of its words.
 use Rattle.std.proofs.Common.{◌≡◌, ◌≢◌, inl, inr, List, [], ◌∷◌, true, refl, sym, subst, ap, ◌∙◌}
-use Rattle.std.specs.Prelude.{Result, Ok, IfOk, Option, None, option_and_then}
+use Rattle.std.specs.Prelude.{Result, Ok, IfOk, Option, Some, None, option_and_then, option_map}
+use Rattle.std.proofs.lemmas.Option.{same_Some}
 use Rattle.std.proofs.lemmas.Result.{IfOk-weaker}
 use Rattle.clap.specs.Words.{App, HasKind, HasMatchesOf, IsAmong, Kinds, Text, app_of, fault_of, is_simple, is_simple_and_free, kind_of, subcommand_rows_of, with_subcommand}
+use Rattle.clap.specs.Walk.{Row}
 use Rattle.clap.specs.declared.builder.command.Command.{Command}
 use Rattle.clap.specs.declared.error.Error.{Error}
 use Rattle.clap.specs.declared.error.kind.ErrorKind.{ErrorKind}
@@ -38,6 +40,14 @@ pub task_of-refused : (a : App) (words : List Text) (error : Error) → a ≡ co
 task_of-refused a words error e free other =
     let kind : HasKind (fault_of command_line words) error = subst (λ (x : App). HasKind (fault_of x words) error) e (free (subst (λ (x : App). is_simple_and_free x ≡ true) (sym e) line_is_free)) in
     elim kind [ inl memory ↦ absurd (other memory) | inr among ↦ some_fails (fault_of command_line words) _ _ among ]
+
+-- what follows from a subcommand of this name and these rows
+pub by_name : {B : Type 0} (f : Text → List Row → Option Task) (name_of : B → Text) (rows_of : B → List Row) (found : Option B) (name : Text) (rows : List Row) →
+    Some name ≡ option_map name_of found → Some rows ≡ option_map (λ (p : Text × List Row). p.1) (option_map (λ b. (name_of b, rows_of b)) found) →
+    option_and_then (λ (p : Text × List Row). f p.0 p.1) (option_map (λ b. (name_of b, rows_of b)) found) ≡ f name rows
+by_name f name_of rows_of None name rows named with_rows = absurd (let e : None ≡ Some name = sym named in cc)
+by_name f name_of rows_of (Some b) name rows named with_rows =
+    ap (λ (x : Text). f x (rows_of b)) (sym (same_Some name (name_of b) named)) ∙ ap (f name) (sym (same_Some rows (rows_of b) with_rows))
 
 -- a program of a line to which a command of another was added is that of both
 pub adds : {E : Type 0} (result program command : Result Command E) (line last : App) → IfOk program (λ p. app_of p ≡ line) → IfOk command (λ c. app_of c ≡ last)

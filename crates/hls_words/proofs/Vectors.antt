@@ -3,7 +3,7 @@ use Rattle.std.proofs.Common.{◌≡◌, ℕ, List, [], ◌∷◌, refl, codes}
 use Rattle.std.specs.Prelude.{Some, None, true, false}
 use Rattle.clap.proofs.OnLiterals.{clap_on_literals}
 use Rattle.turns.specs.Turns.{turn}
-use Rattle.hls_words.specs.declared.task.Task.TheVariants.{Build, Step, Run, Replay, Walk, Check, Sim}
+use Rattle.hls_words.specs.declared.task.Task.TheVariants.{Build, Step, Run, Replay, Walk, Check, CheckRun, Sim}
 use Rattle.hls_words.specs.Line.{command_line, task_of}
 
 builds : task_of (codes "hls" ∷ codes "build" ∷ []) ≡ Some (Build 1)
@@ -249,3 +249,19 @@ simulates_no_cycles = refl
 simulates_no_dump : task_of (codes "hls" ∷ codes "sim" ∷ codes "--cycles=9" ∷ codes "--vcd" ∷ []) ≡ None
 unfolding clap_on_literals command_line
 simulates_no_dump = refl
+
+checks_a_run : task_of (codes "hls" ∷ codes "check" ∷ codes "--run" ∷ codes "1000" ∷ []) ≡ Some (CheckRun 1000)
+unfolding clap_on_literals command_line
+checks_a_run = refl
+
+checks_the_longest_run : task_of (codes "hls" ∷ codes "check" ∷ codes "--run=10000000" ∷ []) ≡ Some (CheckRun 10000000)
+unfolding clap_on_literals command_line
+checks_the_longest_run = refl
+
+checks_no_run : task_of (codes "hls" ∷ codes "check" ∷ codes "--run=0" ∷ []) ≡ None
+unfolding clap_on_literals command_line
+checks_no_run = refl
+
+checks_no_longer_run : task_of (codes "hls" ∷ codes "check" ∷ codes "--run=10000001" ∷ []) ≡ None
+unfolding clap_on_literals command_line
+checks_no_longer_run = refl

@@ -56,9 +56,9 @@ text_rule name = record (new_rule name) { long = Some name }
 abbrev pub walk_line : App
 walk_line = with_rule (new_app (codes "walk")) (required (text_rule (codes "threads")))
 
--- check
+-- check, with `--run n` or without
 abbrev pub check_line : App
-check_line = new_app (codes "check")
+check_line = with_rule (new_app (codes "check")) (number_rule (codes "run") 1 10000000)
 
 -- sim --cycles n
 abbrev pub sim_line : App
@@ -124,6 +124,14 @@ turns_in (Some list) = turns_of list
 abbrev pub walk_in : List Row → Option Task
 walk_in rows = option_map (λ turns. task.Walk turns) (turns_in (first_of (codes "threads") rows))
 
+-- with `--run n` by one run, and without it by lock disciplines
+abbrev pub check_of : Bool → Option ℕ → Option Task
+check_of true steps = option_map (λ n. task.CheckRun n) steps
+check_of false steps = Some task.Check
+
+abbrev pub check_in : List Row → Option Task
+check_in rows = check_of (is_some (one_of (codes "run") rows)) (number_in 1 10000000 None (one_of (codes "run") rows))
+
 abbrev pub sim_in : List Row → Option Task
 sim_in rows = option_map (λ n. task.Sim n) (number_in 0 4294967295 None (one_of (codes "cycles") rows))
 
@@ -135,7 +143,7 @@ task_in name rows =
     else (if bytes_eq name (codes "run") then run_in rows
     else (if bytes_eq name (codes "replay") then Some task.Replay
     else (if bytes_eq name (codes "walk") then walk_in rows
-    else (if bytes_eq name (codes "check") then Some task.Check
+    else (if bytes_eq name (codes "check") then check_in rows
     else (if bytes_eq name (codes "sim") then sim_in rows
     else None))))))
 

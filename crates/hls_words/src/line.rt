@@ -3,7 +3,7 @@ ghost use Rattle.clap.specs.Words.{app_of, rule_of, rows_of, one_of, first_of, f
 ghost use Rattle.clap.specs.declared.builder.command.Command.TheViews.{out-Command as fields_of};
 ghost use Rattle.clap.specs.declared.error.kind.ErrorKind.TheVariants.{OutOfMemory};
 ghost use Rattle.hls_words.specs.Line.{build_line, command_line, number_in, number_of, number_rule, required};
-ghost use Rattle.hls_words.specs.Line.{flag_rule, is_set, run_in, run_line, sim_line, step_in, step_line, task_in, task_of};
+ghost use Rattle.hls_words.specs.Line.{check_in, check_line, flag_rule, is_set, run_in, run_line, sim_line, step_in, step_line, task_in, task_of};
 ghost use Rattle.hls_words.specs.Line.{walk_in, walk_line};
 
 use crate::{Task, WordsError};
@@ -21,6 +21,9 @@ const MOST_ENTRIES: u32 = 1_000_000;
 
 /// How many where the words do not say.
 const USUAL_ENTRIES: u32 = 100_000;
+
+/// The most steps of a run that is to show a program good.
+const MOST_STEPS: u32 = 10_000_000;
 
 /// The most cycles of a dump.
 const MOST_DUMPED: u32 = 100_000;
@@ -85,6 +88,14 @@ fn walk_command<'a>(alloc: Global) -> Result<Command<'a>, AllocError>
     Command::new(alloc, "walk").arg(threads)
 }
 
+fn check_command<'a>(alloc: Global) -> Result<Command<'a>, AllocError>
+    ensures line { IfOk result (λ c. app_of c ≡ check_line) }
+    ensures local { IfOk result (λ c. (fields_of c).has_globals ≡ false) }
+{
+    let steps = number_option(alloc, "run", 1, MOST_STEPS);
+    Command::new(alloc, "check").arg(steps)
+}
+
 fn sim_command<'a>(alloc: Global) -> Result<Command<'a>, AllocError>
     ensures line { IfOk result (λ c. app_of c ≡ sim_line) }
     ensures local { IfOk result (λ c. (fields_of c).has_globals ≡ false) }
@@ -114,7 +125,7 @@ fn whole_command<'a>(alloc: Global) -> Result<Command<'a>, AllocError>
     let program = with_command(program, run_command(alloc));
     let program = with_command(program, Ok(Command::new(alloc, "replay")));
     let program = with_command(program, walk_command(alloc));
-    let program = with_command(program, Ok(Command::new(alloc, "check")));
+    let program = with_command(program, check_command(alloc));
     with_command(program, sim_command(alloc))
 }
 
@@ -193,6 +204,16 @@ fn walk_task(alloc: Global, matches: &ArgMatches<'_>) -> Result<Option<Task>, Al
     Ok(turns(alloc, list)?.map(Task::Walk))
 }
 
+fn check_task(matches: &ArgMatches<'_>) -> Option<Task>
+    ensures { result ≡ check_in (rows_of (found_of matches.now)) }
+{
+    if !is_given(matches, "run") {
+        return Some(Task::Check);
+    }
+    let steps = number(matches, "run", 1, MOST_STEPS, None)?;
+    Some(Task::CheckRun { steps })
+}
+
 /// What the command of this name asks for with these values.
 fn task(alloc: Global, name: &str, matches: &ArgMatches<'_>) -> Result<Option<Task>, AllocError>
     ensures { IfOk result (λ r. r ≡ task_in name.now (rows_of (found_of matches.now))) }
@@ -206,7 +227,7 @@ fn task(alloc: Global, name: &str, matches: &ArgMatches<'_>) -> Result<Option<Ta
         "run" => Ok(run_task(matches)),
         "replay" => Ok(Some(Task::Replay)),
         "walk" => walk_task(alloc, matches),
-        "check" => Ok(Some(Task::Check)),
+        "check" => Ok(check_task(matches)),
         "sim" => match number(matches, "cycles", 0, u32::MAX, None) {
             Some(cycles) => Ok(Some(Task::Sim { cycles })),
             None => Ok(None),

@@ -17,6 +17,8 @@ pub enum Task {
     Walk(Items<Turn>),
     /// Say whether each global of the program keeps a lock discipline.
     Check,
+    /// Say by one run of at most so many steps whether the program is good.
+    CheckRun { steps: u32 },
     /// Read a Verilog text, and run it for so many cycles at most.
     Sim { cycles: u32 },
 }

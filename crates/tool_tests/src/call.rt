@@ -33,6 +33,8 @@ pub enum Asked {
     /// So many steps of main.
     Walk { steps: u32 },
     Check,
+    /// A run of so many steps at most.
+    CheckRun { steps: u32 },
     Sim { cycles: u32 },
 }
 
@@ -84,6 +86,7 @@ fn task_of(alloc: Global, asked: Asked) -> Result<Task, AllocError> {
         Asked::Replay => Task::Replay,
         Asked::Walk { steps } => return Ok(Task::Walk(turns_of_main(alloc, steps)?)),
         Asked::Check => Task::Check,
+        Asked::CheckRun { steps } => Task::CheckRun { steps },
         Asked::Sim { cycles } => Task::Sim { cycles },
     };
     Ok(task)

@@ -5,7 +5,7 @@ use crate::programs::{COUNTING, MAIN};
 use crate::sims::CLIMBING;
 use std::test::Fail;
 
-const COMMANDS: [Row; 9] = [
+const COMMANDS: [Row; 13] = [
     (
         MAIN,
         Asked::Build,
@@ -49,6 +49,34 @@ const COMMANDS: [Row; 9] = [
         12,
         "",
         "hls: doubt at byte 37: n\n",
+    ),
+    (
+        COUNTING,
+        Asked::CheckRun { steps: 16 },
+        0,
+        "",
+        "hls: good, 16 steps\n",
+    ),
+    (
+        "pthread_t t; int n; void *w(void *p){n = 1; return NULL;} int main(void){pthread_create(&t, NULL, w, NULL); n = 2; pthread_join(t, NULL); return 0;}",
+        Asked::CheckRun { steps: 100 },
+        13,
+        "0*2\n",
+        "hls: race at bytes 108 and 37: n\n",
+    ),
+    (
+        "int main(void){int z = 0; int x = 1 / z; return x;}",
+        Asked::CheckRun { steps: 100 },
+        14,
+        "0,0\n",
+        "hls: undefined at byte 30: divisor\n",
+    ),
+    (
+        COUNTING,
+        Asked::CheckRun { steps: 15 },
+        15,
+        "",
+        "hls: unknown, 15 steps: too few steps\n",
     ),
     (
         CLIMBING,

@@ -5,12 +5,13 @@ use crate::programs::{COUNTING, ENDLESS, MAIN};
 use crate::sims::CLIMBING;
 use c_profile::Refusal;
 use hls_io::MemSink;
-use hls_tool::{Status, WalkEnd, tell_memory};
+use hls_tool::{Status, UnknownCause, WalkEnd, tell_memory};
 use std::alloc::{AllocError, Global};
 use std::process::Abort;
 use std::sync::Wait;
 use std::test::Fail;
 use std::thread::Threads;
+use thread_semantics::UndefinedCause;
 
 const READ_FAULT: &str = "hls: read fault\n";
 
@@ -264,6 +265,7 @@ fn tells_that_memory_is_wanting(rt: HostRuntime) -> Result<(), Fail> {
 fn has_a_number_for_each_status(rt: HostRuntime) {
     let signal = String::new(rt.alloc());
     let name = String::new(rt.alloc());
+    let raced = String::new(rt.alloc());
     let numbers = [
         (Status::Ok, 0),
         (Status::Refused(Refusal::NoMain), 1),
@@ -279,6 +281,28 @@ fn has_a_number_for_each_status(rt: HostRuntime) {
         (Status::NotNet { offset: 0 }, 11),
         (Status::Loop { signal }, 11),
         (Status::Doubt { offset: 0, name }, 12),
+        (
+            Status::Race {
+                first: 0,
+                second: 0,
+                name: raced,
+            },
+            13,
+        ),
+        (
+            Status::UndefinedStep {
+                offset: 0,
+                cause: UndefinedCause::NoValue,
+            },
+            14,
+        ),
+        (
+            Status::Unknown {
+                steps: 0,
+                cause: UnknownCause::Deadlock,
+            },
+            15,
+        ),
     ];
     for (status, number) in &numbers {
         assert!(rt; status.number() == *number);

@@ -9,12 +9,12 @@ use Rattle.hls_status.specs.declared.status.Status.TheVariants as status
 use Rattle.hls_commands.specs.declared.answer.Answer.{Answer}
 use Rattle.hls_commands.specs.declared.commands.Stop.{Stop}
 use Rattle.hls_commands.specs.Answers.{IsBuilt, IsRunBy, IsStepped, IsWalked, OwesAt, verdict_status}
-use Rattle.hls_commands.specs.Inside.{CheckOwes, IsReplayOrBad, SimOwes, due_of}
+use Rattle.hls_commands.specs.Inside.{CheckOwes, IsReplayOrBad, RunOwes, SimOwes, due_of}
 use Rattle.hls_commands.proofs.RunLemmas.{stepped_owes, run_owes, replay_owes, walked_owes}
 use Rattle.hls_commands.proofs.SimLemmas.{sim_owes}
-use Rattle.hls_commands.proofs.CheckLemmas.{check_owes}
+use Rattle.hls_commands.proofs.CheckLemmas.{check_owes, check_run_owes}
 use Rattle.hls_commands.proofs.commands.run_task.Goals as goal
-use Rattle.hls_commands.proofs.commands.run_task.Goals.{in-Build, in-Step, in-Run, in-Replay, in-Walk, in-Check, in-Sim}
+use Rattle.hls_commands.proofs.commands.run_task.Goals.{in-Build, in-Step, in-Run, in-Replay, in-Walk, in-Check, in-CheckRun, in-Sim}
 
 -- what a command that answers has come to
 at_ok : (Is : Answer → Type 0) (r : Result Answer Stop) (a : Answer) → r ≡ Ok a → IfOk r Is → Is a
@@ -42,6 +42,8 @@ returns-in-Ok-clause-owes g c =
           (at_ok (λ (x : Answer). IsWalked w.as_slice.result.now left (due_of x) x.status) w.walk_turns-done.result a (sym w.done-is ∙ c.in-Ok.is) w.walk_turns-done.ensures.ok)))
       | in-Check w ↦ owed _ w.in-Check.is (check_owes left rose (due_of a) a.status
           (at_ok (λ (x : Answer). CheckOwes left (due_of x) x.status) w.check-done.result a (sym w.done-is ∙ c.in-Ok.is) w.check-done.ensures.ok))
+      | in-CheckRun w ↦ owed _ w.in-CheckRun.is (check_run_owes w.in-CheckRun.steps left rose (due_of a) a.status
+          (at_ok (λ (x : Answer). RunOwes left (due_of x) x.status) w.check_run-done.result a (sym w.done-is ∙ c.in-Ok.is) w.check_run-done.ensures.ok))
       | in-Sim w ↦ owed _ w.in-Sim.is (sim_owes w.in-Sim.cycles left rose (due_of a) a.status
           (at_ok (λ (x : Answer). SimOwes w.in-Sim.cycles left (due_of x) x.status) w.simulate-done.result a (sym w.done-is ∙ c.in-Ok.is) w.simulate-done.ensures.ok))
     ]

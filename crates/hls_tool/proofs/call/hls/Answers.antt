@@ -4,6 +4,7 @@ use Rattle.hls_tool.proofs.CompleteLemmas.{completes}
 use Rattle.hls_tool.proofs.DeliveryLemmas.{may_be_owed}
 use Rattle.hls_tool.proofs.WalkLemmas.{tells_end}
 use Rattle.hls_tool.proofs.CheckLemmas.{checks}
+use Rattle.hls_tool.proofs.RunLemmas.{checks_run, tells_race, tells_undefined, tells_unknown}
 use Rattle.hls_tool.proofs.SimLemmas.{simulates, tells_doubt, tells_loop, tells_not_net}
 use Rattle.hls_tool.proofs.StepLemmas.{as_step}
 use Rattle.hls_tool.proofs.call.hls.Goals as goal
@@ -34,6 +35,18 @@ returns-clause-loops g c = λ signal e. tells_loop _ _ _ _ _ _ (returns-clause-a
 
 pub returns-clause-doubt : goal.returns-clause-doubt
 returns-clause-doubt g c = λ offset name e. tells_doubt _ _ _ _ _ _ (returns-clause-answered g c) offset name e
+
+pub returns-clause-race : goal.returns-clause-race
+returns-clause-race g c = λ first second name e. tells_race _ _ _ _ _ _ (returns-clause-answered g c) first second name e
+
+pub returns-clause-undefined_step : goal.returns-clause-undefined_step
+returns-clause-undefined_step g c = λ offset cause e. tells_undefined _ _ _ _ _ _ (returns-clause-answered g c) offset cause e
+
+pub returns-clause-unknown : goal.returns-clause-unknown
+returns-clause-unknown g c = λ steps cause e. tells_unknown _ _ _ _ _ _ (returns-clause-answered g c) steps cause e
+
+pub returns-clause-checks_run : goal.returns-clause-checks_run
+returns-clause-checks_run g c = λ most P asked. checks_run _ _ _ _ _ _ most P (returns-clause-answered g c) asked
 
 pub returns-clause-checks : goal.returns-clause-checks
 returns-clause-checks g c = λ P asked. checks _ _ _ _ _ _ P (returns-clause-answered g c) asked
