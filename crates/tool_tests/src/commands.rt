@@ -55,7 +55,7 @@ const COMMANDS: [Row; 13] = [
         Asked::CheckRun { steps: 16 },
         0,
         "",
-        "hls: good, 16 steps\n",
+        "hls: good, 16 steps, one output\n",
     ),
     (
         "pthread_t t; int n; void *w(void *p){n = 1; return NULL;} int main(void){pthread_create(&t, NULL, w, NULL); n = 2; pthread_join(t, NULL); return 0;}",
