@@ -5,3 +5,4 @@ pub mod block;
 pub mod code;
 pub mod operand;
 pub mod plan;
+pub mod service;

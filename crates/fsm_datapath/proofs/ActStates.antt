@@ -31,7 +31,7 @@ use Rattle.thread_slots.specs.Cells.{store_action, AreOff}
 use Rattle.block_ir.specs.Asked.{act_value, Service, Request as Call, request_of}
 use Rattle.thread_promise.specs.Moves.{asked_in, core_asked}
 use Rattle.thread_slots.specs.Requests.{group}
-use Rattle.thread_slots.specs.Services.{service_of, number_width, value_count}
+use Rattle.thread_slots.specs.Services.{number_width, value_count}
 use Rattle.thread_layout.specs.Fields.{IsTypedActOperand}
 use Rattle.thread_layout.specs.Asking.{values_of}
 use Rattle.thread_slots.specs.Wired.{field_width}
@@ -39,7 +39,7 @@ use Rattle.thread_layout.specs.Acts.{LeavesFor}
 use Rattle.thread_layout.specs.Modules.{IsModule}
 use Rattle.thread_layout.specs.Thread.{numbers_of, inputs_of, places_of, port_at, done_at, IsServed}
 use Rattle.fsm_datapath.proofs.LeftStates.{act_leave, act_moved}
-use Rattle.thread_layout.proofs.Cores.{HasKind}
+use Rattle.thread_layout.proofs.Cores.{HasService}
 use Rattle.thread_layout.proofs.Placed.{stands_copies, from_inside, from_rest, fields_count, field_stands, done_stands}
 use Rattle.thread_slots.proofs.PutStores.{off_stores}
 use Rattle.thread_layout.proofs.RaisedAsks.{from_whole}
@@ -152,22 +152,20 @@ module _ (shape : Shape) (code : ThreadCode) (plan : Planned) (m : Module) (t : 
   run_of : (r : Reading) (q : Slot) (a : Act) (next : ℕ) → slice_get code.stages q.stage ≡ Some (stage.Act a next) → is_run (slice_get code.stages q.stage) ≡ false
   run_of r q a next listed = ap is_run listed
 
-  module _ (s : Service) (k : ℕ) (own : HasKind banks shape.served s k) where
+  module _ (s : Service) (k : ℕ) (own : HasService banks shape.served s k) where
     field_is : (r : Reading) (j : ℕ) → Obeys m r → j < suc (value_count shape.served s) → r.signal (port_at shape m k (suc j)) ≡ next_number r (group t.inside.early.requests s).fields j
     field_is r j o less =
-        let fields = (group t.inside.early.requests (service_of own.kind)).fields in
-        let long : length fields ≡ suc (value_count shape.served s) =
-        fields_count shape code plan m t served (service_of own.kind) ∙ ap (λ z. suc (value_count shape.served z)) own.is in
+        let fields = (group t.inside.early.requests s).fields in
+        let long : length fields ≡ suc (value_count shape.served s) = fields_count shape code plan m t served s in
         let found = get_there fields j (subst (λ (n : ℕ). j < n) (sym long) less) in
         ap (λ z. r.signal (port_at shape m z (suc j))) own.at
-        ∙ stands_copies m r (port_at shape m (banks + own.number) (suc j)) (field_width (number_width shape.served (service_of own.kind)) j) found.0 o
-        (field_stands shape code plan m t served own.number own.kind own.listed j found.0 found.1)
+        ∙ stands_copies m r (port_at shape m (banks + own.number) (suc j)) (field_width (number_width shape.served s) j) found.0 o
+        (field_stands shape code plan m t served own.number s own.listed j found.0 found.1)
         ∙ ap r.signal (sym (get_or_from_slice_get fields j found.0 0 found.1))
-        ∙ ap (λ z. next_number r (group t.inside.early.requests z).fields j) own.is
 
   -- an act that asks core k
   module _ (r : Reading) (q : Slot) (a : Act) (next : ℕ) (call : Call) (k : ℕ) (o : Obeys m r) (shows : Shows r q)
-      (listed : slice_get code.stages q.stage ≡ Some (stage.Act a next)) (is_call : request_of shape.is_main a ≡ Some call) (own : HasKind banks shape.served call.service k) where
+      (listed : slice_get code.stages q.stage ≡ Some (stage.Act a next)) (is_call : request_of shape.is_main a ≡ Some call) (own : HasService banks shape.served call.service k) where
     start_fields : length (group t.laid.early.asked.start call.service).fields ≡ suc (value_count shape.served call.service)
     start_fields = t.laid.early.asked.begins.counts call.service
 

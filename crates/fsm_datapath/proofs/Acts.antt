@@ -11,7 +11,7 @@ use Rattle.block_ir.specs.declared.code.Stage.{Stage}
 use Rattle.block_ir.specs.declared.code.Stage.TheVariants as stage
 use Rattle.block_ir.specs.declared.code.ThreadCode.{ThreadCode}
 use Rattle.block_ir.specs.declared.plan.Planned.{Planned}
-use Rattle.block_ir.specs.Asked.{act_value, Service, Mutexes, Barriers, Ids, Prints, Request as Call, Asked, request_of, operand_words, asked_with, value_of, asked_at}
+use Rattle.block_ir.specs.Asked.{act_value, Service, Mutex, Barrier, ThreadIds, Printer, Request as Call, Asked, request_of, operand_words, asked_with, value_of, asked_at}
 use Rattle.planned_block.specs.Slot.{Slot}
 use Rattle.netlist.specs.declared.netlist.Module.{Module}
 use Rattle.verilog_meaning.specs.Readings.{Reading, next_reading}
@@ -29,7 +29,7 @@ use Rattle.thread_layout.proofs.ActLinks.{leaves_later}
 use Rattle.thread_layout.specs.Leaf.{served_ports}
 use Rattle.thread_layout.specs.Modules.{IsModule}
 use Rattle.thread_layout.specs.Thread.{numbers_of, cores_of, is_core, IsServed}
-use Rattle.thread_layout.proofs.Cores.{HasKind, kind_there}
+use Rattle.thread_layout.proofs.Cores.{HasService, service_there}
 use Rattle.thread_layout.proofs.LostRequests.{found_not_lost, lost_there}
 use Rattle.thread_layout.proofs.Placed.{from_rest}
 use Rattle.thread_layout.proofs.Quiet.{target, service_kept}
@@ -48,34 +48,34 @@ pub record Fits (served : Served) (call : Call) : Type 0 where
   pub values : length (values_of call.service call.operands) ≤ value_count served call.service
 
 call_fits : (served : Served) (main : Bool) (a : Act) (call : Call) → request_of main a ≡ Some call
-    → ((site : ℕ) (values : List ActOperand) → a ≡ act.Print site values → Fits served (call_of Prints site values)) → Fits served call
-call_fits served main (act.Print site values) call e prints = let same : call_of Prints site values ≡ call = cc in subst (Fits served) same (prints site values refl)
+    → ((site : ℕ) (values : List ActOperand) → a ≡ act.Print site values → Fits served (call_of Printer site values)) → Fits served call
+call_fits served main (act.Print site values) call e prints = let same : call_of Printer site values ≡ call = cc in subst (Fits served) same (prints site values refl)
 call_fits served main (act.Create thread argument) call e prints =
-    let same : call_of Ids 0 (thread ∷ argument ∷ []) ≡ call = cc in subst (Fits served) same (record { number = omega arith; values = omega arith })
+    let same : call_of ThreadIds 0 (thread ∷ argument ∷ []) ≡ call = cc in subst (Fits served) same (record { number = omega arith; values = omega arith })
 call_fits served main (act.Join thread) call e prints =
-    let same : call_of Ids 1 (thread ∷ []) ≡ call = cc in subst (Fits served) same (record { number = omega arith; values = omega arith })
+    let same : call_of ThreadIds 1 (thread ∷ []) ≡ call = cc in subst (Fits served) same (record { number = omega arith; values = omega arith })
 call_fits served main (act.MutexInit mutex) call e prints =
-    let same : call_of Mutexes 0 (mutex ∷ []) ≡ call = cc in subst (Fits served) same (record { number = omega arith; values = omega arith })
+    let same : call_of Mutex 0 (mutex ∷ []) ≡ call = cc in subst (Fits served) same (record { number = omega arith; values = omega arith })
 call_fits served main (act.MutexLock mutex) call e prints =
-    let same : call_of Mutexes 1 (mutex ∷ []) ≡ call = cc in subst (Fits served) same (record { number = omega arith; values = omega arith })
+    let same : call_of Mutex 1 (mutex ∷ []) ≡ call = cc in subst (Fits served) same (record { number = omega arith; values = omega arith })
 call_fits served main (act.MutexUnlock mutex) call e prints =
-    let same : call_of Mutexes 2 (mutex ∷ []) ≡ call = cc in subst (Fits served) same (record { number = omega arith; values = omega arith })
+    let same : call_of Mutex 2 (mutex ∷ []) ≡ call = cc in subst (Fits served) same (record { number = omega arith; values = omega arith })
 call_fits served main (act.MutexDestroy mutex) call e prints =
-    let same : call_of Mutexes 3 (mutex ∷ []) ≡ call = cc in subst (Fits served) same (record { number = omega arith; values = omega arith })
+    let same : call_of Mutex 3 (mutex ∷ []) ≡ call = cc in subst (Fits served) same (record { number = omega arith; values = omega arith })
 call_fits served main (act.BarrierInit barrier count) call e prints =
-    let same : call_of Barriers 0 (barrier ∷ count ∷ []) ≡ call = cc in subst (Fits served) same (record { number = omega arith; values = omega arith })
+    let same : call_of Barrier 0 (barrier ∷ count ∷ []) ≡ call = cc in subst (Fits served) same (record { number = omega arith; values = omega arith })
 call_fits served main (act.BarrierWait barrier) call e prints =
-    let same : call_of Barriers 1 (barrier ∷ []) ≡ call = cc in subst (Fits served) same (record { number = omega arith; values = omega arith })
+    let same : call_of Barrier 1 (barrier ∷ []) ≡ call = cc in subst (Fits served) same (record { number = omega arith; values = omega arith })
 call_fits served main (act.BarrierDestroy barrier) call e prints =
-    let same : call_of Barriers 2 (barrier ∷ []) ≡ call = cc in subst (Fits served) same (record { number = omega arith; values = omega arith })
+    let same : call_of Barrier 2 (barrier ∷ []) ≡ call = cc in subst (Fits served) same (record { number = omega arith; values = omega arith })
 call_fits served true act.Return call e prints = absurd cc
-call_fits served false act.Return call e prints = let same : call_of Ids 2 [] ≡ call = cc in subst (Fits served) same (record { number = omega arith; values = omega arith })
+call_fits served false act.Return call e prints = let same : call_of ThreadIds 2 [] ≡ call = cc in subst (Fits served) same (record { number = omega arith; values = omega arith })
 
 number_kept : (s : Service) (number : ℕ) (ws : List ℕ) → (asked_with s number ws).number ≡ number
-number_kept Mutexes number ws = refl
-number_kept Barriers number ws = refl
-number_kept Ids number ws = refl
-number_kept Prints number ws = refl
+number_kept Mutex number ws = refl
+number_kept Barrier number ws = refl
+number_kept ThreadIds number ws = refl
+number_kept Printer number ws = refl
 
 -- a word is that of an operand
 abbrev Back : (ℕ → ℤ) → List ActOperand → ℕ → ℕ → Type 0
@@ -88,21 +88,21 @@ words_back variables (o ∷ os) (suc j) w e = words_back variables os j w e
 
 value_back : (variables : ℕ → ℤ) (s : Service) (number : ℕ) (os : List ActOperand) (j w : ℕ) → slice_get (asked_with s number (operand_words variables os)).values j ≡ Some w
     → Back variables (values_of s os) j w
-value_back variables Mutexes number [] j w e = absurd cc
-value_back variables Mutexes number (o ∷ os) j w e = words_back variables os j w e
-value_back variables Barriers number [] j w e = absurd cc
-value_back variables Barriers number (o ∷ os) j w e = words_back variables os j w e
-value_back variables Ids number os j w e = words_back variables os j w e
-value_back variables Prints number os j w e = words_back variables os j w e
+value_back variables Mutex number [] j w e = absurd cc
+value_back variables Mutex number (o ∷ os) j w e = words_back variables os j w e
+value_back variables Barrier number [] j w e = absurd cc
+value_back variables Barrier number (o ∷ os) j w e = words_back variables os j w e
+value_back variables ThreadIds number os j w e = words_back variables os j w e
+value_back variables Printer number os j w e = words_back variables os j w e
 
 -- the values are among the operands
 among : (s : Service) (os : List ActOperand) (j : ℕ) (v : ActOperand) → slice_get (values_of s os) j ≡ Some v → (i : ℕ) × (slice_get os i ≡ Some v)
-among Mutexes [] j v e = absurd cc
-among Mutexes (o ∷ os) j v e = (suc j, e)
-among Barriers [] j v e = absurd cc
-among Barriers (o ∷ os) j v e = (suc j, e)
-among Ids os j v e = (j, e)
-among Prints os j v e = (j, e)
+among Mutex [] j v e = absurd cc
+among Mutex (o ∷ os) j v e = (suc j, e)
+among Barrier [] j v e = absurd cc
+among Barrier (o ∷ os) j v e = (suc j, e)
+among ThreadIds os j v e = (j, e)
+among Printer os j v e = (j, e)
 
 -- ---- where an act leads
 
@@ -155,10 +155,10 @@ module _ (shape : Shape) (code : ThreadCode) (plan : Planned) (m : Module) (t : 
       within : (banks ≤ k) × (k < cores_of shape)
       within = target_within shape.is_main (slice_get code.stages q.stage) q.variables banks shape.served k aimed
 
-      own : HasKind banks shape.served call.service k
+      own : HasService banks shape.served call.service k
       own =
-          subst (λ (s : Service). HasKind banks shape.served s k) (service_kept call.service call.number (operand_words q.variables call.operands))
-          (kind_there banks shape.served (value_of q.variables call).service (value_of q.variables call).core k found)
+          subst (λ (s : Service). HasService banks shape.served s k) (service_kept call.service call.number (operand_words q.variables call.operands))
+          (service_there banks shape.served (value_of q.variables call).service (value_of q.variables call).core k found)
 
       fits : Fits shape.served call
       fits =

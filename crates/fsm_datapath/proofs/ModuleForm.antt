@@ -35,9 +35,9 @@ use Rattle.operator_wires.proofs.BuiltWires.{within, longer, front, stands_after
 use Rattle.block_datapath.specs.declared.registers.Held.{Held}
 use Rattle.block_datapath.specs.Wired.{HasWidthAt, AreChains}
 use Rattle.block_datapath.specs.Requests.{AreAsMany}
-use Rattle.thread_slots.specs.declared.shape.Service.{Service as CoreKind}
 use Rattle.thread_slots.specs.Requests.{group}
-use Rattle.thread_slots.specs.Services.{service_of, services, number_width}
+use Rattle.block_ir.specs.Asked.{Service}
+use Rattle.thread_slots.specs.Services.{services, number_width}
 use Rattle.thread_slots.specs.declared.shape.Shape.{Shape}
 use Rattle.thread_slots.specs.Bits.{AreBitsOf}
 use Rattle.thread_slots.specs.Slots.{StandsAt}
@@ -405,7 +405,7 @@ module _ (shape : Shape) (code : ThreadCode) (plan : Planned) (m : Module) (t : 
       (λ h there. inner.early.linked.widths.own one.0 i one.1 spread_is some h there ∙ ap (λ z. width_of (or_int z)) ty.1)) four at low under
 
   -- number j of the ports of core i of those that acts ask
-  act_copy : (x i j : ℕ) (k : CoreKind) → slice_get (services shape.served) i ≡ Some k → j < suc (length (group t.inside.early.requests (service_of k)).fields)
+  act_copy : (x i j : ℕ) (k : Service) → slice_get (services shape.served) i ≡ Some k → j < suc (length (group t.inside.early.requests k).fields)
       → x ≡ port_at shape m (banks + i) j → e ≤ x → x < e + asked → IsCopy x
   act_copy x i zero k own less at le under =
       let count = services_count shape.served in
@@ -413,10 +413,10 @@ module _ (shape : Shape) (code : ThreadCode) (plan : Planned) (m : Module) (t : 
       asks_copy x (banks + i) (omega arith) le under
       (subst (λ z. CopiesAt m.signals z 1 (slice_index t.edge.asks (banks + i))) (sym at) (ask_stands shape code plan m t served (banks + i) (omega arith)))
   act_copy x i (suc j) k own less at le under =
-      let found = get_there (group t.inside.early.requests (service_of k)).fields j (omega arith) in
-      let w = field_width (number_width shape.served (service_of k)) j in
+      let found = get_there (group t.inside.early.requests k).fields j (omega arith) in
+      let w = field_width (number_width shape.served k) j in
       slot_copy x found.0 w le (subst (λ z. CopiesAt m.signals z w found.0) (sym at) (field_stands shape code plan m t served i k own j found.0 found.1))
-      ((inner.early.linked.requests (service_of k)).fields j found.0 found.1)
+      ((inner.early.linked.requests k).fields j found.0 found.1)
 
   fields_long : (first from : ℕ) (fields : List ℕ) → length (fields_from first from fields) ≡ length fields
   fields_long first from [] = refl
@@ -458,8 +458,8 @@ module _ (shape : Shape) (code : ThreadCode) (plan : Planned) (m : Module) (t : 
       let its = act_listed shape code plan m t served i kind.0 kind.1 in
       let mine : slice_get own_rows (banks + i) ≡ Some found.own = ap (slice_get own_rows) here ∙ found.listed in
       let same : found.own ≡ own_act_rows shape code plan m t served i kind.0 kind.1 = cc in
-      let long : length found.own ≡ suc (length (group t.inside.early.requests (service_of kind.0)).fields) =
-      ap length same ∙ ap suc (fields_long (number_width shape.served (service_of kind.0)) 0 (group t.inside.early.requests (service_of kind.0)).fields) in
+      let long : length found.own ≡ suc (length (group t.inside.early.requests kind.0).fields) =
+      ap length same ∙ ap suc (fields_long (number_width shape.served kind.0) 0 (group t.inside.early.requests kind.0).fields) in
       act_copy x i found.part kind.0 kind.1 (omega arith) (at ∙ ap (λ k. port_at shape m k found.part) (sym here)) le under)
       (cases_lt found.core banks)
 

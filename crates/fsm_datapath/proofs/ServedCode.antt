@@ -35,7 +35,7 @@ module _ (shape : Shape) (code : ThreadCode) (plan : Planned) (m : Module) (t : 
     waits = λ r q l next n b o shows state at listed names inside. waits_so shape code plan m t served r q l next n b o shows at listed names inside;
     returns = λ main r q next o shows state listed on. returns_so shape code plan m t served main r q next o shows listed on;
     ends = ends_so shape code plan m t served;
-    idles = λ other ids r q o shows at idle. idles_so shape code plan m t served other ids r q o shows at idle;
-    begins = λ other ids r q o shows state at on run. begins_so shape code plan m t served other ids r q o shows at on run;
+    idles = λ other thread_ids r q o shows at idle. idles_so shape code plan m t served other thread_ids r q o shows at idle;
+    begins = λ other thread_ids r q o shows state at on run. begins_so shape code plan m t served other thread_ids r q o shows at on run;
     done = done_so shape code plan m t served;
   }

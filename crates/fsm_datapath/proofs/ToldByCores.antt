@@ -7,8 +7,8 @@ use Rattle.std.proofs.lemmas.List.{map-append}
 use Rattle.leaf_machine.specs.Leaves.{Told}
 use Rattle.leaf_machine.specs.Ports.{CorePort, told_of, told_place}
 use Rattle.thread_slots.specs.declared.shape.Served.{Served}
-use Rattle.thread_slots.specs.declared.shape.Service.TheVariants as kind
-use Rattle.thread_slots.specs.Services.{services, if_ids, news_widths}
+use Rattle.block_ir.specs.Asked.{Mutex, Barrier, ThreadIds, Printer}
+use Rattle.thread_slots.specs.Services.{services, if_thread_ids, news_widths}
 use Rattle.thread_layout.specs.Leaf.{told_from}
 use Rattle.thread_layout.specs.Thread.{bank_port, act_port}
 use Rattle.fsm_datapath.specs.SoundLeaf.{tells_of}
@@ -103,28 +103,28 @@ told_banks : (words : List ℕ) → told_of (map bank_port words) ≡ words
 told_banks [] = refl
 told_banks (w ∷ words) = ap (λ l. w ∷ l) (told_banks words)
 
-told_mutexes : (served : Served) (n : ℕ) → told_of (map (act_port served) (replicate n kind.Mutexes)) ≡ []
+told_mutexes : (served : Served) (n : ℕ) → told_of (map (act_port served) (replicate n Mutex)) ≡ []
 told_mutexes served zero = refl
 told_mutexes served (suc n) = told_mutexes served n
 
-told_barriers : (served : Served) (n : ℕ) → told_of (map (act_port served) (replicate n kind.Barriers)) ≡ replicate n 1
+told_barriers : (served : Served) (n : ℕ) → told_of (map (act_port served) (replicate n Barrier)) ≡ replicate n 1
 told_barriers served zero = refl
 told_barriers served (suc n) = ap (λ l. 1 ∷ l) (told_barriers served n)
 
-told_last : (served : Served) (ids : Bool) → told_of (map (act_port served) (if_ids ids (kind.Ids ∷ []) ++ kind.Prints ∷ [])) ≡ if_ids ids (1 ∷ 64 ∷ [])
+told_last : (served : Served) (thread_ids : Bool) → told_of (map (act_port served) (if_thread_ids thread_ids (ThreadIds ∷ []) ++ Printer ∷ [])) ≡ if_thread_ids thread_ids (1 ∷ 64 ∷ [])
 told_last served true = refl
 told_last served false = refl
 
 told_acts : (served : Served) → told_of (map (act_port served) (services served)) ≡ news_widths served
 told_acts served =
-    let mutexes = replicate served.mutexes kind.Mutexes in
-    let barriers = replicate served.barriers kind.Barriers in
-    let last = if_ids served.ids (kind.Ids ∷ []) ++ kind.Prints ∷ [] in
+    let mutexes = replicate served.mutexes Mutex in
+    let barriers = replicate served.barriers Barrier in
+    let last = if_thread_ids served.thread_ids (ThreadIds ∷ []) ++ Printer ∷ [] in
     ap told_of (map-append (act_port served) mutexes (barriers ++ last)) ∙ told_then (map (act_port served) mutexes) (map (act_port served) (barriers ++ last))
     ∙ ap (λ l. l ++ told_of (map (act_port served) (barriers ++ last))) (told_mutexes served served.mutexes)
     ∙ ap told_of (map-append (act_port served) barriers last) ∙ told_then (map (act_port served) barriers) (map (act_port served) last)
     ∙ ap (λ l. l ++ told_of (map (act_port served) last)) (told_barriers served served.barriers)
-    ∙ ap (λ l. replicate served.barriers 1 ++ l) (told_last served served.ids)
+    ∙ ap (λ l. replicate served.barriers 1 ++ l) (told_last served served.thread_ids)
 
 -- ALL THAT IS TOLD: the words of banks, and behind them what the cores tell that acts ask
 pub told_all : (words : List ℕ) (served : Served) → told_of (map bank_port words ++ map (act_port served) (services served)) ≡ words ++ news_widths served

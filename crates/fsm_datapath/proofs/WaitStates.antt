@@ -18,7 +18,7 @@ use Rattle.block_ir.specs.declared.code.Stage.{Stage}
 use Rattle.block_ir.specs.declared.code.Stage.TheVariants as stage
 use Rattle.block_ir.specs.declared.code.ThreadCode.{ThreadCode}
 use Rattle.block_ir.specs.declared.plan.Planned.{Planned}
-use Rattle.block_ir.specs.Asked.{Barriers, barrier_core, ids_core, act_value}
+use Rattle.block_ir.specs.Asked.{Barrier, barrier_core, thread_ids_core, act_value}
 use Rattle.netlist.specs.declared.netlist.Module.{Module}
 use Rattle.verilog_meaning.specs.Readings.{Reading, next_reading}
 use Rattle.circuit.specs.Modules.{Obeys}
@@ -38,7 +38,7 @@ use Rattle.thread_layout.specs.Telling.{heard_place}
 use Rattle.thread_layout.specs.Thread.{numbers_of, IsServed}
 use Rattle.thread_layout.proofs.LostRequests.{unasked_not_lost}
 use Rattle.thread_layout.proofs.Needed.{meeting_needs, end_needs}
-use Rattle.thread_layout.proofs.News.{news_input, bar_told, ids_told, HasNews, news_held, news_shown, news_bit}
+use Rattle.thread_layout.proofs.News.{news_input, bar_told, thread_ids_told, HasNews, news_held, news_shown, news_bit}
 use Rattle.thread_layout.proofs.Opened.{from_acts, has_object}
 use Rattle.thread_layout.proofs.Placed.{stands_fits, from_inside, from_rest, from_told}
 use Rattle.thread_layout.proofs.Quiet.{ask_now, target, from_start as first_later}
@@ -138,10 +138,10 @@ module _ (shape : Shape) (code : ThreadCode) (plan : Planned) (m : Module) (t : 
     named : r.signal t.inside.early.requests.barrier.object ≡ n
     named =
         ((t.laid.early.asked.asks.beyond m r (from_whole shape code plan m t served) o t.laid.early.asked.begins.bits (knows shape code plan m t served r o)
-        (λ k less is. absurd (let same : meeting rest l ≡ k = sym meets_here ∙ is in omega arith))).requests Barriers).object
+        (λ k less is. absurd (let same : meeting rest l ≡ k = sym meets_here ∙ is in omega arith))).requests Barrier).object
         ∙ t.laid.early.asked.met l (stage.Act (BarrierWait b) next) below listed b next refl m r q.variables
         (first_later shape code plan m t served) o (knows shape code plan m t served r o) meets_here (sees_variables shape code plan m t served r o q shows)
-        (served.typed l (BarrierWait b) next (call_of Barriers 1 (b ∷ [])) listed refl 0 b refl)
+        (served.typed l (BarrierWait b) next (call_of Barrier 1 (b ∷ [])) listed refl 0 b refl)
         ∙ names
 
     -- of each barrier what it tells
@@ -164,7 +164,7 @@ module _ (shape : Shape) (code : ThreadCode) (plan : Planned) (m : Module) (t : 
     names_are : HaveBits m r t.inside.early.barriers (length t.inside.early.barriers) (λ k. nat_eq n k)
     names_are k less =
         let own =
-        t.laid.early.opens_acts.names m r (from_acts shape code plan m t served) o (has_object shape code plan m t served r Barriers o) k (subst (λ z. k < z) bars less) in
+        t.laid.early.opens_acts.names m r (from_acts shape code plan m t served) o (has_object shape code plan m t served r Barrier o) k (subst (λ z. k < z) bars less) in
         subst (λ z. HasBit m r z (nat_eq n k)) (sym (ap (λ (y : List ℕ). slice_index y k) t.laid.early.barriers_are))
         (subst (λ z. HasBit m r (slice_index t.laid.early.acts.barriers k) (nat_eq z k)) named own)
 
@@ -202,7 +202,7 @@ module _ (shape : Shape) (code : ThreadCode) (plan : Planned) (m : Module) (t : 
 
   -- ---- the rest of another thread
 
-  module _ (other : shape.is_main ≡ false) (ids : shape.served.ids ≡ true) (r : Reading) (q : Slot) (o : Obeys m r) (shows : Shows shape code plan m t served r q)
+  module _ (other : shape.is_main ≡ false) (thread_ids : shape.served.thread_ids ≡ true) (r : Reading) (q : Slot) (o : Obeys m r) (shows : Shows shape code plan m t served r q)
       (at : q.stage ≡ rest) where
     ended : rest ≤ q.stage
     ended = let is = at in omega arith
@@ -214,49 +214,49 @@ module _ (shape : Shape) (code : ThreadCode) (plan : Planned) (m : Module) (t : 
     end_needed = end_needs shape code plan m t served r o rests_here
 
     runs_news : HasNews shape code plan m t served shape.served.barriers 1
-    runs_news = news_held shape code plan m t served shape.served.barriers 1 (run_wide shape.served ids)
+    runs_news = news_held shape code plan m t served shape.served.barriers 1 (run_wide shape.served thread_ids)
 
     argument_news : HasNews shape code plan m t served (suc shape.served.barriers) 64
-    argument_news = news_held shape code plan m t served (suc shape.served.barriers) 64 (argument_wide shape.served ids)
+    argument_news = news_held shape code plan m t served (suc shape.served.barriers) 64 (argument_wide shape.served thread_ids)
 
     runs_bit : (c : Bool) × (r.signal (news_input shape code plan m t served shape.served.barriers) ≡ bit_of c) × HasBit m r t.laid.acts.runs c
     runs_bit =
         let own = news_bit shape code plan m t served r o end_needed shape.served.barriers runs_news in
-        (own.0, own.1, subst (λ z. HasBit m r z own.0) (sym (t.laid.tells.runs ids)) own.2)
+        (own.0, own.1, subst (λ z. HasBit m r z own.0) (sym (t.laid.tells.runs thread_ids)) own.2)
 
     sets : SetsOut code.argument t.laid.acts runs_bit.0 r t.laid.start t.laid.rested
     sets =
         t.laid.walks.begins other m r runs_bit.0 (from_rest shape code plan m t served) o t.laid.begins.bits (knows shape code plan m t served r o)
         (still shape code plan m t served r o) rests_here runs_bit.2
 
-    runs_told : r.signal (((served_ports shape m).core (ids_core (numbers_of shape))).told 0) ≡ bit_of runs_bit.0
+    runs_told : r.signal (((served_ports shape m).core (thread_ids_core (numbers_of shape))).told 0) ≡ bit_of runs_bit.0
     runs_told =
-        ap r.signal (ids_told shape code plan m t served 0) ∙ ap (λ z. r.signal (news_input shape code plan m t served z))
+        ap r.signal (thread_ids_told shape code plan m t served 0) ∙ ap (λ z. r.signal (news_input shape code plan m t served z))
         (let z : shape.served.barriers + 0 ≡ shape.served.barriers = omega arith in z)
         ∙ runs_bit.1
 
-    pub idles_so : r.signal (((served_ports shape m).core (ids_core (numbers_of shape))).told 0) ≡ 0 → Shows shape code plan m t served (next_reading m r) q
+    pub idles_so : r.signal (((served_ports shape m).core (thread_ids_core (numbers_of shape))).told 0) ≡ 0 → Shows shape code plan m t served (next_reading m r) q
     idles_so idle =
         let stays : runs_bit.0 ≡ false = bit_is runs_bit.0 false _ runs_told idle in
         waits_on r q o shows ended (sets.waits ∙ ap (λ z. bit_of (not z)) stays)
 
-    argument_told : r.signal t.laid.acts.argument ≡ r.signal (((served_ports shape m).core (ids_core (numbers_of shape))).told 1)
+    argument_told : r.signal t.laid.acts.argument ≡ r.signal (((served_ports shape m).core (thread_ids_core (numbers_of shape))).told 1)
     argument_told =
-        ap r.signal (t.laid.tells.argument ids) ∙ news_shown shape code plan m t served r o end_needed (suc shape.served.barriers) 64 argument_news
+        ap r.signal (t.laid.tells.argument thread_ids) ∙ news_shown shape code plan m t served r o end_needed (suc shape.served.barriers) 64 argument_news
         ∙ ap (λ z. r.signal (news_input shape code plan m t served z)) (let z : suc shape.served.barriers ≡ shape.served.barriers + 1 = omega arith in z)
-        ∙ ap r.signal (sym (ids_told shape code plan m t served 1))
+        ∙ ap r.signal (sym (thread_ids_told shape code plan m t served 1))
 
-    argument_fits : r.signal (((served_ports shape m).core (ids_core (numbers_of shape))).told 1) < 2 ^ 64
+    argument_fits : r.signal (((served_ports shape m).core (thread_ids_core (numbers_of shape))).told 1) < 2 ^ 64
     argument_fits =
         subst (λ z. r.signal z < 2 ^ 64)
-        (ap (news_input shape code plan m t served) (let z : suc shape.served.barriers ≡ shape.served.barriers + 1 = omega arith in z) ∙ sym (ids_told shape code plan m t served 1))
+        (ap (news_input shape code plan m t served) (let z : suc shape.served.barriers ≡ shape.served.barriers + 1 = omega arith in z) ∙ sym (thread_ids_told shape code plan m t served 1))
         (stands_fits m r (news_input shape code plan m t served (suc shape.served.barriers)) 64 _ o argument_news.stands)
 
     -- WHO RUNS sets out, with the argument
-    pub begins_so : r.signal 1 ≡ 1 → r.signal (((served_ports shape m).core (ids_core (numbers_of shape))).told 0) ≡ 1
-        → Shows shape code plan m t served (next_reading m r) (set_out code.argument (r.signal (((served_ports shape m).core (ids_core (numbers_of shape))).told 1)) q)
+    pub begins_so : r.signal 1 ≡ 1 → r.signal (((served_ports shape m).core (thread_ids_core (numbers_of shape))).told 0) ≡ 1
+        → Shows shape code plan m t served (next_reading m r) (set_out code.argument (r.signal (((served_ports shape m).core (thread_ids_core (numbers_of shape))).told 1)) q)
     begins_so on run =
-        let a = r.signal (((served_ports shape m).core (ids_core (numbers_of shape))).told 1) in
+        let a = r.signal (((served_ports shape m).core (thread_ids_core (numbers_of shape))).told 1) in
         let goes : runs_bit.0 ≡ true = bit_is runs_bit.0 true _ runs_told run in
         let same = unlost r q o shows ended in
         let next : Slot = set_out code.argument a q in
@@ -284,15 +284,15 @@ module _ (shape : Shape) (code : ThreadCode) (plan : Planned) (m : Module) (t : 
         by_variable : (a x : ℕ) (ty : IntegerType) → slice_get code.variables x ≡ Some ty → (is : Bool) → is_variable code.argument x ≡ is
             → next_number r t.inside.chains.variables x
             ≡ residue_of (width_of ty)
-            (if is_variable code.argument x then signed_word 64 (r.signal (((served_ports shape m).core (ids_core (numbers_of shape))).told 1)) else q.variables x)
+            (if is_variable code.argument x then signed_word 64 (r.signal (((served_ports shape m).core (thread_ids_core (numbers_of shape))).told 1)) else q.variables x)
         by_variable a x ty declared true is =
-            let told = r.signal (((served_ports shape m).core (ids_core (numbers_of shape))).told 1) in
+            let told = r.signal (((served_ports shape m).core (thread_ids_core (numbers_of shape))).told 1) in
             let less : x < length t.laid.start.variables = in_start x ty declared in
             (unlost r q o shows ended).variables x ∙ sets.variables x less ∙ ap (λ z. if z then r.signal t.laid.acts.argument else next_number r t.laid.start.variables x) is
             ∙ argument_told ∙ sym (argument_word told argument_fits) ∙ ap (λ (z : IntegerType). residue_of (width_of z) (signed_word 64 told)) (declared_so x ty declared is)
             ∙ ap (λ z. residue_of (width_of ty) (if z then signed_word 64 told else q.variables x)) (sym is)
         by_variable a x ty declared false is =
-            let told = r.signal (((served_ports shape m).core (ids_core (numbers_of shape))).told 1) in
+            let told = r.signal (((served_ports shape m).core (thread_ids_core (numbers_of shape))).told 1) in
             let v = sees_variables shape code plan m t served r o q shows x ty declared in
             let less : x < length t.laid.start.variables = in_start x ty declared in
             (unlost r q o shows ended).variables x ∙ sets.variables x less ∙ ap (λ z. if z then r.signal t.laid.acts.argument else next_number r t.laid.start.variables x) is

@@ -54,7 +54,7 @@ module _ (P : Program) (K : Parts) (built : IsBuilt P K) where
   pub numbers : AreNumbers P (numbers_of K.cores) K.cores.threads
   numbers = record {
     threads = built.threads;
-    ids = built.thread_ids;
+    thread_ids = built.thread_ids;
     few_threads = lt_of_le_of_lt built.few_threads (lit< tt);
     few_mutexes = lt_trans (omega arith) few;
     few_barriers = lt_trans (omega arith) few;

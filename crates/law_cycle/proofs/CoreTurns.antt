@@ -11,8 +11,8 @@ use Rattle.block_ir.specs.declared.code.Act.{Act}
 use Rattle.block_ir.specs.declared.code.Act.TheVariants as act
 use Rattle.block_ir.specs.declared.code.ActOperand.{ActOperand}
 use Rattle.block_ir.specs.declared.code.Stage.TheVariants as stage
-use Rattle.block_ir.specs.Asked.{act_value, Service, Mutexes, Barriers, Ids, Prints, Asked, asked, core_in, core_of, first_word, second_word}
-use Rattle.block_ir.specs.Asked.{mutex_core, barrier_core, ids_core, printer_core}
+use Rattle.block_ir.specs.Asked.{act_value, Service, Mutex, Barrier, ThreadIds, Printer, Asked, asked, core_in, core_of, first_word, second_word}
+use Rattle.block_ir.specs.Asked.{mutex_core, barrier_core, thread_ids_core, printer_core}
 use Rattle.block_refine.specs.Routines.{stage_at}
 use Rattle.code_following.specs.Following.{print_formats}
 use Rattle.planned_block.proofs.Bits.{both_true}
@@ -38,7 +38,7 @@ use Rattle.law_cycle.proofs.Steps.{asks_fit}
 use Rattle.law_cycle.proofs.Granted.{won_by, a_core, who_wins}
 use Rattle.law_cycle.proofs.HandedOver.{HandsOver, hands_over}
 use Rattle.law_cycle.proofs.Printed.{site_prints}
-use Rattle.law_cycle.proofs.Grants.{MayAlike, DoesAlike, mutex_may, mutex_does, barrier_may, barrier_does, ids_may, ids_do}
+use Rattle.law_cycle.proofs.Grants.{MayAlike, DoesAlike, mutex_may, mutex_does, barrier_may, barrier_does, thread_ids_may, thread_ids_do}
 use Rattle.law_cycle.proofs.Grants.{printer_may, printer_does, printer_prints, shown_whatever, bank_shows}
 
 module _ (P : Program) (K : Parts) (built : IsBuilt P K) (c : Choice) (h : Stage P K) where
@@ -119,20 +119,20 @@ module _ (P : Program) (K : Parts) (built : IsBuilt P K) (c : Choice) (h : Stage
     pub data AsksCore : Type 0 where
       ToMutex : (m : MutexShape) (core : core_at K.cores k ≡ Some (Mutex m)) → AsksCore
       ToBarrier : (core : core_at K.cores k ≡ Some barrier) (count : asks.number ≡ 0 → f 2 ≡ first_word asks.values) → AsksCore
-      ToIds : (core : core_at K.cores k ≡ Some thread_ids) (created : asks.number ≡ 0 → (f 2 ≡ first_word asks.values) × (f 3 ≡ second_word asks.values))
+      ToThreadIds : (core : core_at K.cores k ≡ Some thread_ids) (created : asks.number ≡ 0 → (f 2 ≡ first_word asks.values) × (f 3 ≡ second_word asks.values))
           (joined : asks.number ≡ 1 → f 2 ≡ first_word asks.values) → AsksCore
-      ToPrinter : (service : asks.service ≡ Prints) (at : printer_core (numbers_of K.cores) ≡ k) (core : core_at K.cores k ≡ Some (Printer K.cores.printer)) → AsksCore
+      ToPrinter : (service : asks.service ≡ Printer) (at : printer_core (numbers_of K.cores) ≡ k) (core : core_at K.cores k ≡ Some (Printer K.cores.printer)) → AsksCore
 
-    to_barrier : asks.service ≡ Barriers → core_at K.cores k ≡ Some barrier → AsksCore
+    to_barrier : asks.service ≡ Barrier → core_at K.cores k ≡ Some barrier → AsksCore
     to_barrier service core =
         ToBarrier core
         (λ zero.
         let v = over.count service zero in
         word_is barrier core 0 v.0 (ap (λ (ws : List ℕ). slice_get ws 0) v.2) (omega arith) ∙ sym (ap first_word v.2))
 
-    to_ids : asks.service ≡ Ids → core_at K.cores k ≡ Some thread_ids → AsksCore
-    to_ids service core =
-        ToIds core
+    to_thread_ids : asks.service ≡ ThreadIds → core_at K.cores k ≡ Some thread_ids → AsksCore
+    to_thread_ids service core =
+        ToThreadIds core
         (λ zero.
         let v = over.created service zero in (
           word_is thread_ids core 0 v.0 (ap (λ (ws : List ℕ). slice_get ws 0) v.3) (omega arith) ∙ sym (ap first_word v.3),
@@ -143,15 +143,15 @@ module _ (P : Program) (K : Parts) (built : IsBuilt P K) (c : Choice) (h : Stage
         word_is thread_ids core 0 v.0 (ap (λ (ws : List ℕ). slice_get ws 0) v.2) (omega arith) ∙ sym (ap first_word v.2))
 
     asks_core : (s : Service) → asks.service ≡ s → core_in (numbers_of K.cores) s asks.core ≡ Some k → AsksCore
-    asks_core Mutexes service at =
+    asks_core Mutex service at =
         let u = cond_some (nat_lt asks.core (length K.cores.mutexes)) (mutex_core (numbers_of K.cores) asks.core) k at in
         let m = there K.cores.mutexes asks.core (ltb-true asks.core (length K.cores.mutexes) u.0) in
         ToMutex m.0 (ap (core_at K.cores) (sym u.1) ∙ mutex_at K.cores asks.core m.0 m.1)
-    asks_core Barriers service at =
+    asks_core Barrier service at =
         let u = cond_some (nat_lt asks.core K.cores.barriers) (barrier_core (numbers_of K.cores) asks.core) k at in
         to_barrier service (ap (core_at K.cores) (sym u.1) ∙ barrier_at K.cores asks.core (ltb-true asks.core K.cores.barriers u.0))
-    asks_core Ids service at = let u = cond_some K.cores.thread_ids (ids_core (numbers_of K.cores)) k at in to_ids service (ap (core_at K.cores) (sym u.1) ∙ thread_ids_at K.cores u.0)
-    asks_core Prints service at =
+    asks_core ThreadIds service at = let u = cond_some K.cores.thread_ids (thread_ids_core (numbers_of K.cores)) k at in to_thread_ids service (ap (core_at K.cores) (sym u.1) ∙ thread_ids_at K.cores u.0)
+    asks_core Printer service at =
         let same : printer_core (numbers_of K.cores) ≡ k = cc in ToPrinter service same (ap (core_at K.cores) (sym same) ∙ printer_at K.cores)
 
     core_asked : AsksCore
@@ -160,7 +160,7 @@ module _ (P : Program) (K : Parts) (built : IsBuilt P K) (c : Choice) (h : Stage
     may_alike : AsksCore → MayAlike (core_at K.cores k) (h.net.states k) h.out i f asks
     may_alike (ToMutex m core) = mutex_may (core_at K.cores k) m core (h.net.states k) h.out i f asks hands.number
     may_alike (ToBarrier core count) = barrier_may (core_at K.cores k) (record { threads = K.cores.threads }) core (h.net.states k) h.out i f asks hands.number
-    may_alike (ToIds core created joined) = ids_may (core_at K.cores k) (record { threads = K.cores.threads }) core (h.net.states k) h.out i f asks hands.number created joined
+    may_alike (ToThreadIds core created joined) = thread_ids_may (core_at K.cores k) (record { threads = K.cores.threads }) core (h.net.states k) h.out i f asks hands.number created joined
     may_alike (ToPrinter service at core) = printer_may (core_at K.cores k) K.cores.printer core (h.net.states k) h.out i f asks
 
     -- it is eligible exactly where it may be granted
@@ -170,7 +170,7 @@ module _ (P : Program) (K : Parts) (built : IsBuilt P K) (c : Choice) (h : Stage
     -- ---- and is granted it
 
     module _ (e : winner P K c h.net k ≡ Some i) where
-      prints_text : asks.service ≡ Prints → printer_core (numbers_of K.cores) ≡ k → core_at K.cores k ≡ Some (Printer K.cores.printer) →
+      prints_text : asks.service ≡ Printer → printer_core (numbers_of K.cores) ≡ k → core_at K.cores k ≡ Some (Printer K.cores.printer) →
           next_out ≡ h.out ++ text_at (slice_get (print_formats P) asks.number) asks.values
       prints_text service at core =
           let v = over.printed service in
@@ -190,8 +190,8 @@ module _ (P : Program) (K : Parts) (built : IsBuilt P K) (c : Choice) (h : Stage
       does_alike (ToMutex m core) = mutex_does K.cores.threads (print_formats P) (core_at K.cores k) m core (h.net.states k) h.out next_out i f asks hands.number
       does_alike (ToBarrier core count) =
           barrier_does K.cores.threads (print_formats P) (core_at K.cores k) (record { threads = K.cores.threads }) core refl (h.net.states k) h.out next_out i f asks hands.number count
-      does_alike (ToIds core created joined) =
-          ids_do K.cores.threads (print_formats P) (core_at K.cores k) (record { threads = K.cores.threads }) core (h.net.states k) h.out next_out i f asks hands.number created joined
+      does_alike (ToThreadIds core created joined) =
+          thread_ids_do K.cores.threads (print_formats P) (core_at K.cores k) (record { threads = K.cores.threads }) core (h.net.states k) h.out next_out i f asks hands.number created joined
       does_alike (ToPrinter service at core) =
           printer_does K.cores.threads (print_formats P) (core_at K.cores k) K.cores.printer core (h.net.states k) h.out next_out i f asks (prints_text service at core)
 

@@ -13,7 +13,7 @@ use Rattle.barrier_cores.specs.declared.barrier.Shape.{Shape as BarrierShape}
 use Rattle.fork_join_cores.specs.declared.forks.Shape.{Shape as ThreadIdsShape}
 use Rattle.print_core.specs.declared.printer.Shape.{Shape as PrinterShape}
 use Rattle.print_core.specs.Machine.{bytes_of_site}
-use Rattle.law_threads.specs.Cores.{OfBank, OfMutex, OfBarrier, OfIds, OfPrinter, may_grant, granted, text_at}
+use Rattle.law_threads.specs.Cores.{OfBank, OfMutex, OfBarrier, OfThreadIds, OfPrinter, may_grant, granted, text_at}
 use Rattle.core_family.specs.Family.{CoreKind, Bank, Mutex, Barrier, ThreadIds, Printer, machine_of}
 use Rattle.law_cycle.specs.Stage.{shown_as}
 
@@ -41,19 +41,19 @@ may_same t operation x y created joined = by (nat_eq operation 0) refl (nat_eq o
     by false e true u = ap (ids_eligible t operation) (joined (is_same operation 1 u))
     by false e false u = ap₂ (may_by t x) e u ∙ sym (ap₂ (may_by t y) e u)
 
-abbrev ids_by : IdTable → ℕ → ℕ → ℕ → Bool → Bool → IdTable
-ids_by t i id argument create join =
+abbrev thread_ids_by : IdTable → ℕ → ℕ → ℕ → Bool → Bool → IdTable
+thread_ids_by t i id argument create join =
     if create then record { statuses = slice_set t.statuses id 1; arguments = slice_set t.arguments id argument }
     else (if join then record { statuses = slice_set t.statuses id 0; arguments = t.arguments }
     else record { statuses = slice_set t.statuses i 2; arguments = t.arguments })
 
-ids_same : (t : IdTable) (i operation x y v w : ℕ) → (operation ≡ 0 → (x ≡ y) × (v ≡ w)) → (operation ≡ 1 → x ≡ y) → ids_after t i operation x v ≡ ids_after t i operation y w
-ids_same t i operation x y v w created joined = by (nat_eq operation 0) refl (nat_eq operation 1) refl
+thread_ids_same : (t : IdTable) (i operation x y v w : ℕ) → (operation ≡ 0 → (x ≡ y) × (v ≡ w)) → (operation ≡ 1 → x ≡ y) → ids_after t i operation x v ≡ ids_after t i operation y w
+thread_ids_same t i operation x y v w created joined = by (nat_eq operation 0) refl (nat_eq operation 1) refl
   where
     by : (b : Bool) → nat_eq operation 0 ≡ b → (d : Bool) → nat_eq operation 1 ≡ d → ids_after t i operation x v ≡ ids_after t i operation y w
     by true e d u = let same = created (is_same operation 0 e) in ap₂ (ids_after t i operation) same.0 same.1
-    by false e true u = ap₂ (ids_by t i x v) e u ∙ ap (λ z. ids_by t i z w false true) (joined (is_same operation 1 u)) ∙ sym (ap₂ (ids_by t i y w) e u)
-    by false e false u = ap₂ (ids_by t i x v) e u ∙ sym (ap₂ (ids_by t i y w) e u)
+    by false e true u = ap₂ (thread_ids_by t i x v) e u ∙ ap (λ z. thread_ids_by t i z w false true) (joined (is_same operation 1 u)) ∙ sym (ap₂ (thread_ids_by t i y w) e u)
+    by false e false u = ap₂ (thread_ids_by t i x v) e u ∙ sym (ap₂ (thread_ids_by t i y w) e u)
 
 -- ---- by kind of core: it is eligible where it asks and may be granted, and what the machine does is what the theory's core does
 
@@ -107,28 +107,28 @@ barrier_does T formats (Some (Barrier c)) s e many state out after i f a number 
 barrier_does T formats (Some (ThreadIds c)) s e many state out after i f a number count = absurd cc
 barrier_does T formats (Some (Printer c)) s e many state out after i f a number count = absurd cc
 
-pub ids_may : (o : Option CoreKind) (s : ThreadIdsShape) → o ≡ Some (ThreadIds s) → (state : (machine_of o).State) (out : List ℕ) (i : ℕ) (f : ℕ → ℕ) (a : Asked) → f 1 ≡ a.number →
+pub thread_ids_may : (o : Option CoreKind) (s : ThreadIdsShape) → o ≡ Some (ThreadIds s) → (state : (machine_of o).State) (out : List ℕ) (i : ℕ) (f : ℕ → ℕ) (a : Asked) → f 1 ≡ a.number →
     (a.number ≡ 0 → (f 2 ≡ first_word a.values) × (f 3 ≡ second_word a.values)) → (a.number ≡ 1 → f 2 ≡ first_word a.values) → MayAlike o state out i f a
-ids_may None s e state out i f a number created joined = absurd cc
-ids_may (Some (Bank c)) s e state out i f a number created joined = absurd cc
-ids_may (Some (Mutex c)) s e state out i f a number created joined = absurd cc
-ids_may (Some (Barrier c)) s e state out i f a number created joined = absurd cc
-ids_may (Some (ThreadIds c)) s e state out i f a number created joined =
+thread_ids_may None s e state out i f a number created joined = absurd cc
+thread_ids_may (Some (Bank c)) s e state out i f a number created joined = absurd cc
+thread_ids_may (Some (Mutex c)) s e state out i f a number created joined = absurd cc
+thread_ids_may (Some (Barrier c)) s e state out i f a number created joined = absurd cc
+thread_ids_may (Some (ThreadIds c)) s e state out i f a number created joined =
     ap (λ n. nat_lt 0 (f 0) && ids_eligible state n (f 2)) number
     ∙ ap (λ b. nat_lt 0 (f 0) && b) (may_same state a.number (f 2) (first_word a.values) (λ z. (created z).0) joined)
-ids_may (Some (Printer c)) s e state out i f a number created joined = absurd cc
+thread_ids_may (Some (Printer c)) s e state out i f a number created joined = absurd cc
 
-pub ids_do : (T : ℕ) (formats : List (List Piece)) (o : Option CoreKind) (s : ThreadIdsShape) → o ≡ Some (ThreadIds s) → (state : (machine_of o).State) (out after : List ℕ) (i : ℕ)
+pub thread_ids_do : (T : ℕ) (formats : List (List Piece)) (o : Option CoreKind) (s : ThreadIdsShape) → o ≡ Some (ThreadIds s) → (state : (machine_of o).State) (out after : List ℕ) (i : ℕ)
     (f : ℕ → ℕ) (a : Asked) → f 1 ≡ a.number → (a.number ≡ 0 → (f 2 ≡ first_word a.values) × (f 3 ≡ second_word a.values)) → (a.number ≡ 1 → f 2 ≡ first_word a.values) →
     DoesAlike T formats o state out after i f a
-ids_do T formats None s e state out after i f a number created joined = absurd cc
-ids_do T formats (Some (Bank c)) s e state out after i f a number created joined = absurd cc
-ids_do T formats (Some (Mutex c)) s e state out after i f a number created joined = absurd cc
-ids_do T formats (Some (Barrier c)) s e state out after i f a number created joined = absurd cc
-ids_do T formats (Some (ThreadIds c)) s e state out after i f a number created joined =
-    ap (λ n. OfIds (ids_after state i n (f 2) (f 3))) number
-    ∙ ap OfIds (ids_same state i a.number (f 2) (first_word a.values) (f 3) (second_word a.values) created joined)
-ids_do T formats (Some (Printer c)) s e state out after i f a number created joined = absurd cc
+thread_ids_do T formats None s e state out after i f a number created joined = absurd cc
+thread_ids_do T formats (Some (Bank c)) s e state out after i f a number created joined = absurd cc
+thread_ids_do T formats (Some (Mutex c)) s e state out after i f a number created joined = absurd cc
+thread_ids_do T formats (Some (Barrier c)) s e state out after i f a number created joined = absurd cc
+thread_ids_do T formats (Some (ThreadIds c)) s e state out after i f a number created joined =
+    ap (λ n. OfThreadIds (ids_after state i n (f 2) (f 3))) number
+    ∙ ap OfThreadIds (thread_ids_same state i a.number (f 2) (first_word a.values) (f 3) (second_word a.values) created joined)
+thread_ids_do T formats (Some (Printer c)) s e state out after i f a number created joined = absurd cc
 
 pub printer_may : (o : Option CoreKind) (s : PrinterShape) → o ≡ Some (Printer s) → (state : (machine_of o).State) (out : List ℕ) (i : ℕ) (f : ℕ → ℕ) (a : Asked) →
     MayAlike o state out i f a

@@ -5,14 +5,14 @@ use Rattle.hls_ints.specs.Residues.{residue_of}
 use Rattle.block_ir.specs.declared.code.Act.{Act}
 use Rattle.block_ir.specs.declared.code.Act.TheVariants as act
 use Rattle.block_ir.specs.declared.code.ActOperand.{ActOperand}
-use Rattle.block_ir.specs.Asked.{act_value, Mutexes, Barriers, Ids, Prints, Asked, asked, operand_words}
+use Rattle.block_ir.specs.Asked.{act_value, Mutex, Barrier, ThreadIds, Printer, Asked, asked, operand_words}
 
 -- an init of a barrier has a count, a create an id and an argument, a join an id; and a printf its site and its values
 pub record HandsOver (a : Act) (variables : ℕ → ℤ) (asks : Asked) : Type 0 where
-  pub count : asks.service ≡ Barriers → asks.number ≡ 0 → (w : ℕ) × (ws : List ℕ) × (asks.values ≡ w ∷ ws)
-  pub created : asks.service ≡ Ids → asks.number ≡ 0 → (v : ℕ) × (w : ℕ) × (ws : List ℕ) × (asks.values ≡ v ∷ w ∷ ws)
-  pub joined : asks.service ≡ Ids → asks.number ≡ 1 → (v : ℕ) × (ws : List ℕ) × (asks.values ≡ v ∷ ws)
-  pub printed : asks.service ≡ Prints →
+  pub count : asks.service ≡ Barrier → asks.number ≡ 0 → (w : ℕ) × (ws : List ℕ) × (asks.values ≡ w ∷ ws)
+  pub created : asks.service ≡ ThreadIds → asks.number ≡ 0 → (v : ℕ) × (w : ℕ) × (ws : List ℕ) × (asks.values ≡ v ∷ w ∷ ws)
+  pub joined : asks.service ≡ ThreadIds → asks.number ≡ 1 → (v : ℕ) × (ws : List ℕ) × (asks.values ≡ v ∷ ws)
+  pub printed : asks.service ≡ Printer →
       (site : ℕ) × (values : List ActOperand) × (a ≡ act.Print site values) × (asks.number ≡ site) × (asks.values ≡ operand_words variables values)
 
 abbrev Hands : Act → (ℕ → ℤ) → Option Asked → Type 0
@@ -20,7 +20,7 @@ Hands a variables None = Unit {0}
 Hands a variables (Some asks) = HandsOver a variables asks
 
 -- of a mutex nothing of this is wanted
-of_mutex : (a : Act) (variables : ℕ → ℤ) (asks : Asked) → asks.service ≡ Mutexes → HandsOver a variables asks
+of_mutex : (a : Act) (variables : ℕ → ℤ) (asks : Asked) → asks.service ≡ Mutex → HandsOver a variables asks
 of_mutex a variables asks e = record { count = λ s n. absurd cc; created = λ s n. absurd cc; joined = λ s n. absurd cc; printed = λ s. absurd cc }
 
 each : (main : Bool) (a : Act) (variables : ℕ → ℤ) → Hands a variables (asked main a variables)

@@ -13,7 +13,7 @@ use Rattle.block_ir.specs.declared.code.Act.TheVariants as act
 use Rattle.block_ir.specs.declared.code.Stage.{Stage as CodeStage}
 use Rattle.block_ir.specs.declared.code.Stage.TheVariants as stage
 use Rattle.block_ir.specs.declared.code.ActOperand.{ActOperand}
-use Rattle.block_ir.specs.Asked.{act_value, Asked, asked, core_of, barrier_core, ids_core}
+use Rattle.block_ir.specs.Asked.{act_value, Asked, asked, core_of, barrier_core, thread_ids_core}
 use Rattle.block_refine.specs.Routines.{stage_at, rest_of, blocks_of, plans_of}
 use Rattle.planned_block.specs.Block.{Block, size}
 use Rattle.planned_block.specs.Plan.{Plan}
@@ -53,7 +53,7 @@ use Rattle.law_cycle.specs.Laws.{Next, Wins, WinsBank, WinsCore}
 use Rattle.law_cycle.specs.Cycle.{FitsTheory, turned, threads_of, grants_of, Stalled, NoCore, Refused, Rests_on, Cycled, NetCycles}
 use Rattle.law_cycle.proofs.Cores.{has_banks}
 use Rattle.law_cycle.proofs.Steps.{each_steps}
-use Rattle.law_cycle.proofs.PlannedStep.{ids_told, bit_told}
+use Rattle.law_cycle.proofs.PlannedStep.{thread_ids_told, bit_told}
 use Rattle.law_cycle.proofs.Banks.{zero_of}
 use Rattle.law_cycle.proofs.Next.{net_goes}
 use Rattle.law_cycle.proofs.Granted.{won_by, raised, who_wins}
@@ -518,10 +518,10 @@ module _ (P : Program) (K : Parts) (built : IsBuilt P K) (chain : ℕ → ℕ �
       rests_main main at r (Sets_out thread below there status slot) = omega (arith, main, thread)
       rests_main main at r (Goes_on l m b there listed bit slot) = let same = rest_is in omega (arith, at, there, same)
 
-      rests_idle : nat_eq i 0 ≡ false → q_now.stage ≡ rest (thread_at P K i) → news P K h.net i (ids_core (numbers_of K.cores)) 0 ≡ 0 → (r : Slot) →
+      rests_idle : nat_eq i 0 ≡ false → q_now.stage ≡ rest (thread_at P K i) → news P K h.net i (thread_ids_core (numbers_of K.cores)) 0 ≡ 0 → (r : Slot) →
           Wakes P K.codes (numbers_of K.cores) K.cores.threads w.cores i q_now r → ⊥
       rests_idle other at none r (Sets_out thread below there status slot) =
-          let told = ids_told P K built i lt other h 0 in
+          let told = thread_ids_told P K built i lt other h 0 in
           let one : bit_of (nat_eq (status_at (numbers_of K.cores) w.cores i) 1) ≡ 1 = ap bit_of (same_is (status_at (numbers_of K.cores) w.cores i) 1 status) in
           let zero = sym none ∙ told ∙ one in
           omega (arith, zero)

@@ -14,7 +14,7 @@ use Rattle.block_ir.specs.declared.code.Stage.{Stage as CodeStage}
 use Rattle.block_ir.specs.declared.code.Stage.TheVariants as stage
 use Rattle.block_ir.specs.declared.plan.BlockPlan.{BlockPlan}
 use Rattle.block_ir.specs.declared.plan.StagePlan.{StagePlan}
-use Rattle.block_ir.specs.Asked.{act_value, barrier_core, ids_core}
+use Rattle.block_ir.specs.Asked.{act_value, barrier_core, thread_ids_core}
 use Rattle.planned_block.specs.Block.{Block as PlannedBlock}
 use Rattle.planned_block.specs.Plan.{Plan}
 use Rattle.planned_block.specs.Slot.{Slot}
@@ -30,7 +30,7 @@ use Rattle.thread_promise.specs.Globals.{bank_of}
 use Rattle.thread_promise.specs.Promise.{is_run, went_on}
 use Rattle.thread_promise.specs.Moves.{meeting, set_out, stage_after}
 use Rattle.core_states.specs.Machines.{ids_tell}
-use Rattle.law_threads.specs.Cores.{Core, gate_in, ids_in, status_at}
+use Rattle.law_threads.specs.Cores.{Core, gate_in, thread_ids_in, status_at}
 use Rattle.law_threads.specs.Surroundings.{routine_of, Sets_out, Goes_on}
 use Rattle.core_family.specs.Family.{CoreKind, Bank, Mutex, Barrier, ThreadIds, Printer, machine_of}
 use Rattle.law_banks.specs.Cycle.{Does, InBlock}
@@ -46,19 +46,19 @@ use Rattle.law_cycle.specs.Bodies.{numbers_of, core_at}
 use Rattle.law_cycle.specs.Stage.{Stage, StepOf, shown_as, cores_shown, news, asks_of, granted_to}
 use Rattle.law_cycle.specs.Going.{in_block, IsAdvance, Goes, Keeps, Advanced, Woke, Acted, Returned}
 use Rattle.core_family.proofs.Listed.{barrier_at, thread_ids_at}
-use Rattle.law_cycle.proofs.Steps.{banked, total_is, ids_there, is_thread}
+use Rattle.law_cycle.proofs.Steps.{banked, total_is, thread_ids_there, is_thread}
 use Rattle.law_cycle.proofs.Banks.{outside_does, stopped_does, serves, works, wants}
 
 -- ---- what the cores of acts tell is what they have
 
-tells_ids : (o : Option CoreKind) (s : ThreadIdsShape) → o ≡ Some (ThreadIds s) → (state : (machine_of o).State) (out : List ℕ) (i j : ℕ) →
-    (machine_of o).tells state i j ≡ ids_tell (ids_in (shown_as o state out)) i j
-tells_ids None s e state out i j = absurd cc
-tells_ids (Some (Bank c)) s e state out i j = absurd cc
-tells_ids (Some (Mutex c)) s e state out i j = absurd cc
-tells_ids (Some (Barrier c)) s e state out i j = absurd cc
-tells_ids (Some (ThreadIds c)) s e state out i j = refl
-tells_ids (Some (Printer c)) s e state out i j = absurd cc
+tells_thread_ids : (o : Option CoreKind) (s : ThreadIdsShape) → o ≡ Some (ThreadIds s) → (state : (machine_of o).State) (out : List ℕ) (i j : ℕ) →
+    (machine_of o).tells state i j ≡ ids_tell (thread_ids_in (shown_as o state out)) i j
+tells_thread_ids None s e state out i j = absurd cc
+tells_thread_ids (Some (Bank c)) s e state out i j = absurd cc
+tells_thread_ids (Some (Mutex c)) s e state out i j = absurd cc
+tells_thread_ids (Some (Barrier c)) s e state out i j = absurd cc
+tells_thread_ids (Some (ThreadIds c)) s e state out i j = refl
+tells_thread_ids (Some (Printer c)) s e state out i j = absurd cc
 
 tells_bit : (o : Option CoreKind) (s : BarrierShape) → o ≡ Some (Barrier s) → (state : (machine_of o).State) (out : List ℕ) (i : ℕ) →
     (machine_of o).tells state i 0 ≡ slice_index (gate_in (shown_as o state out)).waiting i
@@ -74,10 +74,10 @@ one_bit true e = refl
 one_bit false e = absurd (omega arith)
 
 -- a thread besides main is told what the core of the thread ids has
-pub ids_told : (P : Program) (K : Parts) (built : IsBuilt P K) (i : ℕ) → i < K.cores.threads → nat_eq i 0 ≡ false → (h : Stage P K) (j : ℕ) →
-    news P K h.net i (ids_core (numbers_of K.cores)) j ≡ ids_tell (ids_in (cores_shown P K h.net h.out (ids_core (numbers_of K.cores)))) i j
-ids_told P K built i lt other h j =
-    tells_ids (core_at K.cores (ids_core (numbers_of K.cores))) (record { threads = K.cores.threads }) (thread_ids_at K.cores (ids_there P K built i lt other)) (h.net.states (ids_core (numbers_of K.cores))) h.out i j
+pub thread_ids_told : (P : Program) (K : Parts) (built : IsBuilt P K) (i : ℕ) → i < K.cores.threads → nat_eq i 0 ≡ false → (h : Stage P K) (j : ℕ) →
+    news P K h.net i (thread_ids_core (numbers_of K.cores)) j ≡ ids_tell (thread_ids_in (cores_shown P K h.net h.out (thread_ids_core (numbers_of K.cores)))) i j
+thread_ids_told P K built i lt other h j =
+    tells_thread_ids (core_at K.cores (thread_ids_core (numbers_of K.cores))) (record { threads = K.cores.threads }) (thread_ids_at K.cores (thread_ids_there P K built i lt other)) (h.net.states (thread_ids_core (numbers_of K.cores))) h.out i j
 
 -- and each its bit at a barrier
 pub bit_told : (P : Program) (K : Parts) (i : ℕ) (h : Stage P K) (n : ℕ) → n < K.cores.barriers →
@@ -204,12 +204,12 @@ module _ (P : Program) (K : Parts) (built : IsBuilt P K) (c : Choice) (h : Stage
   goes next w (moved.Ended on main at slot) = still next (past (omega (arith, at))) slot
   goes next w (moved.Idles on other at none slot) = still next (past (omega (arith, at))) slot
   goes next w (moved.Sets_out on other at one slot) =
-      let told = ids_told P K built i lt other h in
+      let told = thread_ids_told P K built i lt other h in
       out_of_block next (past (omega (arith, at))) (λ n. ap (λ (z : Slot). z.words n) slot)
       (Woke on (run_there false (past (omega (arith, at))))
       (Sets_out (let some : 0 < i = grind (arith, nat_tests) in some) lt (at ∙ rest_there)
       (is_same (status_at (numbers_of K.cores) cores_now i) 1 (one_bit (nat_eq (status_at (numbers_of K.cores) cores_now i) 1) (sym (told 0) ∙ one)))
-      (slot ∙ ap (λ (f : ℕ). set_out (K.codes f).code.argument (news P K h.net i (ids_core (numbers_of K.cores)) 1) q) (sym own)
+      (slot ∙ ap (λ (f : ℕ). set_out (K.codes f).code.argument (news P K h.net i (thread_ids_core (numbers_of K.cores)) 1) q) (sym own)
       ∙ ap (λ (a : ℕ). set_out (K.codes q.routine).code.argument a q) (told 1)))
       refl)
   goes next w (moved.Holds_on on l m b at listed there one slot) = still next (past (omega (arith, at))) slot

@@ -5,7 +5,7 @@ use Rattle.std.proofs.lemmas.Option.{slice_get_within}
 use Rattle.c_program.specs.Tree.{Program}
 use Rattle.thread_semantics.specs.State.{start as first_state}
 use Rattle.race_model.specs.Source.{memory_of}
-use Rattle.block_ir.specs.Asked.{mutex_core, barrier_core, ids_core, printer_core}
+use Rattle.block_ir.specs.Asked.{mutex_core, barrier_core, thread_ids_core, printer_core}
 use Rattle.block_refine.specs.Routines.{rest_of}
 use Rattle.circuit.specs.Wiring.{start}
 use Rattle.mutex_cores.specs.declared.mutex.Shape.{Shape as MutexShape}
@@ -16,7 +16,7 @@ use Rattle.print_core.specs.declared.printer.Shape.{Shape as PrinterShape}
 use Rattle.leaf_machine.specs.Leaves.{leaf_thread}
 use Rattle.leaf_machine.proofs.Leaves.{leaf_keeps_slots}
 use Rattle.thread_promise.specs.Moves.{first_slot}
-use Rattle.law_threads.specs.Cores.{OfMutex, OfBarrier, OfIds, OfPrinter}
+use Rattle.law_threads.specs.Cores.{OfMutex, OfBarrier, OfThreadIds, OfPrinter}
 use Rattle.law_threads.specs.Surroundings.{routine_of}
 use Rattle.core_family.specs.Family.{CoreKind, Bank, Mutex, Barrier, ThreadIds, Printer, machine_of}
 use Rattle.core_family.specs.Laws.{FitsFirst}
@@ -52,13 +52,13 @@ barrier_begins (Some (ThreadIds c)) s e = absurd cc
 barrier_begins (Some (Printer c)) s e = absurd cc
 
 thread_ids_begin : (o : Option CoreKind) (s : ThreadIdsShape) → o ≡ Some (ThreadIds s) →
-    shown_as o (machine_of o).start [] ≡ OfIds (record { statuses = replicate s.threads 0; arguments = replicate s.threads 0 })
+    shown_as o (machine_of o).start [] ≡ OfThreadIds (record { statuses = replicate s.threads 0; arguments = replicate s.threads 0 })
 thread_ids_begin None s e = absurd cc
 thread_ids_begin (Some (Bank c)) s e = absurd cc
 thread_ids_begin (Some (Mutex c)) s e = absurd cc
 thread_ids_begin (Some (Barrier c)) s e = absurd cc
 thread_ids_begin (Some (ThreadIds c)) s e =
-    let same : c ≡ s = cc in ap (λ (z : ThreadIdsShape). OfIds (record { statuses = replicate z.threads 0; arguments = replicate z.threads 0 })) same
+    let same : c ≡ s = cc in ap (λ (z : ThreadIdsShape). OfThreadIds (record { statuses = replicate z.threads 0; arguments = replicate z.threads 0 })) same
 thread_ids_begin (Some (Printer c)) s e = absurd cc
 
 printer_begins : (o : Option CoreKind) (s : PrinterShape) → o ≡ Some (Printer s) → shown_as o (machine_of o).start [] ≡ OfPrinter []
@@ -106,7 +106,7 @@ module _ (P : Program) (K : Parts) (built : IsBuilt P K) where
     memory = λ l. refl;
     mutexes = λ n s e. mutex_begins (core_at K.cores (mutex_core (numbers_of K.cores) n)) s (mutex_at K.cores n s e);
     barriers = λ n l. barrier_begins (core_at K.cores (barrier_core (numbers_of K.cores) n)) (record { threads = K.cores.threads }) (barrier_at K.cores n l);
-    thread_ids = λ on. thread_ids_begin (core_at K.cores (ids_core (numbers_of K.cores))) (record { threads = K.cores.threads }) (thread_ids_at K.cores on);
+    thread_ids = λ on. thread_ids_begin (core_at K.cores (thread_ids_core (numbers_of K.cores))) (record { threads = K.cores.threads }) (thread_ids_at K.cores on);
     printer = printer_begins (core_at K.cores (printer_core (numbers_of K.cores))) K.cores.printer (printer_at K.cores);
   }
 

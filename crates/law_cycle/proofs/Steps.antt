@@ -8,7 +8,7 @@ use Rattle.verilog_meaning.specs.Cycles.{Choice}
 use Rattle.circuit.specs.Wiring.{is_enabled}
 use Rattle.leaf_machine.proofs.Leaves.{leaf_keeps_slots}
 use Rattle.thread_promise.specs.Globals.{bank_total}
-use Rattle.block_ir.specs.Asked.{barrier_core, ids_core}
+use Rattle.block_ir.specs.Asked.{barrier_core, thread_ids_core}
 use Rattle.block_refine.specs.Routines.{rest_of}
 use Rattle.law_threads.specs.Surroundings.{routine_of}
 use Rattle.core_family.specs.Family.{CoreKind, Barrier, ThreadIds, machine_of, ask_width, told_width}
@@ -55,8 +55,8 @@ module _ (P : Program) (K : Parts) (built : IsBuilt P K) where
   }
 
   -- a thread besides main needs the core of the thread ids
-  pub ids_there : (i : ℕ) → i < K.cores.threads → nat_eq i 0 ≡ false → K.cores.thread_ids ≡ true
-  ids_there i lt other =
+  pub thread_ids_there : (i : ℕ) → i < K.cores.threads → nat_eq i 0 ≡ false → K.cores.thread_ids ≡ true
+  thread_ids_there i lt other =
       let many : 1 < K.cores.threads = grind (arith, nat_tests) in
       built.thread_ids ∙ (let t : nat_lt 1 K.cores.threads ≡ true = grind (arith, nat_tests) in t)
 
@@ -75,7 +75,7 @@ module _ (P : Program) (K : Parts) (built : IsBuilt P K) where
           some = some_banks P K.cores.threads K.spreads K.cores.banks built.banked;
           below = λ x n s e l. bank_below P K.cores.threads K.spreads K.cores.banks built.banked x n s e l;
         };
-        ids = ids_there i lt;
+        thread_ids = thread_ids_there i lt;
       }
 
   -- ---- what they are told
@@ -123,7 +123,7 @@ module _ (P : Program) (K : Parts) (built : IsBuilt P K) where
           bank_tells (s.first + n) b.0 0 b.1 ∙ h.holds.kept i x n s ty lt at type l;
       typed = λ x n s ty at type l. h.holds.kept_typed i x n s ty lt at type l;
       waits = λ n l. bit_told (barrier_core (numbers_of K.cores) n) (Barrier (record { threads = K.cores.threads })) (barrier_at K.cores n l) (omega arith) refl;
-      runs = λ on. bit_told (ids_core (numbers_of K.cores)) (ThreadIds (record { threads = K.cores.threads })) (thread_ids_at K.cores on) (omega arith) refl;
+      runs = λ on. bit_told (thread_ids_core (numbers_of K.cores)) (ThreadIds (record { threads = K.cores.threads })) (thread_ids_at K.cores on) (omega arith) refl;
     }
 
     -- ---- what they ask

@@ -20,7 +20,7 @@ use Rattle.planned_block.specs.Advance.{advance}
 use Rattle.planned_block.proofs.Bits.{both_true, less_is}
 use Rattle.plan_blocks.specs.View.{planned_view, plan_view}
 use Rattle.verilog_meaning.specs.Readings.{Reading, next_reading, initial_reading}
-use Rattle.block_ir.specs.Asked.{act_value, Service, Mutexes, Barriers, Ids, Prints, Asked, asked, Numbers, core_in, core_of, mutex_core, barrier_core, ids_core, printer_core}
+use Rattle.block_ir.specs.Asked.{act_value, Service, Mutex, Barrier, ThreadIds, Printer, Asked, asked, Numbers, core_in, core_of, mutex_core, barrier_core, thread_ids_core, printer_core}
 use Rattle.thread_promise.specs.Globals.{bank_at, bank_total, bank_of, place_now, bank_now, IsOpen}
 use Rattle.thread_promise.specs.Promise.{BankPorts, went_on}
 use Rattle.thread_promise.specs.Moves.{meeting, stage_after, set_out, first_slot, asked_in, core_asked}
@@ -85,23 +85,23 @@ barrier_is N n lt = (omega arith, omega arith)
 mutex_is : (N : Numbers) (n : ℕ) → n < N.mutexes → IsActCore N (mutex_core N n)
 mutex_is N n lt = (omega arith, omega arith)
 
-ids_is : (N : Numbers) → IsActCore N (ids_core N)
-ids_is N = (omega arith, omega arith)
+thread_ids_is : (N : Numbers) → IsActCore N (thread_ids_core N)
+thread_ids_is N = (omega arith, omega arith)
 
 printer_is : (N : Numbers) → IsActCore N (printer_core N)
 printer_is N = (omega arith, omega arith)
 
 -- what is asked is a core of acts
 pub core_in_is : (N : Numbers) (service : Service) (n k : ℕ) → core_in N service n ≡ Some k → IsActCore N k
-core_in_is N Mutexes n k e =
+core_in_is N Mutex n k e =
     let c = cond_some (nat_lt n N.mutexes) (mutex_core N n) k e in subst (IsActCore N) c.1 (mutex_is N n (ltb-true n N.mutexes c.0))
-core_in_is N Barriers n k e =
+core_in_is N Barrier n k e =
     let c = cond_some (nat_lt n N.barriers) (barrier_core N n) k e in subst (IsActCore N) c.1 (barrier_is N n (ltb-true n N.barriers c.0))
-core_in_is N Ids n k e = let c = cond_some N.ids (ids_core N) k e in subst (IsActCore N) c.1 (ids_is N)
-core_in_is N Prints n k e = let s : printer_core N ≡ k = cc in subst (IsActCore N) s (printer_is N)
+core_in_is N ThreadIds n k e = let c = cond_some N.thread_ids (thread_ids_core N) k e in subst (IsActCore N) c.1 (thread_ids_is N)
+core_in_is N Printer n k e = let s : printer_core N ≡ k = cc in subst (IsActCore N) s (printer_is N)
 
 -- a barrier that has a core
-barrier_there : (N : Numbers) (n k : ℕ) → core_in N Barriers n ≡ Some k → n < N.barriers
+barrier_there : (N : Numbers) (n k : ℕ) → core_in N Barrier n ≡ Some k → n < N.barriers
 barrier_there N n k e = ltb-true n N.barriers (cond_some (nat_lt n N.barriers) (barrier_core N n) k e).0
 
 zero_or_one : (n : ℕ) → n < 2 → (n ≡ 0) ⊎ (n ≡ 1)
@@ -198,19 +198,19 @@ module _ (t : Thread) (is : IsThread t) where
     at_rest : enabled ≡ true → q.stage ≡ rest t → q.state ≡ 0 → Shows t r q → (main : Bool) → t.main ≡ main → Result
     at_rest on at state shown true e = result q (Ended on e at refl) refl (AtRest at state (is.runs.ends e r q go.obeys shown at))
     at_rest on at state shown false e =
-        let ids = is.ids e in
-        let told_ids = is.wide.ids_tell ids in
-        let core = ids_is t.numbers in
-        let told_zero = core_told (ids_core t.numbers) 0 core (omega (arith, told_ids)) in
-        let told_one = core_told (ids_core t.numbers) 1 core told_ids in
+        let thread_ids = is.thread_ids e in
+        let told_thread_ids = is.wide.ids_tell thread_ids in
+        let core = thread_ids_is t.numbers in
+        let told_zero = core_told (thread_ids_core t.numbers) 0 core (omega (arith, told_thread_ids)) in
+        let told_one = core_told (thread_ids_core t.numbers) 1 core told_thread_ids in
         ⊎_elim
-        (λ (none : news (ids_core t.numbers) 0 ≡ 0). result q (Idles on e at none refl) refl (AtRest at state (is.runs.idles e ids r q go.obeys shown at (told_zero ∙ none))))
-        (λ (one : news (ids_core t.numbers) 0 ≡ 1).
-        result (set_out t.code.argument (news (ids_core t.numbers) 1) q) (Sets_out on e at one refl) refl
-        (at_first t is after (set_out t.code.argument (news (ids_core t.numbers) 1) q) refl refl (λ k. refl)
+        (λ (none : news (thread_ids_core t.numbers) 0 ≡ 0). result q (Idles on e at none refl) refl (AtRest at state (is.runs.idles e thread_ids r q go.obeys shown at (told_zero ∙ none))))
+        (λ (one : news (thread_ids_core t.numbers) 0 ≡ 1).
+        result (set_out t.code.argument (news (thread_ids_core t.numbers) 1) q) (Sets_out on e at one refl) refl
+        (at_first t is after (set_out t.code.argument (news (thread_ids_core t.numbers) 1) q) refl refl (λ k. refl)
         (subst (λ z. Shows t after (set_out t.code.argument z q)) told_one
-        (is.runs.begins e ids r q go.obeys shown state at (enable_is true on) (told_zero ∙ one)))))
-        (zero_or_one (news (ids_core t.numbers) 0) (told.runs ids))
+        (is.runs.begins e thread_ids r q go.obeys shown state at (enable_is true on) (told_zero ∙ one)))))
+        (zero_or_one (news (thread_ids_core t.numbers) 0) (told.runs thread_ids))
 
     -- ---- a meeting
 

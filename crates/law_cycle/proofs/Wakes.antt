@@ -11,7 +11,7 @@ use Rattle.interleaving.specs.Cycle.{AreForThread, TurnsInCycle, ActsInCycle, Ac
 use Rattle.block_ir.specs.declared.code.Act.{Act}
 use Rattle.block_ir.specs.declared.code.Act.TheVariants as act
 use Rattle.block_ir.specs.declared.code.Stage.TheVariants as stage
-use Rattle.block_ir.specs.Asked.{act_value, Asked, asked, core_of, barrier_core, ids_core}
+use Rattle.block_ir.specs.Asked.{act_value, Asked, asked, core_of, barrier_core, thread_ids_core}
 use Rattle.block_refine.specs.Routines.{stage_at, rest_of}
 use Rattle.planned_block.specs.Slot.{Slot}
 use Rattle.planned_block.proofs.Bits.{other_is, same_is}
@@ -57,10 +57,10 @@ module _ (P : Program) (K : Parts) (chain : ℕ → ℕ → ℕ) where
       wakes_on : (c : ℕ → Core) → AreForThread (c_source P) H w v place_owner core_owner i c → Wakes P K.codes (numbers_of K.cores) K.cores.threads w.cores i q (v.slots i) →
           Wakes P K.codes (numbers_of K.cores) K.cores.threads c i q (v.slots i)
       wakes_on c are (Sets_out thread below at status slot) =
-          let ids = ids_core (numbers_of K.cores) in
-          let told : (status_in (c ids) i ≡ 1) × (argument_in (c ids) i ≡ argument_in (w.cores ids) i) =
-          seen c are (λ k. (status_in k i ≡ 1) × (argument_in k i ≡ argument_in (w.cores ids) i)) ids (status, refl)
-          (λ a may. runners_stay K.cores.threads (print_formats P) (w.cores ids) i (core_owner ids) a (λ e. none ids (sym e)) may status) in
+          let thread_ids = thread_ids_core (numbers_of K.cores) in
+          let told : (status_in (c thread_ids) i ≡ 1) × (argument_in (c thread_ids) i ≡ argument_in (w.cores thread_ids) i) =
+          seen c are (λ k. (status_in k i ≡ 1) × (argument_in k i ≡ argument_in (w.cores thread_ids) i)) thread_ids (status, refl)
+          (λ a may. runners_stay K.cores.threads (print_formats P) (w.cores thread_ids) i (core_owner thread_ids) a (λ e. none thread_ids (sym e)) may status) in
           Sets_out thread below at told.0 (slot ∙ ap (λ z. set_out (K.codes q.routine).code.argument z q) (sym told.1))
       wakes_on c are (Goes_on l next b at listed bit slot) =
           let k = barrier_core (numbers_of K.cores) (residue_of 64 (act_value q.variables b)) in

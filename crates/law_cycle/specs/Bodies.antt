@@ -24,7 +24,7 @@ use Rattle.law_banks.specs.Partition.{globals_of}
 -- ---- the cores of a program by number
 
 abbrev pub numbers_of : Cores → Numbers
-numbers_of c = record { banks = length c.banks; mutexes = length c.mutexes; barriers = c.barriers; ids = c.thread_ids }
+numbers_of c = record { banks = length c.banks; mutexes = length c.mutexes; barriers = c.barriers; thread_ids = c.thread_ids }
 
 abbrev pub core_at : Cores → ℕ → Option CoreKind
 core_at c k = slice_get (kinds_of c) k

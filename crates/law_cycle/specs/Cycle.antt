@@ -12,7 +12,7 @@ use Rattle.planned_block.specs.Net.{Grants, NetCycle, Serves, moves}
 use Rattle.race_model.specs.Source.{Local, c_source, memory_of}
 use Rattle.block_ir.specs.declared.code.Act.{Act}
 use Rattle.block_ir.specs.declared.code.Stage.TheVariants as stage
-use Rattle.block_ir.specs.Asked.{Asked, asked, core_of, mutex_core, barrier_core, ids_core, printer_core}
+use Rattle.block_ir.specs.Asked.{Asked, asked, core_of, mutex_core, barrier_core, thread_ids_core, printer_core}
 use Rattle.block_refine.specs.Routines.{stage_at, rest_of, blocks_of, plans_of, Starts}
 use Rattle.verilog_meaning.specs.Cycles.{Choice}
 use Rattle.circuit.specs.Wiring.{is_enabled, start}
@@ -21,7 +21,7 @@ use Rattle.mutex_cores.specs.Machine.{first_lock}
 use Rattle.leaf_machine.specs.Leaves.{leaf_thread}
 use Rattle.thread_promise.specs.Globals.{bank_of}
 use Rattle.thread_promise.specs.Moves.{first_slot}
-use Rattle.law_threads.specs.Cores.{Core, may_grant, OfMutex, OfBarrier, OfIds, OfPrinter}
+use Rattle.law_threads.specs.Cores.{Core, may_grant, OfMutex, OfBarrier, OfThreadIds, OfPrinter}
 use Rattle.law_threads.specs.Surroundings.{routine_of, Wakes, around, hardware_code}
 use Rattle.law_banks.specs.Laws.{owner_of}
 use Rattle.law_cycle.specs.Built.{Parts, IsBuilt}
@@ -117,7 +117,7 @@ pub record First (P : Program) (K : Parts) : Type 0 where
   pub barriers : (n : ℕ) → n < K.cores.barriers →
       cores_shown P K stage.net [] (barrier_core (numbers_of K.cores) n) ≡ OfBarrier (record { count = 0; waiting = replicate K.cores.threads 0 })
   pub thread_ids : K.cores.thread_ids ≡ true →
-      cores_shown P K stage.net [] (ids_core (numbers_of K.cores)) ≡ OfIds (record { statuses = replicate K.cores.threads 0; arguments = replicate K.cores.threads 0 })
+      cores_shown P K stage.net [] (thread_ids_core (numbers_of K.cores)) ≡ OfThreadIds (record { statuses = replicate K.cores.threads 0; arguments = replicate K.cores.threads 0 })
   pub printer : cores_shown P K stage.net [] (printer_core (numbers_of K.cores)) ≡ OfPrinter []
 
 abbrev pub NetStarts : Type 0

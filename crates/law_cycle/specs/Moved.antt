@@ -12,7 +12,7 @@ use Rattle.planned_block.specs.Block.{size}
 use Rattle.planned_block.specs.Slot.{Slot}
 use Rattle.planned_block.specs.Advance.{advance}
 use Rattle.plan_blocks.specs.View.{planned_view, plan_view}
-use Rattle.block_ir.specs.Asked.{act_value, Asked, asked, core_of, barrier_core, ids_core}
+use Rattle.block_ir.specs.Asked.{act_value, Asked, asked, core_of, barrier_core, thread_ids_core}
 use Rattle.thread_promise.specs.Globals.{bank_of, bank_now, IsOpen}
 use Rattle.thread_promise.specs.Promise.{went_on}
 use Rattle.thread_promise.specs.Moves.{meeting, stage_after, set_out}
@@ -41,9 +41,9 @@ module _ (t : Thread) (enabled : Bool) (granted : ℕ → Bool) (news : ℕ → 
     -- main is over
     Ended : (on : enabled ≡ true) (main : t.main ≡ true) (at : q.stage ≡ rest t) (slot : r ≡ q) → Moved
     -- another thread is told that it does not run, or that it does
-    Idles : (on : enabled ≡ true) (thread : t.main ≡ false) (at : q.stage ≡ rest t) (news_ : news (ids_core t.numbers) 0 ≡ 0) (slot : r ≡ q) → Moved
-    Sets_out : (on : enabled ≡ true) (thread : t.main ≡ false) (at : q.stage ≡ rest t) (news_ : news (ids_core t.numbers) 0 ≡ 1)
-        (slot : r ≡ set_out t.code.argument (news (ids_core t.numbers) 1) q) → Moved
+    Idles : (on : enabled ≡ true) (thread : t.main ≡ false) (at : q.stage ≡ rest t) (news_ : news (thread_ids_core t.numbers) 0 ≡ 0) (slot : r ≡ q) → Moved
+    Sets_out : (on : enabled ≡ true) (thread : t.main ≡ false) (at : q.stage ≡ rest t) (news_ : news (thread_ids_core t.numbers) 0 ≡ 1)
+        (slot : r ≡ set_out t.code.argument (news (thread_ids_core t.numbers) 1) q) → Moved
     -- at a meeting, where the barrier tells that it waits, or that it does not
     Holds_on : (on : enabled ≡ true) (l next : ℕ) (b : ActOperand) (at : q.stage ≡ meeting (rest t) l)
         (listed : slice_get t.code.stages l ≡ Some (stage.Act (act.BarrierWait b) next)) (below : residue_of 64 (act_value q.variables b) < t.numbers.barriers)

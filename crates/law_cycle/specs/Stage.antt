@@ -11,7 +11,7 @@ use Rattle.verilog_meaning.specs.Cycles.{Choice}
 use Rattle.leaf_machine.specs.Settled.{IsSlot}
 use Rattle.leaf_machine.specs.Leaves.{leaf_thread}
 use Rattle.block_ir.specs.Asked.{printer_core}
-use Rattle.law_threads.specs.Cores.{Core, OfBank, OfMutex, OfBarrier, OfIds, OfPrinter}
+use Rattle.law_threads.specs.Cores.{Core, OfBank, OfMutex, OfBarrier, OfThreadIds, OfPrinter}
 use Rattle.core_family.specs.Family.{CoreKind, Mutex, Barrier, ThreadIds, Printer, machine_of, words_of}
 use Rattle.core_family.specs.Laws.{FitsState}
 use Rattle.law_banks.specs.Memory.{Holds}
@@ -25,7 +25,7 @@ use Rattle.law_cycle.specs.Bodies.{numbers_of, core_at, core_machine, core_count
 abbrev pub shown_as : (o : Option CoreKind) → (machine_of o).State → List ℕ → Core
 shown_as (Some (Mutex m)) s out = OfMutex s
 shown_as (Some (Barrier b)) s out = OfBarrier s
-shown_as (Some (ThreadIds f)) s out = OfIds s
+shown_as (Some (ThreadIds f)) s out = OfThreadIds s
 shown_as (Some (Printer p)) s out = OfPrinter out
 shown_as _ s out = OfBank
 

@@ -12,7 +12,7 @@ use Rattle.planned_block.specs.Block.{size}
 use Rattle.planned_block.specs.Slot.{Slot, bank_access_now}
 use Rattle.planned_block.specs.Advance.{answered, wires}
 use Rattle.plan_blocks.specs.View.{planned_view, plan_view}
-use Rattle.block_ir.specs.Asked.{act_value, Asked, asked, barrier_core, ids_core}
+use Rattle.block_ir.specs.Asked.{act_value, Asked, asked, barrier_core, thread_ids_core}
 use Rattle.thread_promise.specs.Globals.{bank_of, bank_now, IsOpen}
 use Rattle.thread_promise.specs.Moves.{meeting}
 use Rattle.verilog_meaning.specs.Readings.{Reading}
@@ -30,7 +30,7 @@ module _ (t : Thread) where
         (refused : IsRefused t granted ask) → IsStuck granted news q
     -- main is over; another thread does not run; it waits at a barrier
     Over : (main : t.main ≡ true) (at : q.stage ≡ rest t) → IsStuck granted news q
-    Unrun : (thread : t.main ≡ false) (at : q.stage ≡ rest t) (none : news (ids_core t.numbers) 0 ≡ 0) → IsStuck granted news q
+    Unrun : (thread : t.main ≡ false) (at : q.stage ≡ rest t) (none : news (thread_ids_core t.numbers) 0 ≡ 0) → IsStuck granted news q
     Unmet : (l next : ℕ) (b : ActOperand) (at : q.stage ≡ meeting (rest t) l) (listed : slice_get t.code.stages l ≡ Some (stage.Act (act.BarrierWait b) next))
         (below : residue_of 64 (act_value q.variables b) < t.numbers.barriers)
         (one : news (barrier_core t.numbers (residue_of 64 (act_value q.variables b))) 0 ≡ 1) → IsStuck granted news q

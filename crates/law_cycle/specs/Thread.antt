@@ -18,7 +18,7 @@ use Rattle.block_ir.specs.declared.plan.Planned.{Planned}
 use Rattle.planned_block.specs.Slot.{Slot}
 use Rattle.netlist.specs.declared.netlist.Module.{Module}
 use Rattle.verilog_meaning.specs.Readings.{Reading}
-use Rattle.block_ir.specs.Asked.{act_value, Numbers, barrier_core, ids_core, printer_core}
+use Rattle.block_ir.specs.Asked.{act_value, Numbers, barrier_core, thread_ids_core, printer_core}
 use Rattle.leaf_machine.specs.Leaves.{LeafPorts, GoesThrough}
 use Rattle.thread_promise.specs.Slots.{Places, ShowsData}
 use Rattle.thread_promise.specs.Globals.{bank_total}
@@ -102,7 +102,7 @@ module _ (t : Thread) where
     pub bank_tells : (n : ℕ) → n < t.numbers.banks → 0 < t.told n
     pub core_asks : (k : ℕ) → IsActCore t.numbers k → 1 < t.parts k
     pub barrier_tells : (n : ℕ) → n < t.numbers.barriers → 0 < t.told (barrier_core t.numbers n)
-    pub ids_tell : t.numbers.ids ≡ true → 1 < t.told (ids_core t.numbers)
+    pub ids_tell : t.numbers.thread_ids ≡ true → 1 < t.told (thread_ids_core t.numbers)
 
   -- each bank of a global is a core
   pub record AreSpread : Type 0 where
@@ -118,7 +118,7 @@ module _ (t : Thread) where
     pub ports : ArePorts
     pub wide : AreWide
     pub spread : AreSpread
-    pub ids : t.main ≡ false → t.numbers.ids ≡ true
+    pub thread_ids : t.main ≡ false → t.numbers.thread_ids ≡ true
 
   -- ---- where a slot stands
 
@@ -137,10 +137,10 @@ module _ (t : Thread) where
 
   -- ---- what the thread hears
 
-  -- of each bank of a global the word that the slot has, and of barriers and ids a bit
+  -- of each bank of a global the word that the slot has, and of barriers and thread ids a bit
   pub record IsNews (news : ℕ → ℕ → ℕ) (q : Slot) : Type 0 where
     pub words : (x n : ℕ) (s : Spread) (ty : IntegerType) → slice_get t.spreads x ≡ Some s → slice_get t.globals x ≡ Some ty → n < s.count →
         news (s.first + n) 0 ≡ residue_of (width_of ty) (q.words (s.first + n))
     pub typed : (x n : ℕ) (s : Spread) (ty : IntegerType) → slice_get t.spreads x ≡ Some s → slice_get t.globals x ≡ Some ty → n < s.count → HasType ty (q.words (s.first + n))
     pub waits : (n : ℕ) → n < t.numbers.barriers → news (barrier_core t.numbers n) 0 < 2
-    pub runs : t.numbers.ids ≡ true → news (ids_core t.numbers) 0 < 2
+    pub runs : t.numbers.thread_ids ≡ true → news (thread_ids_core t.numbers) 0 < 2

@@ -10,7 +10,7 @@ use Rattle.thread_semantics.specs.declared.object.MutexState.TheVariants as mute
 use Rattle.thread_semantics.specs.State.{first_mutex, first_mutexes, start}
 use Rattle.mutex_cores.specs.declared.mutex.Shape.{Shape as MutexShape}
 use Rattle.mutex_cores.specs.Machine.{first_lock}
-use Rattle.block_ir.specs.Asked.{Numbers, mutex_core, barrier_core, ids_core, printer_core}
+use Rattle.block_ir.specs.Asked.{Numbers, mutex_core, barrier_core, thread_ids_core, printer_core}
 use Rattle.law_threads.specs.Cores.{Core, OfMutex}
 use Rattle.law_threads.specs.Stands.{lock_of}
 use Rattle.law_banks.proofs.Partitioned.{there}
@@ -84,7 +84,7 @@ module _ (P : Program) (K : Parts) (built : IsBuilt P K) where
   are_first = record {
     mutexes = first_mutex_is;
     barriers = λ n lt. nothing_yet (barrier_core N n) ∙ begin.barriers n lt;
-    ids = λ on. (replicate K.cores.threads 0, length-replicate K.cores.threads 0, nothing_yet (ids_core N) ∙ begin.thread_ids on);
+    thread_ids = λ on. (replicate K.cores.threads 0, length-replicate K.cores.threads 0, nothing_yet (thread_ids_core N) ∙ begin.thread_ids on);
     printer = nothing_yet (printer_core N) ∙ begin.printer;
   }
 

@@ -18,7 +18,7 @@ use Rattle.planned_block.specs.Slot.{Slot}
 use Rattle.planned_block.proofs.Bits.{other_is}
 use Rattle.race_model.specs.Source.{local_of, running}
 use Rattle.law_threads.specs.Cores.{Core, status_in, status_at}
-use Rattle.block_ir.specs.Asked.{Numbers, ids_core, printer_core}
+use Rattle.block_ir.specs.Asked.{Numbers, thread_ids_core, printer_core}
 use Rattle.law_threads.specs.Stands.{status_of, GateStands, StandsFor}
 use Rattle.code_following.specs.Following.{HasArguments}
 use Rattle.block_refine.specs.Routines.{Codes, rest_of, Starts}
@@ -48,8 +48,8 @@ none_runs (suc n) (suc i) = none_runs n i
 
 module _ (P : Program) (codes : Codes) (N : Numbers) (T : ℕ) (spreads : List Spread) (chain : ℕ → ℕ → ℕ) (R : IsResolved P) (counts : CountElements P N)
     (coded : AreCoded P codes chain) (c : ℕ → Core) (first : AreFirst P N T c) (slots : ℕ → Slot) (fresh : (i : ℕ) → IsFresh P codes i (slots i)) where
-  abbrev ids_number : ℕ
-  ids_number = sum_by (λ (o : ThreadObject). o.length) P.threads
+  abbrev thread_ids_number : ℕ
+  thread_ids_number = sum_by (λ (o : ThreadObject). o.length) P.threads
 
   -- ---- the cores
 
@@ -70,11 +70,11 @@ module _ (P : Program) (codes : Codes) (N : Numbers) (T : ℕ) (spreads : List S
           stands = subst (GateStands T (record { count = 0; waiting = replicate T 0 })) (sym none)
               (record { sized = length-replicate T 0; bits = λ i lt. zeros_at T i; count = λ k ws q. absurd cc });
         };
-    ids = λ has. record {
-      ids = record { statuses = replicate T 0; arguments = (first.ids has).0 };
-      is = (first.ids has).2;
+    thread_ids = λ has. record {
+      thread_ids = record { statuses = replicate T 0; arguments = (first.thread_ids has).0 };
+      is = (first.thread_ids has).2;
       statuses = length-replicate T 0;
-      arguments = (first.ids has).1;
+      arguments = (first.thread_ids has).1;
       main = zeros_at T 0;
       each = each;
     };
@@ -85,15 +85,15 @@ module _ (P : Program) (codes : Codes) (N : Numbers) (T : ℕ) (spreads : List S
     where
       each : (i : ℕ) (x : ThreadSlot) → 0 < i → slice_get (start P).slots i ≡ Some x → slice_index (replicate T 0) i ≡ status_of x
       each zero x lt e = absurd (omega arith)
-      each (suc i) x lt e = zeros_at T (suc i) ∙ sym (ap status_of (unused_there ids_number i x e))
+      each (suc i) x lt e = zeros_at T (suc i) ∙ sym (ap status_of (unused_there thread_ids_number i x e))
 
   -- ---- the slots
 
-  no_status : (i : ℕ) (b : Bool) → N.ids ≡ b → status_at N c i ≡ 0
-  no_status i true e = ap (λ (k : Core). status_in k i) ((first.ids e).2) ∙ zeros_at T i
+  no_status : (i : ℕ) (b : Bool) → N.thread_ids ≡ b → status_at N c i ≡ 0
+  no_status i true e = ap (λ (k : Core). status_in k i) ((first.thread_ids e).2) ∙ zeros_at T i
   no_status i false e =
-      let none : ◌≡◌ {A = ℕ} (if N.ids then 1 else 0) 0 = ap (λ (b : Bool). if b then 1 else 0) e in
-      let same : printer_core N ≡ ids_core N = omega arith in
+      let none : ◌≡◌ {A = ℕ} (if N.thread_ids then 1 else 0) 0 = ap (λ (b : Bool). if b then 1 else 0) e in
+      let same : printer_core N ≡ thread_ids_core N = omega arith in
       ap (λ (k : Core). status_in k i) (ap c (sym same) ∙ first.printer)
 
   main_runs : local_of (start P) 0 ≡ running (started (slice_get P.functions P.main) P.main [])
@@ -116,7 +116,7 @@ module _ (P : Program) (codes : Codes) (N : Numbers) (T : ℕ) (spreads : List S
         granted = (fresh 0).granted;
       })
   rests (suc i) =
-      inr (Idle (omega arith) (fresh (suc i)).routine at_rest (none_runs ids_number i) (λ e. absurd (let z = no_status (suc i) N.ids refl in omega (arith, z, e))))
+      inr (Idle (omega arith) (fresh (suc i)).routine at_rest (none_runs thread_ids_number i) (λ e. absurd (let z = no_status (suc i) N.thread_ids refl in omega (arith, z, e))))
     where
       at_rest : (slots (suc i)).stage ≡ rest_of codes (slots (suc i)).routine
       at_rest =

@@ -15,8 +15,8 @@ use Rattle.planned_block.specs.Slot.{Slot, AreBanks}
 use Rattle.planned_block.specs.Hardware.{changes_left, planned_hardware}
 use Rattle.race_model.specs.Source.{local_of, c_source}
 use Rattle.thread_promise.specs.Globals.{bank_of}
-use Rattle.block_ir.specs.Asked.{Numbers, mutex_core, barrier_core, ids_core, printer_core}
-use Rattle.law_threads.specs.Cores.{Core, OfMutex, OfBarrier, OfIds, OfPrinter}
+use Rattle.block_ir.specs.Asked.{Numbers, mutex_core, barrier_core, thread_ids_core, printer_core}
+use Rattle.law_threads.specs.Cores.{Core, OfMutex, OfBarrier, OfThreadIds, OfPrinter}
 use Rattle.law_threads.specs.Stands.{lock_of, StandsFor}
 use Rattle.block_refine.specs.Routines.{Codes, rest_of, blocks_of, plans_of}
 use Rattle.law_threads.specs.Requests.{AreNumbers}
@@ -34,7 +34,7 @@ pub record AreFirst (P : Program) (N : Numbers) (T : ℕ) (c : ℕ → Core) : T
   pub mutexes : (n : ℕ) (m : MutexState) → slice_get (start P).mutexes n ≡ Some m → c (mutex_core N n) ≡ OfMutex (lock_of m)
   pub barriers : (n : ℕ) → n < N.barriers → c (barrier_core N n) ≡ OfBarrier (record { count = 0; waiting = replicate T 0 })
   -- whatever arguments it has
-  pub ids : N.ids ≡ true → (given : List ℕ) × (length given ≡ T) × (c (ids_core N) ≡ OfIds (record { statuses = replicate T 0; arguments = given }))
+  pub thread_ids : N.thread_ids ≡ true → (given : List ℕ) × (length given ≡ T) × (c (thread_ids_core N) ≡ OfThreadIds (record { statuses = replicate T 0; arguments = given }))
   pub printer : c (printer_core N) ≡ OfPrinter []
 
 -- the slot of thread i before its first move: main is at its first stage, another thread rests; whatever its variables, arrays, registers and words have

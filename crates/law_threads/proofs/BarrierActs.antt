@@ -18,7 +18,7 @@ use Rattle.race_model.specs.Orderly.{waits_in, waits_at}
 use Rattle.race_model.proofs.Lists.{get-set_cases}
 use Rattle.race_model.proofs.Orderly.{orderly}
 use Rattle.code_following.specs.Following.{print_formats}
-use Rattle.block_ir.specs.Asked.{Asked, Barriers, Numbers, mutex_core, barrier_core, ids_core, printer_core}
+use Rattle.block_ir.specs.Asked.{Asked, Barrier, Numbers, mutex_core, barrier_core, thread_ids_core, printer_core}
 use Rattle.core_states.specs.Machines.{Gate}
 use Rattle.law_threads.specs.Cores.{Core, OfBarrier, granted, status_in, argument_in, waits_in as core_waits}
 use Rattle.law_threads.specs.Stands.{GateStands, BarrierStands, StandsFor}
@@ -28,7 +28,7 @@ use Rattle.law_threads.proofs.Common.{status_kept, other_core, same_core}
 use Rattle.law_threads.proofs.Anywhere.{any_set_same, none_any, live_frames}
 
 abbrev pub asks_barrier : ℕ → ℕ → List ℕ → Asked
-asks_barrier n operation ws = record { service = Barriers; core = n; number = operation; values = ws }
+asks_barrier n operation ws = record { service = Barrier; core = n; number = operation; values = ws }
 
 -- barrier n comes from one state to another, and its core from one gate to another
 module _ (P : Program) (codes : Codes) (N : Numbers) (T : ℕ) (R : IsResolved P) (numbers : AreNumbers P N T) (s : State) (i : ℕ) (c : ℕ → Core) (reached : Reachable (c_source P) s)
@@ -68,11 +68,11 @@ module _ (P : Program) (codes : Codes) (N : Numbers) (T : ℕ) (R : IsResolved P
         (λ other. let z = stands.barriers m b other.1 in
         record { gate = z.gate; is = others_stay (barrier_core N m) (λ e. other.0 (omega arith)) ∙ z.is; stands = z.stands })
         (get-set_cases s.barriers n m new b at);
-    ids = λ has.
-        let z = stands.ids has in
+    thread_ids = λ has.
+        let z = stands.thread_ids has in
         record {
-          ids = z.ids;
-          is = others_stay (ids_core N) (λ e. absurd (let lt = below in omega arith)) ∙ z.is;
+          thread_ids = z.thread_ids;
+          is = others_stay (thread_ids_core N) (λ e. absurd (let lt = below in omega arith)) ∙ z.is;
           statuses = z.statuses;
           arguments = z.arguments;
           main = z.main;
@@ -89,8 +89,8 @@ module _ (P : Program) (codes : Codes) (N : Numbers) (T : ℕ) (R : IsResolved P
   -- what thread j hears where the gate says of it what it said
   hears : (j : ℕ) → core_waits (OfBarrier gate) j ≡ core_waits (OfBarrier before.gate) j → HearsSame N c after j
   hears j same = record {
-    status = ap (λ (z : Core). status_in z j) (others_stay (ids_core N) (λ e. absurd (let lt = below in omega arith)));
-    argument = ap (λ (z : Core). argument_in z j) (others_stay (ids_core N) (λ e. absurd (let lt = below in omega arith)));
+    status = ap (λ (z : Core). status_in z j) (others_stay (thread_ids_core N) (λ e. absurd (let lt = below in omega arith)));
+    argument = ap (λ (z : Core). argument_in z j) (others_stay (thread_ids_core N) (λ e. absurd (let lt = below in omega arith)));
     bits = λ m lt.
         ⊎_elim
         (λ e.

@@ -32,10 +32,10 @@ module _ (N : Numbers) (T : ℕ) (c : ℕ → Core) (s t : State) (stands : Stan
   stands_moved e = record {
     mutexes = λ n m at. stands.mutexes n m (ap (λ (xs : List MutexState). slice_get xs n) (sym (ap (λ (z : Shared). z.mutexes) e)) ∙ at);
     barriers = λ n b at. stands.barriers n b (ap (λ (xs : List Barrier). slice_get xs n) (sym (ap (λ (z : Shared). z.barriers) e)) ∙ at);
-    ids = λ has.
-        let k = stands.ids has in
+    thread_ids = λ has.
+        let k = stands.thread_ids has in
         record {
-          ids = k.ids;
+          thread_ids = k.thread_ids;
           is = k.is;
           statuses = k.statuses;
           arguments = k.arguments;
@@ -53,10 +53,10 @@ module _ (N : Numbers) (T : ℕ) (c : ℕ → Core) (s t : State) (stands : Stan
   stands_ended keeps out = record {
     mutexes = λ n m at. stands.mutexes n m (ap (λ (xs : List MutexState). slice_get xs n) (sym keeps.mutexes) ∙ at);
     barriers = λ n b at. stands.barriers n b (ap (λ (xs : List Barrier). slice_get xs n) (sym keeps.barriers) ∙ at);
-    ids = λ has.
-        let k = stands.ids has in
+    thread_ids = λ has.
+        let k = stands.thread_ids has in
         record {
-          ids = k.ids;
+          thread_ids = k.thread_ids;
           is = k.is;
           statuses = k.statuses;
           arguments = k.arguments;

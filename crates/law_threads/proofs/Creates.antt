@@ -23,10 +23,10 @@ use Rattle.race_model.proofs.Lists.{get-set_cases}
 use Rattle.race_model.proofs.Sound.{reachable_sound, runs_on}
 use Rattle.race_model.proofs.Orderly.{orderly}
 use Rattle.code_following.specs.Following.{AreValues, print_formats, SameAct, RunsRoutine}
-use Rattle.block_ir.specs.Asked.{act_value, Asked, Ids, Numbers, mutex_core, barrier_core, ids_core, printer_core}
+use Rattle.block_ir.specs.Asked.{act_value, Asked, ThreadIds, Numbers, mutex_core, barrier_core, thread_ids_core, printer_core}
 use Rattle.core_states.specs.Machines.{ids_after}
-use Rattle.law_threads.specs.Cores.{Core, OfIds, may_grant, status_in, argument_in, waits_in}
-use Rattle.law_threads.specs.Stands.{status_of, StandsFor, IdsStand}
+use Rattle.law_threads.specs.Cores.{Core, OfThreadIds, may_grant, status_in, argument_in, waits_in}
+use Rattle.law_threads.specs.Stands.{status_of, StandsFor, ThreadIdsStand}
 use Rattle.c_program.specs.Weight.{hardware_routines}
 use Rattle.block_refine.specs.Routines.{Codes, Starts}
 use Rattle.block_refine.specs.RoutineActs.{IsStepOf}
@@ -34,9 +34,9 @@ use Rattle.law_threads.specs.Requests.{AreNumbers, StandsAtAct, Serves, Other, S
 use Rattle.law_threads.proofs.ActByAct.{RequestIsStep}
 use Rattle.law_threads.proofs.Common.{names, same_word, never, waits_somewhere, status_kept, other_core, same_core}
 
--- what the ids are asked
-abbrev asks_ids : ℕ → ℕ → Asked
-asks_ids id argument = record { service = Ids; core = 0; number = 0; values = id ∷ argument ∷ [] }
+-- what the thread ids are asked
+abbrev asks_thread_ids : ℕ → ℕ → Asked
+asks_thread_ids id argument = record { service = ThreadIds; core = 0; number = 0; values = id ∷ argument ∷ [] }
 
 -- the argument of a create has the word of its operand
 pub second_word : (variables : ℕ → ℤ) (o p : ActOperand) (vs : List ℤ) → AreValues variables (o ∷ p ∷ []) vs →
@@ -95,33 +95,33 @@ module _ (P : Program) (codes : Codes) (N : Numbers) (T : ℕ) (R : IsResolved P
         (λ ne. omega arith)
         (cases_eq n 0)
 
-    has_ids : N.ids ≡ true
-    has_ids = numbers.ids ∙ less_is 1 T (let p = positive in let b = below in omega arith)
+    has_thread_ids : N.thread_ids ≡ true
+    has_thread_ids = numbers.thread_ids ∙ less_is 1 T (let p = positive in let b = below in omega arith)
 
-    table : IdsStand T (c (ids_core N)) s.slots
-    table = at.cores.ids has_ids
+    table : ThreadIdsStand T (c (thread_ids_core N)) s.slots
+    table = at.cores.thread_ids has_thread_ids
 
     number : residue_of 64 (act_value variables thread) ≡ n
     number = word (let few = numbers.few_threads in let b = below in omega arith)
 
     abbrev after : ℕ → Core
-    after = cores_after P codes N T (ids_core N) i (asks_ids n w) c
+    after = cores_after P codes N T (thread_ids_core N) i (asks_thread_ids n w) c
 
-    others_stay : (j : ℕ) → j ≢ ids_core N → after j ≡ c j
-    others_stay j ne = other_core T (print_formats P) (ids_core N) i (asks_ids n w) c j ne
+    others_stay : (j : ℕ) → j ≢ thread_ids_core N → after j ≡ c j
+    others_stay j ne = other_core T (print_formats P) (thread_ids_core N) i (asks_thread_ids n w) c j ne
 
-    here : after (ids_core N) ≡ OfIds (ids_after table.ids i 0 n w)
-    here = same_core T (print_formats P) (ids_core N) i (asks_ids n w) c (OfIds table.ids) table.is
+    here : after (thread_ids_core N) ≡ OfThreadIds (ids_after table.thread_ids i 0 n w)
+    here = same_core T (print_formats P) (thread_ids_core N) i (asks_thread_ids n w) c (OfThreadIds table.thread_ids) table.is
 
-    each : (j : ℕ) (x : Slot) → 0 < j → slice_get t.slots j ≡ Some x → slice_index (slice_set table.ids.statuses n 1) j ≡ status_of x
+    each : (j : ℕ) (x : Slot) → 0 < j → slice_get t.slots j ≡ Some x → slice_index (slice_set table.thread_ids.statuses n 1) j ≡ status_of x
     each j x lt e =
         ⊎_elim
         (λ same.
-        subst (λ k. slice_index (slice_set table.ids.statuses n 1) k ≡ status_of x) same.0
-        (get_or-set_same table.ids.statuses n 1 0 (let z = table.statuses in let b = below in omega arith) ∙ ap status_of same.1))
+        subst (λ k. slice_index (slice_set table.thread_ids.statuses n 1) k ≡ status_of x) same.0
+        (get_or-set_same table.thread_ids.statuses n 1 0 (let z = table.statuses in let b = below in omega arith) ∙ ap status_of same.1))
         (λ other.
         let y = status_kept s.slots i j step_of.calls step_of.frames x slot other.1 in
-        get_or-set_other table.ids.statuses n j 1 0 (λ q. other.0 (sym q)) ∙ table.each j y.0 lt y.1 ∙ y.2)
+        get_or-set_other table.thread_ids.statuses n j 1 0 (λ q. other.0 (sym q)) ∙ table.each j y.0 lt y.1 ∙ y.2)
         (get-set_cases slots n j (Running (started (slice_get P.functions routine) routine (v ∷ []))) x e)
 
     created_stands : StandsFor N T after t
@@ -135,15 +135,15 @@ module _ (P : Program) (codes : Codes) (N : Numbers) (T : ℕ) (R : IsResolved P
             is = others_stay (barrier_core N m) (λ q. absurd (let lt = slice_get_within s.barriers m b e in let z = at.cores.barrier_count in omega arith)) ∙ k.is;
             stands = k.stands;
           };
-      ids = λ _. record {
-        ids = ids_after table.ids i 0 n w;
+      thread_ids = λ _. record {
+        thread_ids = ids_after table.thread_ids i 0 n w;
         is = here;
-        statuses = length-set table.ids.statuses n 1 ∙ table.statuses;
-        arguments = length-set table.ids.arguments n w ∙ table.arguments;
-        main = get_or-set_other table.ids.statuses n 0 1 0 (λ q. absurd (let p = positive in omega arith)) ∙ table.main;
+        statuses = length-set table.thread_ids.statuses n 1 ∙ table.statuses;
+        arguments = length-set table.thread_ids.arguments n w ∙ table.arguments;
+        main = get_or-set_other table.thread_ids.statuses n 0 1 0 (λ q. absurd (let p = positive in omega arith)) ∙ table.main;
         each = each;
       };
-      output = others_stay (printer_core N) (λ q. absurd (let one : ◌≡◌ {A = ℕ} (if N.ids then 1 else 0) 1 = ap (λ (b : Bool). if b then 1 else 0) has_ids in omega arith))
+      output = others_stay (printer_core N) (λ q. absurd (let one : ◌≡◌ {A = ℕ} (if N.thread_ids then 1 else 0) 1 = ap (λ (b : Bool). if b then 1 else 0) has_thread_ids in omega arith))
           ∙ at.cores.output;
       mutex_count = at.cores.mutex_count;
       barrier_count = at.cores.barrier_count;
@@ -172,8 +172,8 @@ module _ (P : Program) (codes : Codes) (N : Numbers) (T : ℕ) (R : IsResolved P
           slot = set_there slots n Unused (Running (started (slice_get P.functions routine) routine (v ∷ []))) now d;
           waits = free (list_any (is_waiter n) s.barriers) refl d;
         })
-        (ap (λ (z : Core). status_in z n) here ∙ get_or-set_same table.ids.statuses n 1 0 (let z = table.statuses in let b = below in omega arith))
-        (ap (λ (z : Core). argument_in z n) here ∙ get_or-set_same table.ids.arguments n w 0 (let z = table.arguments in let b = below in omega arith) ∙ argued)
+        (ap (λ (z : Core). status_in z n) here ∙ get_or-set_same table.thread_ids.statuses n 1 0 (let z = table.statuses in let b = below in omega arith))
+        (ap (λ (z : Core). argument_in z n) here ∙ get_or-set_same table.thread_ids.arguments n w 0 (let z = table.arguments in let b = below in omega arith) ∙ argued)
 
     stays : (j : ℕ) → j ≢ i → n ≢ j → Other P N c after s t j
     stays j ne other =
@@ -185,20 +185,20 @@ module _ (P : Program) (codes : Codes) (N : Numbers) (T : ℕ) (R : IsResolved P
           waits = list_any (is_waiter j) s.barriers;
         })
         (record {
-          status = ap (λ (z : Core). status_in z j) here ∙ get_or-set_other table.ids.statuses n j 1 0 (λ q. other (sym q)) ∙ sym (ap (λ (z : Core). status_in z j) table.is);
-          argument = ap (λ (z : Core). argument_in z j) here ∙ get_or-set_other table.ids.arguments n j w 0 (λ q. other (sym q)) ∙ sym (ap (λ (z : Core). argument_in z j) table.is);
+          status = ap (λ (z : Core). status_in z j) here ∙ get_or-set_other table.thread_ids.statuses n j 1 0 (λ q. other (sym q)) ∙ sym (ap (λ (z : Core). status_in z j) table.is);
+          argument = ap (λ (z : Core). argument_in z j) here ∙ get_or-set_other table.thread_ids.arguments n j w 0 (λ q. other (sym q)) ∙ sym (ap (λ (z : Core). argument_in z j) table.is);
           bits = λ m lt. ap (λ (z : Core). waits_in z j) (others_stay (barrier_core N m) (λ e. absurd (omega arith)));
         })
 
-    may : (b : Bool) → may_grant (c (ids_core N)) i (asks_ids n w) ≡ b → b ≡ true
+    may : (b : Bool) → may_grant (c (thread_ids_core N)) i (asks_thread_ids n w) ≡ b → b ≡ true
     may b e =
-        let unused : slice_index table.ids.statuses n ≡ 0 = table.each n Unused positive was in
-        sym e ∙ ap (λ (z : Core). may_grant z i (asks_ids n w)) table.is ∙ ap (λ (z : ℕ). not (nat_eq z 1)) unused
+        let unused : slice_index table.thread_ids.statuses n ≡ 0 = table.each n Unused positive was in
+        sym e ∙ ap (λ (z : Core). may_grant z i (asks_thread_ids n w)) table.is ∙ ap (λ (z : ℕ). not (nat_eq z 1)) unused
 
-    serves_here : ServesCreate (asks_ids n w)
+    serves_here : ServesCreate (asks_thread_ids n w)
     serves_here = record {
-      core = ids_core N;
-      is = ap (λ (b : Bool). if b then Some (ids_core N) else None) has_ids;
+      core = thread_ids_core N;
+      is = ap (λ (b : Bool). if b then Some (thread_ids_core N) else None) has_thread_ids;
       goes = λ _. record {
         state = t;
         view = subst IsSynchronizing (sym step_of.view) tt;
@@ -214,13 +214,13 @@ module _ (P : Program) (codes : Codes) (N : Numbers) (T : ℕ) (R : IsResolved P
       waits = λ no. absurd (let yes = may false no in cc);
     }
 
-    serves_create : ServesCreate (asks_ids (residue_of 64 (act_value variables thread)) w)
-    serves_create = subst (λ z. ServesCreate (asks_ids z w)) (sym number) serves_here
+    serves_create : ServesCreate (asks_thread_ids (residue_of 64 (act_value variables thread)) w)
+    serves_create = subst (λ z. ServesCreate (asks_thread_ids z w)) (sym number) serves_here
 
   serves : ServesCreate ask
   serves = go step_of.act step_of.same step_of.steps
     where
-      same_ask : asks_ids (residue_of 64 (act_value variables thread)) (residue_of 64 (act_value variables argument)) ≡ ask
+      same_ask : asks_thread_ids (residue_of 64 (act_value variables thread)) (residue_of 64 (act_value variables argument)) ≡ ask
       same_ask = let e = at.asks in cc
 
       creates : (offset n routine : ℕ) (v : ℤ) → (n < 2 ^ 64 → residue_of 64 (act_value variables thread) ≡ n) → residue_of 64 (act_value variables argument) ≡ residue_of 64 v →

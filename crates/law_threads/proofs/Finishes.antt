@@ -22,10 +22,10 @@ use Rattle.race_model.specs.Source.{Local, local_of, running, outcome_of, c_sour
 use Rattle.race_model.proofs.Lists.{get-set_cases}
 use Rattle.race_model.proofs.Orderly.{orderly}
 use Rattle.code_following.specs.Following.{print_formats}
-use Rattle.block_ir.specs.Asked.{Asked, Ids, asked, Numbers, mutex_core, barrier_core, ids_core, printer_core}
+use Rattle.block_ir.specs.Asked.{Asked, ThreadIds, asked, Numbers, mutex_core, barrier_core, thread_ids_core, printer_core}
 use Rattle.core_states.specs.Machines.{ids_after}
-use Rattle.law_threads.specs.Cores.{Core, OfIds, may_grant, status_in, argument_in, waits_in}
-use Rattle.law_threads.specs.Stands.{status_of, StandsFor, IdsStand}
+use Rattle.law_threads.specs.Cores.{Core, OfThreadIds, may_grant, status_in, argument_in, waits_in}
+use Rattle.law_threads.specs.Stands.{status_of, StandsFor, ThreadIdsStand}
 use Rattle.block_refine.specs.Routines.{Codes, stage_at, blocks_of, plans_of, AtStageOf, AtAct, Starts}
 use Rattle.block_refine.specs.Threads.{plan_at, IsTyped}
 use Rattle.law_threads.specs.Requests.{AreNumbers, StandsAtAct, Serves, Other, Same, cores_after}
@@ -34,7 +34,7 @@ use Rattle.law_threads.proofs.ActByAct.{RequestIsStep}
 use Rattle.law_threads.proofs.Common.{other_core, same_core}
 
 abbrev asks_finish : Asked
-asks_finish = record { service = Ids; core = 0; number = 2; values = [] }
+asks_finish = record { service = ThreadIds; core = 0; number = 2; values = [] }
 
 -- a thread at an act runs and waits nowhere
 pub runs_at_act : (P : Program) (codes : Codes) (x : Local) (f l next : ℕ) (variables : ℕ → ℤ) (arrays : Memory ℤ) (a : CodeAct) → Starts P codes x f l variables arrays →
@@ -64,29 +64,29 @@ module _ (P : Program) (codes : Codes) (N : Numbers) (T : ℕ) (R : IsResolved P
   below : i < T
   below = let lt = slice_get_within s.slots i (Running calls.0) slot in let a = (orderly P R s at.reached).threads in let b = numbers.threads in omega arith
 
-  has_ids : N.ids ≡ true
-  has_ids = numbers.ids ∙ less_is 1 T (let b = below in omega arith)
+  has_thread_ids : N.thread_ids ≡ true
+  has_thread_ids = numbers.thread_ids ∙ less_is 1 T (let b = below in omega arith)
 
-  table : IdsStand T (c (ids_core N)) s.slots
-  table = at.cores.ids has_ids
+  table : ThreadIdsStand T (c (thread_ids_core N)) s.slots
+  table = at.cores.thread_ids has_thread_ids
 
   abbrev after : ℕ → Core
-  after = cores_after P codes N T (ids_core N) i asks_finish c
+  after = cores_after P codes N T (thread_ids_core N) i asks_finish c
 
-  others_stay : (j : ℕ) → j ≢ ids_core N → after j ≡ c j
-  others_stay j ne = other_core T (print_formats P) (ids_core N) i asks_finish c j ne
+  others_stay : (j : ℕ) → j ≢ thread_ids_core N → after j ≡ c j
+  others_stay j ne = other_core T (print_formats P) (thread_ids_core N) i asks_finish c j ne
 
-  here : after (ids_core N) ≡ OfIds (ids_after table.ids i 2 0 0)
-  here = same_core T (print_formats P) (ids_core N) i asks_finish c (OfIds table.ids) table.is
+  here : after (thread_ids_core N) ≡ OfThreadIds (ids_after table.thread_ids i 2 0 0)
+  here = same_core T (print_formats P) (thread_ids_core N) i asks_finish c (OfThreadIds table.thread_ids) table.is
 
-  own_two : slice_index (slice_set table.ids.statuses i 2) i ≡ 2
-  own_two = get_or-set_same table.ids.statuses i 2 0 (let z = table.statuses in let b = below in omega arith)
+  own_two : slice_index (slice_set table.thread_ids.statuses i 2) i ≡ 2
+  own_two = get_or-set_same table.thread_ids.statuses i 2 0 (let z = table.statuses in let b = below in omega arith)
 
-  each : (j : ℕ) (x : Slot) → 0 < j → slice_get t.slots j ≡ Some x → slice_index (slice_set table.ids.statuses i 2) j ≡ status_of x
+  each : (j : ℕ) (x : Slot) → 0 < j → slice_get t.slots j ≡ Some x → slice_index (slice_set table.thread_ids.statuses i 2) j ≡ status_of x
   each j x lt e =
       ⊎_elim
-      (λ same. subst (λ k. slice_index (slice_set table.ids.statuses i 2) k ≡ status_of x) same.0 (own_two ∙ ap status_of same.1))
-      (λ other. get_or-set_other table.ids.statuses i j 2 0 (λ q. other.0 (sym q)) ∙ table.each j x lt other.1)
+      (λ same. subst (λ k. slice_index (slice_set table.thread_ids.statuses i 2) k ≡ status_of x) same.0 (own_two ∙ ap status_of same.1))
+      (λ other. get_or-set_other table.thread_ids.statuses i j 2 0 (λ q. other.0 (sym q)) ∙ table.each j x lt other.1)
       (get-set_cases s.slots i j Finished x e)
 
   stands : StandsFor N T after t
@@ -100,15 +100,15 @@ module _ (P : Program) (codes : Codes) (N : Numbers) (T : ℕ) (R : IsResolved P
           is = others_stay (barrier_core N m) (λ q. absurd (let lt = slice_get_within s.barriers m b e in let z = at.cores.barrier_count in omega arith)) ∙ k.is;
           stands = k.stands;
         };
-    ids = λ _. record {
-      ids = ids_after table.ids i 2 0 0;
+    thread_ids = λ _. record {
+      thread_ids = ids_after table.thread_ids i 2 0 0;
       is = here;
-      statuses = length-set table.ids.statuses i 2 ∙ table.statuses;
+      statuses = length-set table.thread_ids.statuses i 2 ∙ table.statuses;
       arguments = table.arguments;
-      main = get_or-set_other table.ids.statuses i 0 2 0 (λ q. absurd (omega arith)) ∙ table.main;
+      main = get_or-set_other table.thread_ids.statuses i 0 2 0 (λ q. absurd (omega arith)) ∙ table.main;
       each = each;
     };
-    output = others_stay (printer_core N) (λ q. absurd (let one : ◌≡◌ {A = ℕ} (if N.ids then 1 else 0) 1 = ap (λ (b : Bool). if b then 1 else 0) has_ids in omega arith))
+    output = others_stay (printer_core N) (λ q. absurd (let one : ◌≡◌ {A = ℕ} (if N.thread_ids then 1 else 0) 1 = ap (λ (b : Bool). if b then 1 else 0) has_thread_ids in omega arith))
         ∙ at.cores.output;
     mutex_count = at.cores.mutex_count;
     barrier_count = at.cores.barrier_count;
@@ -119,18 +119,18 @@ module _ (P : Program) (codes : Codes) (N : Numbers) (T : ℕ) (R : IsResolved P
       Same
       (λ d. record { slot = set_elsewhere s.slots i j Finished (λ e. ne (sym e)) d; waits = list_any (is_waiter j) s.barriers })
       (record {
-        status = ap (λ (z : Core). status_in z j) here ∙ get_or-set_other table.ids.statuses i j 2 0 ne ∙ sym (ap (λ (z : Core). status_in z j) table.is);
+        status = ap (λ (z : Core). status_in z j) here ∙ get_or-set_other table.thread_ids.statuses i j 2 0 ne ∙ sym (ap (λ (z : Core). status_in z j) table.is);
         argument = ap (λ (z : Core). argument_in z j) here ∙ sym (ap (λ (z : Core). argument_in z j) table.is);
         bits = λ m lt. ap (λ (z : Core). waits_in z j) (others_stay (barrier_core N m) (λ e. absurd (omega arith)));
       })
 
-  two_now : status_in (after (ids_core N)) i ≡ 2
+  two_now : status_in (after (thread_ids_core N)) i ≡ 2
   two_now = ap (λ (z : Core). status_in z i) here ∙ own_two
 
   serves_here : Serves P codes N T s i f next variables arrays act.Return asks_finish c
   serves_here = record {
-    core = ids_core N;
-    is = ap (λ (b : Bool). if b then Some (ids_core N) else None) has_ids;
+    core = thread_ids_core N;
+    is = ap (λ (b : Bool). if b then Some (thread_ids_core N) else None) has_thread_ids;
     goes = λ _. record {
       state = t;
       view = subst IsSynchronizing (sym ends.2) tt;

@@ -56,7 +56,7 @@ word_argument v =
     let e : residue_of 64 v % 2 ^ 64 ≡ residue_of 64 v = omega arith in
     ap (signed_value_of 64) e
 
--- who asks the ids by a return is no main
+-- who asks the thread ids by a return is no main
 no_main : (i : ℕ) (variables : ℕ → ℤ) (ask : Asked) → asked (nat_eq i 0) act.Return variables ≡ Some ask → 0 < i
 no_main zero variables ask e = absurd cc
 no_main (suc i) variables ask e = omega arith

@@ -23,11 +23,11 @@ use Rattle.race_model.specs.Source.{Local, local_of, running, outcome_of}
 use Rattle.race_model.proofs.Lists.{get-set_cases}
 use Rattle.race_model.proofs.Sound.{reachable_sound, runs_on}
 use Rattle.race_model.proofs.Orderly.{orderly}
-use Rattle.block_ir.specs.Asked.{act_value, Asked, Ids, Numbers, mutex_core, barrier_core, ids_core, printer_core}
+use Rattle.block_ir.specs.Asked.{act_value, Asked, ThreadIds, Numbers, mutex_core, barrier_core, thread_ids_core, printer_core}
 use Rattle.code_following.specs.Following.{print_formats, SameAct}
 use Rattle.core_states.specs.Machines.{ids_after}
-use Rattle.law_threads.specs.Cores.{Core, OfIds, may_grant, status_in, argument_in, waits_in}
-use Rattle.law_threads.specs.Stands.{status_of, StandsFor, IdsStand}
+use Rattle.law_threads.specs.Cores.{Core, OfThreadIds, may_grant, status_in, argument_in, waits_in}
+use Rattle.law_threads.specs.Stands.{status_of, StandsFor, ThreadIdsStand}
 use Rattle.block_refine.specs.Routines.{Codes, Starts}
 use Rattle.block_refine.specs.RoutineActs.{IsStepOf}
 use Rattle.law_threads.specs.Requests.{AreNumbers, StandsAtAct, Serves, Other, Same, Joined, cores_after}
@@ -35,7 +35,7 @@ use Rattle.law_threads.proofs.ActByAct.{RequestIsStep}
 use Rattle.law_threads.proofs.Common.{names, never, status_kept, other_core, same_core}
 
 abbrev asks_join : ℕ → Asked
-asks_join id = record { service = Ids; core = 0; number = 1; values = id ∷ [] }
+asks_join id = record { service = ThreadIds; core = 0; number = 1; values = id ∷ [] }
 
 module _ (P : Program) (codes : Codes) (N : Numbers) (T : ℕ) (R : IsResolved P) (numbers : AreNumbers P N T) (several : 1 < T) (thread : ActOperand) (s : State) (i f l next : ℕ)
     (variables : ℕ → ℤ) (arrays : Memory ℤ) (c : ℕ → Core) (ask : Asked) (at : StandsAtAct P codes N T s i f l next variables arrays (act.Join thread) ask c)
@@ -52,11 +52,11 @@ module _ (P : Program) (codes : Codes) (N : Numbers) (T : ℕ) (R : IsResolved P
   slot_below : (n : ℕ) (x : Slot) → slice_get s.slots n ≡ Some x → n < T
   slot_below n x e = let lt = slice_get_within s.slots n x e in let a = (orderly P R s at.reached).threads in let b = numbers.threads in omega arith
 
-  has_ids : N.ids ≡ true
-  has_ids = numbers.ids ∙ less_is 1 T several
+  has_thread_ids : N.thread_ids ≡ true
+  has_thread_ids = numbers.thread_ids ∙ less_is 1 T several
 
-  table : IdsStand T (c (ids_core N)) s.slots
-  table = at.cores.ids has_ids
+  table : ThreadIdsStand T (c (thread_ids_core N)) s.slots
+  table = at.cores.thread_ids has_thread_ids
 
   -- id n has finished
   module _ (n : ℕ) (now : slice_get slots n ≡ Some Finished) (steps : step P s i ≡ Steps (with_slot (with_slot s i (Running step_of.frames)) n Unused)) where
@@ -86,23 +86,23 @@ module _ (P : Program) (codes : Codes) (N : Numbers) (T : ℕ) (R : IsResolved P
         (cases_eq n 0)
 
     abbrev after : ℕ → Core
-    after = cores_after P codes N T (ids_core N) i (asks_join n) c
+    after = cores_after P codes N T (thread_ids_core N) i (asks_join n) c
 
-    others_stay : (j : ℕ) → j ≢ ids_core N → after j ≡ c j
-    others_stay j ne = other_core T (print_formats P) (ids_core N) i (asks_join n) c j ne
+    others_stay : (j : ℕ) → j ≢ thread_ids_core N → after j ≡ c j
+    others_stay j ne = other_core T (print_formats P) (thread_ids_core N) i (asks_join n) c j ne
 
-    here : after (ids_core N) ≡ OfIds (ids_after table.ids i 1 n 0)
-    here = same_core T (print_formats P) (ids_core N) i (asks_join n) c (OfIds table.ids) table.is
+    here : after (thread_ids_core N) ≡ OfThreadIds (ids_after table.thread_ids i 1 n 0)
+    here = same_core T (print_formats P) (thread_ids_core N) i (asks_join n) c (OfThreadIds table.thread_ids) table.is
 
-    each : (j : ℕ) (x : Slot) → 0 < j → slice_get t.slots j ≡ Some x → slice_index (slice_set table.ids.statuses n 0) j ≡ status_of x
+    each : (j : ℕ) (x : Slot) → 0 < j → slice_get t.slots j ≡ Some x → slice_index (slice_set table.thread_ids.statuses n 0) j ≡ status_of x
     each j x lt e =
         ⊎_elim
         (λ same.
-        subst (λ k. slice_index (slice_set table.ids.statuses n 0) k ≡ status_of x) same.0
-        (get_or-set_same table.ids.statuses n 0 0 (let z = table.statuses in let b = below in omega arith) ∙ ap status_of same.1))
+        subst (λ k. slice_index (slice_set table.thread_ids.statuses n 0) k ≡ status_of x) same.0
+        (get_or-set_same table.thread_ids.statuses n 0 0 (let z = table.statuses in let b = below in omega arith) ∙ ap status_of same.1))
         (λ other.
         let y = status_kept s.slots i j step_of.calls step_of.frames x slot other.1 in
-        get_or-set_other table.ids.statuses n j 0 0 (λ q. other.0 (sym q)) ∙ table.each j y.0 lt y.1 ∙ y.2)
+        get_or-set_other table.thread_ids.statuses n j 0 0 (λ q. other.0 (sym q)) ∙ table.each j y.0 lt y.1 ∙ y.2)
         (get-set_cases slots n j Unused x e)
 
     stands : StandsFor N T after t
@@ -116,15 +116,15 @@ module _ (P : Program) (codes : Codes) (N : Numbers) (T : ℕ) (R : IsResolved P
             is = others_stay (barrier_core N m) (λ q. absurd (let lt = slice_get_within s.barriers m b e in let z = at.cores.barrier_count in omega arith)) ∙ k.is;
             stands = k.stands;
           };
-      ids = λ _. record {
-        ids = ids_after table.ids i 1 n 0;
+      thread_ids = λ _. record {
+        thread_ids = ids_after table.thread_ids i 1 n 0;
         is = here;
-        statuses = length-set table.ids.statuses n 0 ∙ table.statuses;
+        statuses = length-set table.thread_ids.statuses n 0 ∙ table.statuses;
         arguments = table.arguments;
-        main = get_or-set_other table.ids.statuses n 0 0 0 (λ q. absurd (let p = positive in omega arith)) ∙ table.main;
+        main = get_or-set_other table.thread_ids.statuses n 0 0 0 (λ q. absurd (let p = positive in omega arith)) ∙ table.main;
         each = each;
       };
-      output = others_stay (printer_core N) (λ q. absurd (let one : ◌≡◌ {A = ℕ} (if N.ids then 1 else 0) 1 = ap (λ (b : Bool). if b then 1 else 0) has_ids in omega arith))
+      output = others_stay (printer_core N) (λ q. absurd (let one : ◌≡◌ {A = ℕ} (if N.thread_ids then 1 else 0) 1 = ap (λ (b : Bool). if b then 1 else 0) has_thread_ids in omega arith))
           ∙ at.cores.output;
       mutex_count = at.cores.mutex_count;
       barrier_count = at.cores.barrier_count;
@@ -136,8 +136,8 @@ module _ (P : Program) (codes : Codes) (N : Numbers) (T : ℕ) (R : IsResolved P
       waits = ap (λ (x : Local). x.waits) step_of.runs d;
     }
 
-    zero_now : status_in (after (ids_core N)) n ≡ 0
-    zero_now = ap (λ (z : Core). status_in z n) here ∙ get_or-set_same table.ids.statuses n 0 0 (let z = table.statuses in let b = below in omega arith)
+    zero_now : status_in (after (thread_ids_core N)) n ≡ 0
+    zero_now = ap (λ (z : Core). status_in z n) here ∙ get_or-set_same table.thread_ids.statuses n 0 0 (let z = table.statuses in let b = below in omega arith)
 
     is_joined : Other P N c after s t n
     is_joined = Joined positive was (set_there slots n Finished Unused now) (λ e. absurd (let z = zero_now in omega arith))
@@ -150,20 +150,20 @@ module _ (P : Program) (codes : Codes) (N : Numbers) (T : ℕ) (R : IsResolved P
           waits = list_any (is_waiter j) s.barriers;
         })
         (record {
-          status = ap (λ (z : Core). status_in z j) here ∙ get_or-set_other table.ids.statuses n j 0 0 (λ q. other (sym q)) ∙ sym (ap (λ (z : Core). status_in z j) table.is);
+          status = ap (λ (z : Core). status_in z j) here ∙ get_or-set_other table.thread_ids.statuses n j 0 0 (λ q. other (sym q)) ∙ sym (ap (λ (z : Core). status_in z j) table.is);
           argument = ap (λ (z : Core). argument_in z j) here ∙ sym (ap (λ (z : Core). argument_in z j) table.is);
           bits = λ m lt. ap (λ (z : Core). waits_in z j) (others_stay (barrier_core N m) (λ e. absurd (omega arith)));
         })
 
-    may : (b : Bool) → may_grant (c (ids_core N)) i (asks_join n) ≡ b → b ≡ true
+    may : (b : Bool) → may_grant (c (thread_ids_core N)) i (asks_join n) ≡ b → b ≡ true
     may b e =
-        let two : slice_index table.ids.statuses n ≡ 2 = table.each n Finished positive was in
+        let two : slice_index table.thread_ids.statuses n ≡ 2 = table.each n Finished positive was in
         sym e ∙ ap (λ (z : Core). may_grant z i (asks_join n)) table.is ∙ ap (λ (z : ℕ). nat_eq z 2) two
 
     serves_finished : ServesJoin (asks_join n)
     serves_finished = record {
-      core = ids_core N;
-      is = ap (λ (b : Bool). if b then Some (ids_core N) else None) has_ids;
+      core = thread_ids_core N;
+      is = ap (λ (b : Bool). if b then Some (thread_ids_core N) else None) has_thread_ids;
       goes = λ _. record {
         state = t;
         view = subst IsSynchronizing (sym step_of.view) tt;
@@ -176,17 +176,17 @@ module _ (P : Program) (codes : Codes) (N : Numbers) (T : ℕ) (R : IsResolved P
     }
 
   -- id n runs
-  not_two : (n : ℕ) (frames : List Frame) → slice_get s.slots n ≡ Some (Running frames) → nat_eq (slice_index table.ids.statuses n) 2 ≡ false
+  not_two : (n : ℕ) (frames : List Frame) → slice_get s.slots n ≡ Some (Running frames) → nat_eq (slice_index table.thread_ids.statuses n) 2 ≡ false
   not_two n frames e =
       ⊎_elim
-      (λ z. ap (λ (k : ℕ). nat_eq (slice_index table.ids.statuses k) 2) z ∙ ap (λ (k : ℕ). nat_eq k 2) table.main)
+      (λ z. ap (λ (k : ℕ). nat_eq (slice_index table.thread_ids.statuses k) 2) z ∙ ap (λ (k : ℕ). nat_eq k 2) table.main)
       (λ ne. ap (λ (k : ℕ). nat_eq k 2) (table.each n (Running frames) (omega arith) e))
       (cases_eq n 0)
 
   serves_running : (n : ℕ) (frames : List Frame) → slice_get s.slots n ≡ Some (Running frames) → step P s i ≡ Blocks blocked.Join → ServesJoin (asks_join n)
   serves_running n frames runs e = record {
-    core = ids_core N;
-    is = ap (λ (b : Bool). if b then Some (ids_core N) else None) has_ids;
+    core = thread_ids_core N;
+    is = ap (λ (b : Bool). if b then Some (thread_ids_core N) else None) has_thread_ids;
     goes = λ may. absurd (let no = not_two n frames runs in let z = sym (ap (λ (z : Core). may_grant z i (asks_join n)) table.is) ∙ may in cc);
     waits = λ no. ap outcome_of e;
   }
@@ -206,7 +206,7 @@ module _ (P : Program) (codes : Codes) (N : Numbers) (T : ℕ) (R : IsResolved P
   below_now : (n : ℕ) (x : Slot) → slice_get s.slots n ≡ Some x → n < T
   below_now n x e = let lt = slice_get_within s.slots n x e in let a = (orderly P R s at.reached).threads in let b = numbers.threads in omega arith
 
-  -- two ids are two threads
+  -- two thread ids are two threads
   two : (n : ℕ) (x : Slot) → slice_get s.slots n ≡ Some x → i ≢ n → 1 < T
   two n x e ne = let a = below_now n x e in let b = below_now i (Running step_of.calls) own_slot in omega arith
 

@@ -5,14 +5,14 @@ use Rattle.std.proofs.lemmas.Bool.Decides.{nat_tests}
 use Rattle.core_states.proofs.KeptTold as machine
 use Rattle.core_states.proofs.Waiters as waiters
 use Rattle.block_ir.specs.Asked.{first_word, second_word}
-use Rattle.law_threads.specs.Cores.{OfBank, OfMutex, OfBarrier, OfIds, OfPrinter}
+use Rattle.law_threads.specs.Cores.{OfBank, OfMutex, OfBarrier, OfThreadIds, OfPrinter}
 use Rattle.law_threads.specs.CoreLaws.{RunnersStay, PassersStay, WaitersCount}
 
 pub runners_stay : RunnersStay
 runners_stay threads formats OfBank i j a ne may one = absurd cc
 runners_stay threads formats (OfMutex l) i j a ne may one = absurd cc
 runners_stay threads formats (OfBarrier g) i j a ne may one = absurd cc
-runners_stay threads formats (OfIds t) i j a ne may one = machine.runners_stay t i j a.number (first_word a.values) (second_word a.values) ne one may
+runners_stay threads formats (OfThreadIds t) i j a ne may one = machine.runners_stay t i j a.number (first_word a.values) (second_word a.values) ne one may
 runners_stay threads formats (OfPrinter bytes) i j a ne may one = absurd cc
 
 zero_of : (n : ℕ) → nat_lt 0 n ≡ false → n ≡ 0
@@ -23,7 +23,7 @@ passers_stay threads formats OfBank i j a ne none = refl
 passers_stay threads formats (OfMutex l) i j a ne none = refl
 passers_stay threads formats (OfBarrier g) i j a ne none =
     ap (λ (z : ℕ). nat_lt 0 z) (machine.passers_stay threads g i j a.number (first_word a.values) ne (zero_of (slice_index g.waiting i) none))
-passers_stay threads formats (OfIds t) i j a ne none = refl
+passers_stay threads formats (OfThreadIds t) i j a ne none = refl
 passers_stay threads formats (OfPrinter bytes) i j a ne none = refl
 
 pub waiters_count : WaitersCount

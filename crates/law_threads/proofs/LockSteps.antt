@@ -23,7 +23,7 @@ use Rattle.block_ir.specs.declared.code.ActOperand.{ActOperand}
 use Rattle.planned_block.proofs.Bits.{less_is}
 use Rattle.race_model.specs.Source.{Local, local_of, running, outcome_of, c_source}
 use Rattle.race_model.proofs.Lists.{get-set_cases}
-use Rattle.block_ir.specs.Asked.{act_value, Asked, Mutexes, Numbers, mutex_core, barrier_core, ids_core, printer_core, core_of}
+use Rattle.block_ir.specs.Asked.{act_value, Asked, Mutex, Numbers, mutex_core, barrier_core, thread_ids_core, printer_core, core_of}
 use Rattle.code_following.specs.Following.{print_formats, SameAct}
 use Rattle.core_states.specs.Machines.{lock_eligible, lock_after}
 use Rattle.law_threads.specs.Cores.{Core, OfMutex, may_grant, status_in, argument_in, waits_in}
@@ -36,7 +36,7 @@ use Rattle.law_threads.proofs.Common.{names, never, status_kept, other_core, sam
 
 -- what a mutex is asked
 abbrev pub asks_mutex : ℕ → ℕ → Asked
-asks_mutex n operation = record { service = Mutexes; core = n; number = operation; values = [] }
+asks_mutex n operation = record { service = Mutex; core = n; number = operation; values = [] }
 
 -- ---- any act of a mutex: mutex n comes from one state to another
 
@@ -71,11 +71,11 @@ module _ (P : Program) (codes : Codes) (N : Numbers) (T : ℕ) (s : State) (i f 
     barriers = λ m b at.
         let k = stands.barriers m b at in
         record { gate = k.gate; is = others_stay (barrier_core N m) (λ e. absurd (let lt = below in omega arith)) ∙ k.is; stands = k.stands };
-    ids = λ has.
-        let z = stands.ids has in
+    thread_ids = λ has.
+        let z = stands.thread_ids has in
         record {
-          ids = z.ids;
-          is = others_stay (ids_core N) (λ e. absurd (let lt = below in omega arith)) ∙ z.is;
+          thread_ids = z.thread_ids;
+          is = others_stay (thread_ids_core N) (λ e. absurd (let lt = below in omega arith)) ∙ z.is;
           statuses = z.statuses;
           arguments = z.arguments;
           main = z.main;
@@ -93,8 +93,8 @@ module _ (P : Program) (codes : Codes) (N : Numbers) (T : ℕ) (s : State) (i f 
   mutex_others j ne =
       Same (λ d. record { slot = set_elsewhere s.slots i j (Running frames) (λ e. ne (sym e)) d; waits = list_any (is_waiter j) s.barriers })
       (record {
-        status = ap (λ (z : Core). status_in z j) (others_stay (ids_core N) (λ e. absurd (let lt = below in omega arith)));
-        argument = ap (λ (z : Core). argument_in z j) (others_stay (ids_core N) (λ e. absurd (let lt = below in omega arith)));
+        status = ap (λ (z : Core). status_in z j) (others_stay (thread_ids_core N) (λ e. absurd (let lt = below in omega arith)));
+        argument = ap (λ (z : Core). argument_in z j) (others_stay (thread_ids_core N) (λ e. absurd (let lt = below in omega arith)));
         bits = λ m lt. ap (λ (z : Core). waits_in z j) (others_stay (barrier_core N m) (λ e. absurd (let z = below in omega arith)));
       })
 

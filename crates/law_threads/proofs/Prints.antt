@@ -15,7 +15,7 @@ use Rattle.block_ir.specs.declared.code.Act.TheVariants as act
 use Rattle.block_ir.specs.declared.code.ActOperand.{ActOperand}
 use Rattle.race_model.specs.Source.{Local, local_of, running, outcome_of}
 use Rattle.code_following.specs.Following.{print_formats, SameAct}
-use Rattle.block_ir.specs.Asked.{Asked, Prints, operand_words, Numbers, mutex_core, barrier_core, ids_core, printer_core}
+use Rattle.block_ir.specs.Asked.{Asked, Printer, operand_words, Numbers, mutex_core, barrier_core, thread_ids_core, printer_core}
 use Rattle.law_threads.specs.Cores.{Core, OfPrinter, may_grant, text_at, status_in, argument_in, waits_in}
 use Rattle.block_refine.specs.Routines.{Codes, Starts}
 use Rattle.block_refine.specs.RoutineActs.{IsStepOf}
@@ -28,7 +28,7 @@ module _ (P : Program) (codes : Codes) (N : Numbers) (T : ℕ) (R : IsResolved P
     (variables : ℕ → ℤ) (arrays : Memory ℤ) (c : ℕ → Core) (ask : Asked) (at : StandsAtAct P codes N T s i f l next variables arrays (act.Print site values) ask c)
     (step_of : IsStepOf P codes s i f next variables arrays (act.Print site values)) where
   abbrev asks_print : Asked
-  asks_print = record { service = Prints; core = 0; number = site; values = operand_words variables values }
+  asks_print = record { service = Printer; core = 0; number = site; values = operand_words variables values }
 
   slot : slice_get s.slots i ≡ Some (Running step_of.calls)
   slot = ap (λ (x : Local). x.slot) step_of.runs
@@ -60,11 +60,11 @@ module _ (P : Program) (codes : Codes) (N : Numbers) (T : ℕ) (R : IsResolved P
               is = others_stay (barrier_core N m) (λ q. absurd (let lt = slice_get_within s.barriers m b e in let z = at.cores.barrier_count in omega arith)) ∙ k.is;
               stands = k.stands;
             };
-        ids = λ has.
-            let z = at.cores.ids has in
+        thread_ids = λ has.
+            let z = at.cores.thread_ids has in
             record {
-              ids = z.ids;
-              is = others_stay (ids_core N) (λ q. absurd (let one : ◌≡◌ {A = ℕ} (if N.ids then 1 else 0) 1 = ap (λ (b : Bool). if b then 1 else 0) has in omega arith)) ∙ z.is;
+              thread_ids = z.thread_ids;
+              is = others_stay (thread_ids_core N) (λ q. absurd (let one : ◌≡◌ {A = ℕ} (if N.thread_ids then 1 else 0) 1 = ap (λ (b : Bool). if b then 1 else 0) has in omega arith)) ∙ z.is;
               statuses = z.statuses;
               arguments = z.arguments;
               main = z.main;
@@ -79,8 +79,8 @@ module _ (P : Program) (codes : Codes) (N : Numbers) (T : ℕ) (R : IsResolved P
           Same
           (λ d. record { slot = set_elsewhere s.slots i j (Running step_of.frames) (λ e. ne (sym e)) d; waits = list_any (is_waiter j) s.barriers })
           (record {
-            status = ids_stay (λ (z : Core). status_in z j) refl refl;
-            argument = ids_stay (λ (z : Core). argument_in z j) refl refl;
+            status = thread_ids_stay (λ (z : Core). status_in z j) refl refl;
+            argument = thread_ids_stay (λ (z : Core). argument_in z j) refl refl;
             bits = λ m lt. ap (λ (z : Core). waits_in z j) (others_stay (barrier_core N m) (λ e. absurd (omega arith)));
           });
     };
@@ -105,16 +105,16 @@ module _ (P : Program) (codes : Codes) (N : Numbers) (T : ℕ) (R : IsResolved P
         waits = ap (λ (x : Local). x.waits) step_of.runs d;
       }
 
-      -- where there is no core of ids its number is that of the printer, which tells nothing
-      ids_stay : (Q : Core → ℕ) → Q (OfPrinter (s.output ++ text_at (slice_get (print_formats P) site) (operand_words variables values))) ≡ 0 → Q (OfPrinter s.output) ≡ 0 →
-          Q (after (ids_core N)) ≡ Q (c (ids_core N))
-      ids_stay Q new old = go N.ids refl
+      -- where there is no core of thread ids its number is that of the printer, which tells nothing
+      thread_ids_stay : (Q : Core → ℕ) → Q (OfPrinter (s.output ++ text_at (slice_get (print_formats P) site) (operand_words variables values))) ≡ 0 → Q (OfPrinter s.output) ≡ 0 →
+          Q (after (thread_ids_core N)) ≡ Q (c (thread_ids_core N))
+      thread_ids_stay Q new old = go N.thread_ids refl
         where
-          go : (b : Bool) → N.ids ≡ b → Q (after (ids_core N)) ≡ Q (c (ids_core N))
-          go true e = ap Q (others_stay (ids_core N) (λ q. absurd (let one : ◌≡◌ {A = ℕ} (if N.ids then 1 else 0) 1 = ap (λ (b : Bool). if b then 1 else 0) e in omega arith)))
+          go : (b : Bool) → N.thread_ids ≡ b → Q (after (thread_ids_core N)) ≡ Q (c (thread_ids_core N))
+          go true e = ap Q (others_stay (thread_ids_core N) (λ q. absurd (let one : ◌≡◌ {A = ℕ} (if N.thread_ids then 1 else 0) 1 = ap (λ (b : Bool). if b then 1 else 0) e in omega arith)))
           go false e =
-              let none : ◌≡◌ {A = ℕ} (if N.ids then 1 else 0) 0 = ap (λ (b : Bool). if b then 1 else 0) e in
-              let here : ids_core N ≡ printer_core N = omega arith in
+              let none : ◌≡◌ {A = ℕ} (if N.thread_ids then 1 else 0) 0 = ap (λ (b : Bool). if b then 1 else 0) e in
+              let here : thread_ids_core N ≡ printer_core N = omega arith in
               subst (λ z. Q (after z) ≡ Q (c z)) (sym here) (ap Q printer ∙ new ∙ sym old ∙ sym (ap Q at.cores.output))
 
   serves_print : Serves P codes N T s i f next variables arrays (act.Print site values) ask c

@@ -2,7 +2,7 @@
 -- what a thread is told.
 use Rattle.std.specs.Prelude.{ℕ, Bool, true, false, nat_eq, nat_lt, if◌then◌else◌, List, [], ◌++◌, Option, Some, None, slice_get, slice_index}
 use Rattle.c_program.specs.Tree.{Piece}
-use Rattle.block_ir.specs.Asked.{Asked, Numbers, barrier_core, ids_core, first_word, second_word}
+use Rattle.block_ir.specs.Asked.{Asked, Numbers, barrier_core, thread_ids_core, first_word, second_word}
 pub use Rattle.block_refine.specs.Acts.{printed_words}
 use Rattle.core_states.specs.Machines.{Lock, lock_eligible, lock_after, Gate, gate_eligible, gate_after, IdTable, ids_eligible, ids_after}
 
@@ -11,7 +11,7 @@ pub data Core : Type 0 where
   OfBank : Core
   OfMutex : (lock : Lock) → Core
   OfBarrier : (gate : Gate) → Core
-  OfIds : (ids : IdTable) → Core
+  OfThreadIds : (thread_ids : IdTable) → Core
   OfPrinter : (bytes : List ℕ) → Core
 
 -- ---- what is granted, and what a grant does
@@ -26,7 +26,7 @@ abbrev pub may_grant : Core → ℕ → Asked → Bool
 may_grant OfBank i a = false
 may_grant (OfMutex l) i a = lock_eligible l a.number
 may_grant (OfBarrier g) i a = gate_eligible g i a.number
-may_grant (OfIds t) i a = ids_eligible t a.number (first_word a.values)
+may_grant (OfThreadIds t) i a = ids_eligible t a.number (first_word a.values)
 may_grant (OfPrinter bytes) i a = true
 
 -- threads is how many there are, formats those of the text by number
@@ -36,7 +36,7 @@ module _ (threads : ℕ) (formats : List (List Piece)) where
   granted OfBank i a = OfBank
   granted (OfMutex l) i a = OfMutex (lock_after l i a.number)
   granted (OfBarrier g) i a = OfBarrier (gate_after threads g i a.number (first_word a.values))
-  granted (OfIds t) i a = OfIds (ids_after t i a.number (first_word a.values) (second_word a.values))
+  granted (OfThreadIds t) i a = OfThreadIds (ids_after t i a.number (first_word a.values) (second_word a.values))
   granted (OfPrinter bytes) i a = OfPrinter (bytes ++ text_at (slice_get formats a.number) a.values)
 
   -- and all cores after it: core k has changed
@@ -45,26 +45,26 @@ module _ (threads : ℕ) (formats : List (List Piece)) where
 
 -- ---- what a thread is told
 
--- a core that is no barrier's has none that wait, and one that is not that of the ids has none that run
+-- a core that is no barrier's has none that wait, and one that is not that of the thread ids has none that run
 abbrev pub no_gate : Gate
 no_gate = record { count = 0; waiting = [] }
 
-abbrev pub no_ids : IdTable
-no_ids = record { statuses = []; arguments = [] }
+abbrev pub no_thread_ids : IdTable
+no_thread_ids = record { statuses = []; arguments = [] }
 
 abbrev pub gate_in : Core → Gate
 gate_in (OfBarrier g) = g
 gate_in _ = no_gate
 
-abbrev pub ids_in : Core → IdTable
-ids_in (OfIds t) = t
-ids_in _ = no_ids
+abbrev pub thread_ids_in : Core → IdTable
+thread_ids_in (OfThreadIds t) = t
+thread_ids_in _ = no_thread_ids
 
 abbrev pub status_in : Core → ℕ → ℕ
-status_in k i = slice_index (ids_in k).statuses i
+status_in k i = slice_index (thread_ids_in k).statuses i
 
 abbrev pub argument_in : Core → ℕ → ℕ
-argument_in k i = slice_index (ids_in k).arguments i
+argument_in k i = slice_index (thread_ids_in k).arguments i
 
 abbrev pub waits_in : Core → ℕ → Bool
 waits_in k i = nat_lt 0 (slice_index (gate_in k).waiting i)
@@ -72,10 +72,10 @@ waits_in k i = nat_lt 0 (slice_index (gate_in k).waiting i)
 module _ (N : Numbers) (c : ℕ → Core) where
   -- the status of thread i, 0 unused, 1 running, 2 finished; and its argument, a word of 64 bits
   abbrev pub status_at : ℕ → ℕ
-  status_at i = status_in (c (ids_core N)) i
+  status_at i = status_in (c (thread_ids_core N)) i
 
   abbrev pub argument_at : ℕ → ℕ
-  argument_at i = argument_in (c (ids_core N)) i
+  argument_at i = argument_in (c (thread_ids_core N)) i
 
   -- whether barrier n says that thread i waits
   abbrev pub waits_bit : ℕ → ℕ → Bool

@@ -25,7 +25,7 @@ use Rattle.block_refine.specs.Acts.{IsDefined}
 -- there are cores enough for the program, and no more than words of 64 bits count
 pub record AreNumbers (P : Program) (N : Numbers) (T : ℕ) : Type 0 where
   pub threads : T ≡ thread_count P
-  pub ids : N.ids ≡ nat_lt 1 T
+  pub thread_ids : N.thread_ids ≡ nat_lt 1 T
   pub few_threads : T < 2 ^ 64
   pub few_mutexes : N.mutexes < 2 ^ 64
   pub few_barriers : N.barriers < 2 ^ 64

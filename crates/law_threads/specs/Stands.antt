@@ -5,9 +5,9 @@ use Rattle.thread_semantics.specs.declared.object.MutexState.{MutexState}
 use Rattle.thread_semantics.specs.declared.object.MutexState.TheVariants as mutex
 use Rattle.thread_semantics.specs.State.{Slot, Barrier, Awaits, State}
 use Rattle.thread_semantics.specs.Step.{is_unused, is_running, is_waiter}
-use Rattle.block_ir.specs.Asked.{Numbers, mutex_core, barrier_core, ids_core, printer_core}
+use Rattle.block_ir.specs.Asked.{Numbers, mutex_core, barrier_core, thread_ids_core, printer_core}
 use Rattle.core_states.specs.Machines.{Lock, Unset, Free, Owned, Gate, IdTable}
-use Rattle.law_threads.specs.Cores.{Core, OfMutex, OfBarrier, OfIds, OfPrinter}
+use Rattle.law_threads.specs.Cores.{Core, OfMutex, OfBarrier, OfThreadIds, OfPrinter}
 
 abbrev pub lock_of : MutexState → Lock
 lock_of mutex.Uninitialised = Unset
@@ -22,25 +22,25 @@ pub record GateStands (T : ℕ) (g : Gate) (b : Barrier) : Type 0 where
   pub bits : (i : ℕ) → i < T → slice_index g.waiting i ≡ bit_of (is_waiter i b)
   pub count : (count : ℤ) (waiters : List ℕ) → b ≡ Awaits count waiters → pos g.count ≡ count
 
--- the core of a barrier, and that of the ids; id 0 is main, which is not kept there
+-- the core of a barrier, and that of the thread ids; id 0 is main, which is not kept there
 pub record BarrierStands (T : ℕ) (k : Core) (b : Barrier) : Type 0 where
   pub gate : Gate
   pub is : k ≡ OfBarrier gate
   pub stands : GateStands T gate b
 
-pub record IdsStand (T : ℕ) (k : Core) (slots : List Slot) : Type 0 where
-  pub ids : IdTable
-  pub is : k ≡ OfIds ids
-  pub statuses : length ids.statuses ≡ T
-  pub arguments : length ids.arguments ≡ T
-  pub main : slice_index ids.statuses 0 ≡ 0
-  pub each : (i : ℕ) (slot : Slot) → 0 < i → slice_get slots i ≡ Some slot → slice_index ids.statuses i ≡ status_of slot
+pub record ThreadIdsStand (T : ℕ) (k : Core) (slots : List Slot) : Type 0 where
+  pub thread_ids : IdTable
+  pub is : k ≡ OfThreadIds thread_ids
+  pub statuses : length thread_ids.statuses ≡ T
+  pub arguments : length thread_ids.arguments ≡ T
+  pub main : slice_index thread_ids.statuses 0 ≡ 0
+  pub each : (i : ℕ) (slot : Slot) → 0 < i → slice_get slots i ≡ Some slot → slice_index thread_ids.statuses i ≡ status_of slot
 
 -- THE CORES STAND FOR THE STATE
 pub record StandsFor (N : Numbers) (T : ℕ) (c : ℕ → Core) (s : State) : Type 0 where
   pub mutexes : (n : ℕ) (m : MutexState) → slice_get s.mutexes n ≡ Some m → c (mutex_core N n) ≡ OfMutex (lock_of m)
   pub barriers : (n : ℕ) (b : Barrier) → slice_get s.barriers n ≡ Some b → BarrierStands T (c (barrier_core N n)) b
-  pub ids : N.ids ≡ true → IdsStand T (c (ids_core N)) s.slots
+  pub thread_ids : N.thread_ids ≡ true → ThreadIdsStand T (c (thread_ids_core N)) s.slots
   pub output : c (printer_core N) ≡ OfPrinter s.output
   -- and there is one for each
   pub mutex_count : length s.mutexes ≡ N.mutexes

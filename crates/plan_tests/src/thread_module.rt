@@ -11,7 +11,7 @@ use netlist::netlist::{Module, Signal};
 use sqlite_items::Items;
 use std::alloc::{AllocError, Global};
 use std::test::Fail;
-use thread_slots::shape::{Printer, Served, Shape};
+use thread_slots::shape::{PrinterPort, Served, Shape};
 use verilog_tree::name::Identifier;
 
 /// `x = x * 7;`
@@ -65,8 +65,8 @@ fn shape(alloc: Global) -> Result<Box<Shape>, AllocError> {
     let served = Served {
         mutexes: 0,
         barriers: 0,
-        ids: false,
-        printer: Printer {
+        thread_ids: false,
+        printer: PrinterPort {
             site_width: 4,
             values: 2,
         },

@@ -16,9 +16,8 @@ use Rattle.core_family.specs.Kinds.{barrier, thread_ids, thread_ids_kinds, kinds
 use Rattle.thread_promise.specs.Globals.{bank_total}
 use Rattle.law_banks.specs.Partition.{globals_of, ArePartitioned}
 use Rattle.law_banks.proofs.Partitioned.{total, bank_is, type_here}
-use Rattle.thread_slots.specs.Services.{if_ids, services}
-use Rattle.thread_slots.specs.declared.shape.Service.{Service as Kind}
-use Rattle.thread_slots.specs.declared.shape.Service.TheVariants as kind
+use Rattle.block_ir.specs.Asked.{Service, Mutex, Barrier, ThreadIds, Printer}
+use Rattle.thread_slots.specs.Services.{if_thread_ids, services}
 use Rattle.fsm_datapath.specs.SoundLeaf.{parts_of, tells_of}
 use Rattle.fsm_datapath.specs.Thread.{AreRightSpreads, bank_port, act_port, core_ports}
 use Rattle.fsm_datapath.proofs.SpreadBanks.{spread_there, spread_count}
@@ -40,15 +39,15 @@ width_at (b ∷ banks) (suc n) w e = width_at banks n w e
 
 -- ---- the cores that acts ask
 
-mutex_ports : (w : Cores) (ms : List MutexShape) → map (act_port (served_by w)) (replicate (length ms) kind.Mutexes) ≡ map port_of (map Mutex ms)
+mutex_ports : (w : Cores) (ms : List MutexShape) → map (act_port (served_by w)) (replicate (length ms) Mutex) ≡ map port_of (map Mutex ms)
 mutex_ports w [] = refl
 mutex_ports w (m ∷ ms) = ap (λ (l : List CorePort). port_of (Mutex m) ∷ l) (mutex_ports w ms)
 
-barrier_ports : (w : Cores) (n : ℕ) → map (act_port (served_by w)) (replicate n kind.Barriers) ≡ map port_of (replicate n (barrier w))
+barrier_ports : (w : Cores) (n : ℕ) → map (act_port (served_by w)) (replicate n Barrier) ≡ map port_of (replicate n (barrier w))
 barrier_ports w zero = refl
 barrier_ports w (suc n) = ap (λ (l : List CorePort). port_of (barrier w) ∷ l) (barrier_ports w n)
 
-last_ports : (w : Cores) (on : Bool) → map (act_port (served_by w)) (if_ids on (kind.Ids ∷ []) ++ kind.Prints ∷ []) ≡ map port_of ((if on then thread_ids w ∷ [] else []) ++ (Printer w.printer ∷ []))
+last_ports : (w : Cores) (on : Bool) → map (act_port (served_by w)) (if_thread_ids on (ThreadIds ∷ []) ++ Printer ∷ []) ≡ map port_of ((if on then thread_ids w ∷ [] else []) ++ (Printer w.printer ∷ []))
 last_ports w true = refl
 last_ports w false = refl
 
@@ -56,16 +55,16 @@ bank_ports : (bs : List BankShape) → map bank_port (map (λ (b : BankShape). b
 bank_ports [] = refl
 bank_ports (b ∷ bs) = ap (λ (l : List CorePort). port_of (Bank b) ∷ l) (bank_ports bs)
 
-abbrev act : Cores → Kind → CorePort
+abbrev act : Cores → Service → CorePort
 act w k = act_port (served_by w) k
 
 act_ports : (w : Cores) → map (act w) (services (served_by w)) ≡ map port_of (map Mutex w.mutexes ++ (replicate w.barriers (barrier w) ++ (thread_ids_kinds w ++ (Printer w.printer ∷ []))))
 act_ports w =
-    map-append (act w) (replicate (length w.mutexes) kind.Mutexes) (replicate w.barriers kind.Barriers ++ (if_ids w.thread_ids (kind.Ids ∷ []) ++ kind.Prints ∷ []))
-    ∙ ap (λ (l : List CorePort). l ++ map (act w) (replicate w.barriers kind.Barriers ++ (if_ids w.thread_ids (kind.Ids ∷ []) ++ kind.Prints ∷ []))) (mutex_ports w w.mutexes)
+    map-append (act w) (replicate (length w.mutexes) Mutex) (replicate w.barriers Barrier ++ (if_thread_ids w.thread_ids (ThreadIds ∷ []) ++ Printer ∷ []))
+    ∙ ap (λ (l : List CorePort). l ++ map (act w) (replicate w.barriers Barrier ++ (if_thread_ids w.thread_ids (ThreadIds ∷ []) ++ Printer ∷ []))) (mutex_ports w w.mutexes)
     ∙ ap (λ (l : List CorePort). map port_of (map Mutex w.mutexes) ++ l)
-    (map-append (act w) (replicate w.barriers kind.Barriers) (if_ids w.thread_ids (kind.Ids ∷ []) ++ kind.Prints ∷ [])
-    ∙ ap (λ (l : List CorePort). l ++ map (act w) (if_ids w.thread_ids (kind.Ids ∷ []) ++ kind.Prints ∷ [])) (barrier_ports w w.barriers)
+    (map-append (act w) (replicate w.barriers Barrier) (if_thread_ids w.thread_ids (ThreadIds ∷ []) ++ Printer ∷ [])
+    ∙ ap (λ (l : List CorePort). l ++ map (act w) (if_thread_ids w.thread_ids (ThreadIds ∷ []) ++ Printer ∷ [])) (barrier_ports w w.barriers)
     ∙ ap (λ (l : List CorePort). map port_of (replicate w.barriers (barrier w)) ++ l) (last_ports w w.thread_ids)
     ∙ sym (map-append port_of (replicate w.barriers (barrier w)) (thread_ids_kinds w ++ (Printer w.printer ∷ []))))
     ∙ sym (map-append port_of (map Mutex w.mutexes) (replicate w.barriers (barrier w) ++ (thread_ids_kinds w ++ (Printer w.printer ∷ []))))

@@ -24,7 +24,7 @@ use Rattle.law_net.specs.Bodies.{ThreadBody, core_count, IsBody}
 
 -- the cores that acts ask
 abbrev pub served_by : Cores → Served
-served_by w = record { mutexes = length w.mutexes; barriers = w.barriers; ids = w.thread_ids; printer = record { site_width = 16; values = w.printer.values } }
+served_by w = record { mutexes = length w.mutexes; barriers = w.barriers; thread_ids = w.thread_ids; printer = record { site_width = 16; values = w.printer.values } }
 
 -- what surrounds the module of a thread, main's or another's
 abbrev pub shape_of : Program → List Spread → Cores → Bool → List ℕ → Shape

@@ -28,7 +28,7 @@ use program_plans::PlannedFunction;
 use program_plans::law::planned_are_routines;
 use sqlite_items::Items;
 use std::alloc::{AllocError, Global};
-use thread_slots::shape::{Printer, Served, Shape};
+use thread_slots::shape::{PrinterPort, Served, Shape};
 use verilog_tree::name::Identifier;
 
 /// The width of a printf site's number, in bits.
@@ -53,8 +53,8 @@ fn served(wanted: &Cores) -> Served
     Served {
         mutexes: wanted.mutexes.len(),
         barriers: wanted.barriers as usize,
-        ids: wanted.thread_ids,
-        printer: Printer {
+        thread_ids: wanted.thread_ids,
+        printer: PrinterPort {
             site_width: SITE_WIDTH,
             values: wanted.printer.values,
         },

@@ -17,7 +17,7 @@ use Rattle.block_ir.specs.declared.plan.BlockPlan.{BlockPlan}
 use Rattle.block_ir.specs.declared.plan.StagePlan.{StagePlan}
 use Rattle.block_ir.specs.declared.plan.StagePlan.TheVariants as planned
 use Rattle.block_ir.specs.declared.plan.Planned.{Planned}
-use Rattle.block_ir.specs.Asked.{act_value, Service, Mutexes, Barriers, Ids, Prints, Request as Call, request_of}
+use Rattle.block_ir.specs.Asked.{act_value, Service, Mutex, Barrier, ThreadIds, Printer, Request as Call, request_of}
 use Rattle.block_datapath.specs.declared.requests.BankRequests.{BankRequests}
 use Rattle.hls_ints.specs.Residues.{residue_of}
 use Rattle.planned_block.specs.Slot.{Slot}
@@ -59,40 +59,40 @@ use Rattle.thread_slots.proofs.Taken.{Told, stage_below}
 
 -- of each service, from one and all others
 pub decide : (P : Service → Type 0) (s : Service) → P s → ((k : Service) → same_service s k ≡ false → P k) → (k : Service) → P k
-decide P Mutexes own other Mutexes = own
-decide P Mutexes own other Barriers = other Barriers refl
-decide P Mutexes own other Ids = other Ids refl
-decide P Mutexes own other Prints = other Prints refl
-decide P Barriers own other Mutexes = other Mutexes refl
-decide P Barriers own other Barriers = own
-decide P Barriers own other Ids = other Ids refl
-decide P Barriers own other Prints = other Prints refl
-decide P Ids own other Mutexes = other Mutexes refl
-decide P Ids own other Barriers = other Barriers refl
-decide P Ids own other Ids = own
-decide P Ids own other Prints = other Prints refl
-decide P Prints own other Mutexes = other Mutexes refl
-decide P Prints own other Barriers = other Barriers refl
-decide P Prints own other Ids = other Ids refl
-decide P Prints own other Prints = own
+decide P Mutex own other Mutex = own
+decide P Mutex own other Barrier = other Barrier refl
+decide P Mutex own other ThreadIds = other ThreadIds refl
+decide P Mutex own other Printer = other Printer refl
+decide P Barrier own other Mutex = other Mutex refl
+decide P Barrier own other Barrier = own
+decide P Barrier own other ThreadIds = other ThreadIds refl
+decide P Barrier own other Printer = other Printer refl
+decide P ThreadIds own other Mutex = other Mutex refl
+decide P ThreadIds own other Barrier = other Barrier refl
+decide P ThreadIds own other ThreadIds = own
+decide P ThreadIds own other Printer = other Printer refl
+decide P Printer own other Mutex = other Mutex refl
+decide P Printer own other Barrier = other Barrier refl
+decide P Printer own other ThreadIds = other ThreadIds refl
+decide P Printer own other Printer = own
 
 pub same_self : (s : Service) → same_service s s ≡ true
-same_self Mutexes = refl
-same_self Barriers = refl
-same_self Ids = refl
-same_self Prints = refl
+same_self Mutex = refl
+same_self Barrier = refl
+same_self ThreadIds = refl
+same_self Printer = refl
 
 number_low : (served : Served) (s : Service) → 1 ≤ served.printer.site_width → 1 ≤ number_width served s
-number_low served Mutexes low = omega arith
-number_low served Barriers low = omega arith
-number_low served Ids low = omega arith
-number_low served Prints low = low
+number_low served Mutex low = omega arith
+number_low served Barrier low = omega arith
+number_low served ThreadIds low = omega arith
+number_low served Printer low = low
 
 number_high : (served : Served) (s : Service) → served.printer.site_width ≤ 64 → number_width served s ≤ 64
-number_high served Mutexes high = omega arith
-number_high served Barriers high = omega arith
-number_high served Ids high = omega arith
-number_high served Prints high = high
+number_high served Mutex high = omega arith
+number_high served Barrier high = omega arith
+number_high served ThreadIds high = omega arith
+number_high served Printer high = high
 
 -- ---- one request
 
@@ -231,40 +231,40 @@ called_if a b d code registers w at number (Some v) values before middle after n
 -- ---- one of all requests
 
 abbrev pub put_group : Service → Requests → Request → Requests
-put_group Mutexes x own = record x { mutex = own }
-put_group Barriers x own = record x { barrier = own }
-put_group Ids x own = record x { ids = own }
-put_group Prints x own = record x { print = own }
+put_group Mutex x own = record x { mutex = own }
+put_group Barrier x own = record x { barrier = own }
+put_group ThreadIds x own = record x { thread_ids = own }
+put_group Printer x own = record x { printer = own }
 
 pub group_put : (s : Service) (x : Requests) (own : Request) → group (put_group s x own) s ≡ own
-group_put Mutexes x own = refl
-group_put Barriers x own = refl
-group_put Ids x own = refl
-group_put Prints x own = refl
+group_put Mutex x own = refl
+group_put Barrier x own = refl
+group_put ThreadIds x own = refl
+group_put Printer x own = refl
 
 pub banks_put : (s : Service) (x : Requests) (own : Request) → (put_group s x own).banks ≡ x.banks
-banks_put Mutexes x own = refl
-banks_put Barriers x own = refl
-banks_put Ids x own = refl
-banks_put Prints x own = refl
+banks_put Mutex x own = refl
+banks_put Barrier x own = refl
+banks_put ThreadIds x own = refl
+banks_put Printer x own = refl
 
 pub others_put : (s : Service) (x : Requests) (own : Request) (k : Service) → same_service s k ≡ false → group (put_group s x own) k ≡ group x k
-others_put Mutexes x own Mutexes off = absurd cc
-others_put Mutexes x own Barriers off = refl
-others_put Mutexes x own Ids off = refl
-others_put Mutexes x own Prints off = refl
-others_put Barriers x own Mutexes off = refl
-others_put Barriers x own Barriers off = absurd cc
-others_put Barriers x own Ids off = refl
-others_put Barriers x own Prints off = refl
-others_put Ids x own Mutexes off = refl
-others_put Ids x own Barriers off = refl
-others_put Ids x own Ids off = absurd cc
-others_put Ids x own Prints off = refl
-others_put Prints x own Mutexes off = refl
-others_put Prints x own Barriers off = refl
-others_put Prints x own Ids off = refl
-others_put Prints x own Prints off = absurd cc
+others_put Mutex x own Mutex off = absurd cc
+others_put Mutex x own Barrier off = refl
+others_put Mutex x own ThreadIds off = refl
+others_put Mutex x own Printer off = refl
+others_put Barrier x own Mutex off = refl
+others_put Barrier x own Barrier off = absurd cc
+others_put Barrier x own ThreadIds off = refl
+others_put Barrier x own Printer off = refl
+others_put ThreadIds x own Mutex off = refl
+others_put ThreadIds x own Barrier off = refl
+others_put ThreadIds x own ThreadIds off = absurd cc
+others_put ThreadIds x own Printer off = refl
+others_put Printer x own Mutex off = refl
+others_put Printer x own Barrier off = refl
+others_put Printer x own ThreadIds off = refl
+others_put Printer x own Printer off = absurd cc
 
 -- ---- readings
 

@@ -24,7 +24,7 @@ use Rattle.operator_wires.specs.Words.{resized_word}
 use Rattle.operator_wires.specs.Built.{Base, IsEarlier}
 use Rattle.operator_wires.specs.Added.{NumberAdds}
 use Rattle.block_datapath.specs.Promise.{is_run}
-use Rattle.block_ir.specs.Asked.{act_value, Service, Mutexes, Barriers, Ids, Prints, Request as Call, request_of}
+use Rattle.block_ir.specs.Asked.{act_value, Service, Mutex, Barrier, ThreadIds, Printer, Request as Call, request_of}
 use Rattle.block_datapath.specs.declared.registers.Held.{Held}
 use Rattle.block_datapath.specs.declared.registers.Registers.{Registers}
 use Rattle.block_datapath.specs.Chains.{next_number, TellsStage}
@@ -56,22 +56,22 @@ other_operands [] = []
 other_operands (o ∷ os) = os
 
 abbrev pub object_of : Service → List ActOperand → Option ActOperand
-object_of Mutexes os = first_operand os
-object_of Barriers os = first_operand os
-object_of Ids os = None
-object_of Prints os = None
+object_of Mutex os = first_operand os
+object_of Barrier os = first_operand os
+object_of ThreadIds os = None
+object_of Printer os = None
 
 abbrev pub values_of : Service → List ActOperand → List ActOperand
-values_of Mutexes os = other_operands os
-values_of Barriers os = other_operands os
-values_of Ids os = os
-values_of Prints os = os
+values_of Mutex os = other_operands os
+values_of Barrier os = other_operands os
+values_of ThreadIds os = os
+values_of Printer os = os
 
 abbrev pub same_service : Service → Service → Bool
-same_service Mutexes Mutexes = true
-same_service Barriers Barriers = true
-same_service Ids Ids = true
-same_service Prints Prints = true
+same_service Mutex Mutex = true
+same_service Barrier Barrier = true
+same_service ThreadIds ThreadIds = true
+same_service Printer Printer = true
 same_service _ _ = false
 
 -- a core of a service is asked

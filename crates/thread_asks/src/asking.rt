@@ -99,7 +99,7 @@ fn ask_act(
 {
     match act {
         Act::Print { site, values } => {
-            let core = &mut requests.print;
+            let core = &mut requests.printer;
             let width = caller.served.printer.site_width;
             let values = values.as_slice();
             call(
@@ -107,12 +107,12 @@ fn ask_act(
             )
         }
         Act::Create { thread, argument } => {
-            let core = &mut requests.ids;
+            let core = &mut requests.thread_ids;
             let values = [*thread, *argument];
             call(wires, registers, core, code, stage, 2, 0, None, &values)
         }
         Act::Join { thread } => {
-            let core = &mut requests.ids;
+            let core = &mut requests.thread_ids;
             call(wires, registers, core, code, stage, 2, 1, None, &[*thread])
         }
         Act::MutexInit { mutex } => {
@@ -150,7 +150,7 @@ fn ask_act(
             if caller.is_main {
                 Ok(())
             } else {
-                let core = &mut requests.ids;
+                let core = &mut requests.thread_ids;
                 call(wires, registers, core, code, stage, 2, 2, None, &[])
             }
         }

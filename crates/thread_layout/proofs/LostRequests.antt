@@ -7,7 +7,7 @@ use Rattle.block_ir.specs.declared.code.Stage.{Stage}
 use Rattle.block_ir.specs.declared.code.Stage.TheVariants as stage
 use Rattle.block_ir.specs.declared.code.ThreadCode.{ThreadCode}
 use Rattle.block_ir.specs.declared.plan.Planned.{Planned}
-use Rattle.block_ir.specs.Asked.{Service, Mutexes, Barriers, Ids, Prints, Numbers, Asked, Request as Call, request_of, asked_at, printer_core}
+use Rattle.block_ir.specs.Asked.{Service, Mutex, Barrier, ThreadIds, Printer, Numbers, Asked, Request as Call, request_of, asked_at, printer_core}
 use Rattle.planned_block.specs.Slot.{Slot}
 use Rattle.planned_block.specs.Advance.{any_below}
 use Rattle.planned_block.proofs.Advances.{some_tells}
@@ -49,18 +49,18 @@ no_kind main (Some (stage.Act a next)) variables e k = by (request_of main a) e
 
 -- who asks a core that is not there asks for an object or for an id
 abbrev objects : (Service → Bool) → Bool
-objects wants = (wants Mutexes || wants Barriers) || wants Ids
+objects wants = (wants Mutex || wants Barrier) || wants ThreadIds
 
 lost_kind : (N : Numbers) (variables : ℕ → ℤ) (call : Call) → core_asked N (asked_at variables (Some call)) ≡ None → objects (same_service call.service) ≡ true
 lost_kind N variables call e = by call.service refl
   where
     by : (s : Service) → call.service ≡ s → objects (same_service call.service) ≡ true
-    by Mutexes is = ap (λ k. objects (same_service k)) is
-    by Barriers is = ap (λ k. objects (same_service k)) is
-    by Ids is = ap (λ k. objects (same_service k)) is
-    by Prints is = absurd (let there : Some (printer_core N) ≡ None = subst (λ (c : Call). core_asked N (asked_at variables (Some c)) ≡ None) (printed is) e in cc)
+    by Mutex is = ap (λ k. objects (same_service k)) is
+    by Barrier is = ap (λ k. objects (same_service k)) is
+    by ThreadIds is = ap (λ k. objects (same_service k)) is
+    by Printer is = absurd (let there : Some (printer_core N) ≡ None = subst (λ (c : Call). core_asked N (asked_at variables (Some c)) ≡ None) (printed is) e in cc)
       where
-        printed : call.service ≡ Prints → call ≡ record { service = Prints; number = call.number; operands = call.operands }
+        printed : call.service ≡ Printer → call ≡ record { service = Printer; number = call.number; operands = call.operands }
         printed same = ap (λ k. record { service = k; number = call.number; operands = call.operands }) same
 
 lost_asks : (main : Bool) (s : Option Stage) (variables : ℕ → ℤ) (N : Numbers) (ask : Asked) → asked_in main s variables ≡ Some ask → core_asked N (Some ask) ≡ None

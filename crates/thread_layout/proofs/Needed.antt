@@ -44,7 +44,7 @@ use Rattle.thread_layout.specs.Thread.{inputs_of, places_of, IsServed}
 use Rattle.thread_requests.proofs.Needs.{idle_needs}
 use Rattle.thread_layout.proofs.Opened.{wired, earlier_wide, wants_count, want_wide, ask_wide, bit_told}
 use Rattle.thread_requests.specs.Early.{wants_of}
-use Rattle.block_ir.specs.Asked.{Service, Mutexes, Barriers, Ids, Prints}
+use Rattle.block_ir.specs.Asked.{Service, Mutex, Barrier, ThreadIds, Printer}
 use Rattle.thread_slots.specs.Requests.{group}
 use Rattle.thread_layout.proofs.Placed.{from_early, wide_bit}
 use Rattle.thread_layout.proofs.RaisedAsks.{from_whole, from_needs}
@@ -110,7 +110,7 @@ module _ (shape : Shape) (code : ThreadCode) (plan : Planned) (m : Module) (t : 
   asked_count : length asked ≡ wants_all
   asked_count =
       length-append t.inside.early.requests.banks.wants
-      (t.inside.early.requests.mutex.wants ∷ t.inside.early.requests.barrier.wants ∷ t.inside.early.requests.ids.wants ∷ t.inside.early.requests.print.wants ∷ [])
+      (t.inside.early.requests.mutex.wants ∷ t.inside.early.requests.barrier.wants ∷ t.inside.early.requests.thread_ids.wants ∷ t.inside.early.requests.printer.wants ∷ [])
       ∙ ap (λ k. k + 4) (wants_count shape code plan m t served)
 
   -- bank n
@@ -123,22 +123,22 @@ module _ (shape : Shape) (code : ThreadCode) (plan : Planned) (m : Module) (t : 
   asked_kind n past less = by (n - banks) refl (omega arith)
     where
       at : (k : ℕ) → n - banks ≡ k → slice_index asked n ≡ slice_index
-          (t.inside.early.requests.mutex.wants ∷ t.inside.early.requests.barrier.wants ∷ t.inside.early.requests.ids.wants ∷ t.inside.early.requests.print.wants ∷ []) k
+          (t.inside.early.requests.mutex.wants ∷ t.inside.early.requests.barrier.wants ∷ t.inside.early.requests.thread_ids.wants ∷ t.inside.early.requests.printer.wants ∷ []) k
       at k e =
           get_or-append_right t.inside.early.requests.banks.wants _ (length t.inside.early.requests.banks.wants) n 0 refl (subst (λ z. z ≤ n) (sym (wants_count shape code plan m t served)) past)
           ∙ ap
           (λ z. slice_index
-          (t.inside.early.requests.mutex.wants ∷ t.inside.early.requests.barrier.wants ∷ t.inside.early.requests.ids.wants ∷ t.inside.early.requests.print.wants ∷ [])
+          (t.inside.early.requests.mutex.wants ∷ t.inside.early.requests.barrier.wants ∷ t.inside.early.requests.thread_ids.wants ∷ t.inside.early.requests.printer.wants ∷ [])
           (n - z)) (wants_count shape code plan m t served)
           ∙ ap
           (slice_index
-          (t.inside.early.requests.mutex.wants ∷ t.inside.early.requests.barrier.wants ∷ t.inside.early.requests.ids.wants ∷ t.inside.early.requests.print.wants ∷ [])) e
+          (t.inside.early.requests.mutex.wants ∷ t.inside.early.requests.barrier.wants ∷ t.inside.early.requests.thread_ids.wants ∷ t.inside.early.requests.printer.wants ∷ [])) e
 
       by : (k : ℕ) → n - banks ≡ k → k < 4 → (s : Service) × (slice_index asked n ≡ (group t.inside.early.requests s).wants)
-      by zero e lt = (Mutexes, at 0 e)
-      by (suc zero) e lt = (Barriers, at 1 e)
-      by (suc (suc zero)) e lt = (Ids, at 2 e)
-      by (suc (suc (suc zero))) e lt = (Prints, at 3 e)
+      by zero e lt = (Mutex, at 0 e)
+      by (suc zero) e lt = (Barrier, at 1 e)
+      by (suc (suc zero)) e lt = (ThreadIds, at 2 e)
+      by (suc (suc (suc zero))) e lt = (Printer, at 3 e)
       by (suc (suc (suc (suc k)))) e lt = absurd (omega arith)
 
   asked_wide : (n : ℕ) → n < wants_all → width m (slice_index asked n) ≡ 1
@@ -178,20 +178,20 @@ module _ (shape : Shape) (code : ThreadCode) (plan : Planned) (m : Module) (t : 
         }
       where
         there : (k : ℕ) → k < 4 → slice_index asked (banks + k) ≡ slice_index
-            (t.inside.early.requests.mutex.wants ∷ t.inside.early.requests.barrier.wants ∷ t.inside.early.requests.ids.wants ∷ t.inside.early.requests.print.wants ∷ []) k
+            (t.inside.early.requests.mutex.wants ∷ t.inside.early.requests.barrier.wants ∷ t.inside.early.requests.thread_ids.wants ∷ t.inside.early.requests.printer.wants ∷ []) k
         there k less =
             let count = wants_count shape code plan m t served in
             get_or-append_right t.inside.early.requests.banks.wants _ (length t.inside.early.requests.banks.wants) (banks + k) 0 refl (omega arith)
             ∙ ap
             (slice_index
-            (t.inside.early.requests.mutex.wants ∷ t.inside.early.requests.barrier.wants ∷ t.inside.early.requests.ids.wants ∷ t.inside.early.requests.print.wants ∷ []))
+            (t.inside.early.requests.mutex.wants ∷ t.inside.early.requests.barrier.wants ∷ t.inside.early.requests.thread_ids.wants ∷ t.inside.early.requests.printer.wants ∷ []))
             (let z : banks + k - length t.inside.early.requests.banks.wants ≡ k = omega arith in z)
 
         kind_place : (k : Service) → (n : ℕ) × (slice_index asked (banks + n) ≡ (group t.inside.early.requests k).wants) × (banks + n < wants_all)
-        kind_place Mutexes = (0, there 0 (omega arith), omega arith)
-        kind_place Barriers = (1, there 1 (omega arith), omega arith)
-        kind_place Ids = (2, there 2 (omega arith), omega arith)
-        kind_place Prints = (3, there 3 (omega arith), omega arith)
+        kind_place Mutex = (0, there 0 (omega arith), omega arith)
+        kind_place Barrier = (1, there 1 (omega arith), omega arith)
+        kind_place ThreadIds = (2, there 2 (omega arith), omega arith)
+        kind_place Printer = (3, there 3 (omega arith), omega arith)
 
     end_bit : HasBit m r t.inside.early.done (nat_eq now (length code.stages))
     end_bit = record {

@@ -7,7 +7,7 @@ use Rattle.hls_ints.specs.Residues.{bit_of}
 use Rattle.hls_ints.specs.Types.{width_of}
 use Rattle.block_ir.specs.declared.code.ThreadCode.{ThreadCode}
 use Rattle.block_ir.specs.declared.plan.Planned.{Planned}
-use Rattle.block_ir.specs.Asked.{barrier_core, ids_core}
+use Rattle.block_ir.specs.Asked.{Service, Mutex, Barrier, ThreadIds, Printer, barrier_core, thread_ids_core}
 use Rattle.netlist.specs.declared.netlist.Source.TheVariants.{Input}
 use Rattle.netlist.specs.declared.netlist.Module.{Module}
 use Rattle.verilog_meaning.specs.Readings.{Reading, width}
@@ -16,8 +16,6 @@ use Rattle.thread_promise.specs.Globals.{bank_total}
 use Rattle.block_datapath.specs.declared.registers.Held.{Held}
 use Rattle.leaf_machine.specs.Ports.{CorePort, told_place}
 use Rattle.thread_slots.specs.declared.shape.Served.{Served}
-use Rattle.thread_slots.specs.declared.shape.Service.{Service as Kind}
-use Rattle.thread_slots.specs.declared.shape.Service.TheVariants as kind
 use Rattle.thread_slots.specs.declared.shape.Shape.{Shape}
 use Rattle.thread_slots.specs.Bits.{HasBit}
 use Rattle.thread_slots.specs.Services.{services, news_widths}
@@ -48,21 +46,21 @@ bank_place (w ∷ ws) ps (suc n) le =
     next ∙ ap suc (bank_place ws ps n (omega arith))
 
 module _ (served : Served) where
-  abbrev ports : List Kind → List CorePort
+  abbrev ports : List Service → List CorePort
   ports ks = map (act_port served) ks
 
-  mutex_front : (n k : ℕ) (ks : List Kind) → told_place (ports (replicate n kind.Mutexes ++ ks)) (n + k) ≡ told_place (ports ks) k
+  mutex_front : (n k : ℕ) (ks : List Service) → told_place (ports (replicate n Mutex ++ ks)) (n + k) ≡ told_place (ports ks) k
   mutex_front zero k ks = ap (told_place (ports ks)) (let z : 0 + k ≡ k = omega arith in z)
   mutex_front (suc n) k ks =
       let at : suc n + k ≡ suc (n + k) = omega arith in
-      let next : told_place (ports (replicate (suc n) kind.Mutexes ++ ks)) (suc (n + k)) ≡ told_place (ports (replicate n kind.Mutexes ++ ks)) (n + k) = refl in
-      ap (told_place (ports (replicate (suc n) kind.Mutexes ++ ks))) at ∙ next ∙ mutex_front n k ks
+      let next : told_place (ports (replicate (suc n) Mutex ++ ks)) (suc (n + k)) ≡ told_place (ports (replicate n Mutex ++ ks)) (n + k) = refl in
+      ap (told_place (ports (replicate (suc n) Mutex ++ ks))) at ∙ next ∙ mutex_front n k ks
 
-  barrier_place : (n j : ℕ) (ks : List Kind) → j ≤ n → told_place (ports (replicate n kind.Barriers ++ ks)) j ≡ j
+  barrier_place : (n j : ℕ) (ks : List Service) → j ≤ n → told_place (ports (replicate n Barrier ++ ks)) j ≡ j
   barrier_place n zero ks le = refl
   barrier_place zero (suc j) ks le = absurd (omega arith)
   barrier_place (suc n) (suc j) ks le =
-      let next : told_place (ports (replicate (suc n) kind.Barriers ++ ks)) (suc j) ≡ suc (told_place (ports (replicate n kind.Barriers ++ ks)) j) = refl in
+      let next : told_place (ports (replicate (suc n) Barrier ++ ks)) (suc j) ≡ suc (told_place (ports (replicate n Barrier ++ ks)) j) = refl in
       next ∙ ap suc (barrier_place n j ks (omega arith))
 
 module _ (shape : Shape) (code : ThreadCode) (plan : Planned) (m : Module) (t : IsModule shape code plan m) (served : IsServed shape code plan) where
@@ -98,9 +96,9 @@ module _ (shape : Shape) (code : ThreadCode) (plan : Planned) (m : Module) (t : 
       let count = ports_count shape code plan m t served in
       let z : 2 + length (core_ports shape) + (told_place (core_ports shape) (banks + shape.served.mutexes + i) + 0) ≡ news_input i = omega arith in z
 
-  -- and behind barriers the core of the ids
-  pub ids_told : (j : ℕ) → ((served_ports shape m).core (ids_core (numbers_of shape))).told j ≡ news_input (shape.served.barriers + j)
-  ids_told j =
+  -- and behind barriers the core of the thread ids
+  pub thread_ids_told : (j : ℕ) → ((served_ports shape m).core (thread_ids_core (numbers_of shape))).told j ≡ news_input (shape.served.barriers + j)
+  thread_ids_told j =
       let at = place_is shape.served.barriers (omega arith) in
       let count = ports_count shape code plan m t served in
       let z : 2 + length (core_ports shape) + (told_place (core_ports shape) (banks + shape.served.mutexes + shape.served.barriers) + j)

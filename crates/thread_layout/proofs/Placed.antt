@@ -32,9 +32,8 @@ use Rattle.thread_slots.specs.Wired.{field_width}
 use Rattle.thread_states.specs.Acts.{IsTypedArgument}
 use Rattle.thread_layout.specs.Modules.{IsModule}
 use Rattle.block_ir.specs.Asked.{Service}
-use Rattle.thread_slots.specs.declared.shape.Service.{Service as Kind}
 use Rattle.thread_slots.specs.Requests.{group}
-use Rattle.thread_slots.specs.Services.{service_of, services, number_width, value_count}
+use Rattle.thread_slots.specs.Services.{services, number_width, value_count}
 use Rattle.thread_slots.specs.Hearing.{IsHeard}
 use Rattle.thread_requests.specs.Early.{act_count, held_width, spread_out}
 use Rattle.leaf_machine.specs.Ports.{asks_of, thread_outputs}
@@ -446,24 +445,24 @@ module _ (shape : Shape) (code : ThreadCode) (plan : Planned) (m : Module) (t : 
       (bank_asked (s.first + k) w.held w.listed)
 
   -- core n of those that acts ask
-  module _ (n : ℕ) (k : Kind) (own : slice_get (services shape.served) n ≡ Some k) where
+  module _ (n : ℕ) (k : Service) (own : slice_get (services shape.served) n ≡ Some k) where
     abbrev pub own_act_rows : List Row
-    own_act_rows = act_rows shape.served (slice_index t.edge.asks (banks + n)) t.inside.early.requests (service_of k)
+    own_act_rows = act_rows shape.served (slice_index t.edge.asks (banks + n)) t.inside.early.requests k
 
     pub act_listed : slice_get rows (banks + n) ≡ Some own_act_rows
     act_listed =
         ap (λ j. slice_get rows (j + n)) (sym words_count) ∙ act_there shape.served t.inside.slot.words t.edge.asks t.inside.early.requests n k own
-        ∙ ap (λ j. Some (act_rows shape.served (slice_index t.edge.asks (j + n)) t.inside.early.requests (service_of k))) words_count
+        ∙ ap (λ j. Some (act_rows shape.served (slice_index t.edge.asks (j + n)) t.inside.early.requests k)) words_count
 
     act_ask : CopiesAt m.signals (port_at shape m (banks + n) 0) 1 (slice_index t.edge.asks (banks + n))
     act_ask = port_copies (banks + n) 0 own_act_rows (request_row (slice_index t.edge.asks (banks + n))) act_listed refl
 
     -- what it is asked for
-    pub field_stands : (j x : ℕ) → slice_get (group t.inside.early.requests (service_of k)).fields j ≡ Some x
-        → CopiesAt m.signals (port_at shape m (banks + n) (suc j)) (field_width (number_width shape.served (service_of k)) j) x
+    pub field_stands : (j x : ℕ) → slice_get (group t.inside.early.requests k).fields j ≡ Some x
+        → CopiesAt m.signals (port_at shape m (banks + n) (suc j)) (field_width (number_width shape.served k) j) x
     field_stands j x listed =
-        let w = number_width shape.served (service_of k) in
-        let fields = (group t.inside.early.requests (service_of k)).fields in
+        let w = number_width shape.served k in
+        let fields = (group t.inside.early.requests k).fields in
         let there : slice_get (fields_from w 0 fields) j ≡ Some (field_row (field_width w j) x) =
         field_there w 0 fields j x listed ∙ ap (λ i. Some (field_row (field_width w i) x)) (let z : 0 + j ≡ j = omega arith in z) in
         port_copies (banks + n) (suc j) own_act_rows (field_row (field_width w j) x) act_listed there

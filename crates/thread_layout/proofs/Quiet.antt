@@ -3,7 +3,7 @@ use Rattle.std.proofs.Common.{◌≡◌, ℕ, ◌+◌, ◌<◌, ◌≤◌, Bool,
 use Rattle.std.proofs.lemmas.Bool.{cases_lt}
 use Rattle.lists.proofs.Places.{get_there}
 use Rattle.hls_ints.specs.Residues.{bit_of}
-use Rattle.block_ir.specs.Asked.{Service, Mutexes, Barriers, Ids, Prints, Request as Call, request_of, Asked, asked_at, asked_with, value_of, operand_words, first_word, core_in}
+use Rattle.block_ir.specs.Asked.{Service, Mutex, Barrier, ThreadIds, Printer, Request as Call, request_of, Asked, asked_at, asked_with, value_of, operand_words, first_word, core_in}
 use Rattle.block_ir.specs.declared.code.Act.TheVariants as act
 use Rattle.block_ir.specs.declared.code.ActOperand.{ActOperand}
 use Rattle.thread_promise.specs.Moves.{asked_in, core_asked}
@@ -45,42 +45,42 @@ none_past xs k e = ⊎_elim (λ (less : k < length xs). let found = get_there xs
 -- ---- objects
 
 abbrev IsOfObject : Service → Type 0
-IsOfObject Mutexes = Unit {0}
-IsOfObject Barriers = Unit {0}
-IsOfObject Ids = ⊥
-IsOfObject Prints = ⊥
+IsOfObject Mutex = Unit {0}
+IsOfObject Barrier = Unit {0}
+IsOfObject ThreadIds = ⊥
+IsOfObject Printer = ⊥
 
 -- a request at an object names one
 abbrev NamesOne : Service → List ActOperand → Type 0
-NamesOne Mutexes [] = ⊥
-NamesOne Barriers [] = ⊥
+NamesOne Mutex [] = ⊥
+NamesOne Barrier [] = ⊥
 NamesOne _ os = Unit {0}
 
 names_one : (main : Bool) (a : Act) (call : Call) → request_of main a ≡ Some call → NamesOne call.service call.operands
-names_one main (act.Print site values) call e = let same : call_of Prints site values ≡ call = cc in subst (λ (c : Call). NamesOne c.service c.operands) same (of_prints values)
+names_one main (act.Print site values) call e = let same : call_of Printer site values ≡ call = cc in subst (λ (c : Call). NamesOne c.service c.operands) same (of_printer values)
   where
-    of_prints : (os : List ActOperand) → NamesOne Prints os
-    of_prints [] = tt
-    of_prints (o ∷ os) = tt
+    of_printer : (os : List ActOperand) → NamesOne Printer os
+    of_printer [] = tt
+    of_printer (o ∷ os) = tt
 names_one main (act.Create thread argument) call e =
-    let same : call_of Ids 0 (thread ∷ argument ∷ []) ≡ call = cc in subst (λ (c : Call). NamesOne c.service c.operands) same tt
-names_one main (act.Join thread) call e = let same : call_of Ids 1 (thread ∷ []) ≡ call = cc in subst (λ (c : Call). NamesOne c.service c.operands) same tt
-names_one main (act.MutexInit mutex) call e = let same : call_of Mutexes 0 (mutex ∷ []) ≡ call = cc in subst (λ (c : Call). NamesOne c.service c.operands) same tt
-names_one main (act.MutexLock mutex) call e = let same : call_of Mutexes 1 (mutex ∷ []) ≡ call = cc in subst (λ (c : Call). NamesOne c.service c.operands) same tt
-names_one main (act.MutexUnlock mutex) call e = let same : call_of Mutexes 2 (mutex ∷ []) ≡ call = cc in subst (λ (c : Call). NamesOne c.service c.operands) same tt
-names_one main (act.MutexDestroy mutex) call e = let same : call_of Mutexes 3 (mutex ∷ []) ≡ call = cc in subst (λ (c : Call). NamesOne c.service c.operands) same tt
+    let same : call_of ThreadIds 0 (thread ∷ argument ∷ []) ≡ call = cc in subst (λ (c : Call). NamesOne c.service c.operands) same tt
+names_one main (act.Join thread) call e = let same : call_of ThreadIds 1 (thread ∷ []) ≡ call = cc in subst (λ (c : Call). NamesOne c.service c.operands) same tt
+names_one main (act.MutexInit mutex) call e = let same : call_of Mutex 0 (mutex ∷ []) ≡ call = cc in subst (λ (c : Call). NamesOne c.service c.operands) same tt
+names_one main (act.MutexLock mutex) call e = let same : call_of Mutex 1 (mutex ∷ []) ≡ call = cc in subst (λ (c : Call). NamesOne c.service c.operands) same tt
+names_one main (act.MutexUnlock mutex) call e = let same : call_of Mutex 2 (mutex ∷ []) ≡ call = cc in subst (λ (c : Call). NamesOne c.service c.operands) same tt
+names_one main (act.MutexDestroy mutex) call e = let same : call_of Mutex 3 (mutex ∷ []) ≡ call = cc in subst (λ (c : Call). NamesOne c.service c.operands) same tt
 names_one main (act.BarrierInit barrier count) call e =
-    let same : call_of Barriers 0 (barrier ∷ count ∷ []) ≡ call = cc in subst (λ (c : Call). NamesOne c.service c.operands) same tt
-names_one main (act.BarrierWait barrier) call e = let same : call_of Barriers 1 (barrier ∷ []) ≡ call = cc in subst (λ (c : Call). NamesOne c.service c.operands) same tt
-names_one main (act.BarrierDestroy barrier) call e = let same : call_of Barriers 2 (barrier ∷ []) ≡ call = cc in subst (λ (c : Call). NamesOne c.service c.operands) same tt
+    let same : call_of Barrier 0 (barrier ∷ count ∷ []) ≡ call = cc in subst (λ (c : Call). NamesOne c.service c.operands) same tt
+names_one main (act.BarrierWait barrier) call e = let same : call_of Barrier 1 (barrier ∷ []) ≡ call = cc in subst (λ (c : Call). NamesOne c.service c.operands) same tt
+names_one main (act.BarrierDestroy barrier) call e = let same : call_of Barrier 2 (barrier ∷ []) ≡ call = cc in subst (λ (c : Call). NamesOne c.service c.operands) same tt
 names_one true act.Return call e = absurd cc
-names_one false act.Return call e = let same : call_of Ids 2 [] ≡ call = cc in subst (λ (c : Call). NamesOne c.service c.operands) same tt
+names_one false act.Return call e = let same : call_of ThreadIds 2 [] ≡ call = cc in subst (λ (c : Call). NamesOne c.service c.operands) same tt
 
 pub service_kept : (s : Service) (number : ℕ) (ws : List ℕ) → (asked_with s number ws).service ≡ s
-service_kept Mutexes number ws = refl
-service_kept Barriers number ws = refl
-service_kept Ids number ws = refl
-service_kept Prints number ws = refl
+service_kept Mutex number ws = refl
+service_kept Barrier number ws = refl
+service_kept ThreadIds number ws = refl
+service_kept Printer number ws = refl
 
 module _ (shape : Shape) (code : ThreadCode) (plan : Planned) (m : Module) (t : IsModule shape code plan m) (served : IsServed shape code plan) where
   abbrev banks : ℕ
@@ -195,10 +195,10 @@ module _ (shape : Shape) (code : ThreadCode) (plan : Planned) (m : Module) (t : 
     object_is a next call listed is_call s [] e f named of = absurd (no_object s named of)
       where
         no_object : (k : Service) → NamesOne k [] → IsOfObject k → ⊥
-        no_object Mutexes n i = n
-        no_object Barriers n i = n
-        no_object Ids n i = i
-        no_object Prints n i = i
+        no_object Mutex n i = n
+        no_object Barrier n i = n
+        no_object ThreadIds n i = i
+        no_object Printer n i = i
     object_is a next call listed is_call s (v ∷ os) e f named of =
         let shown = called a next call listed is_call in
         let typed = served.typed q.stage a next call listed is_call 0 v (ap (λ l. slice_get l 0) f) in
@@ -206,10 +206,10 @@ module _ (shape : Shape) (code : ThreadCode) (plan : Planned) (m : Module) (t : 
         ap (λ k. r.signal (group t.inside.early.requests k).object) (sym e) ∙ shown.object_is v names typed
       where
         first_of_objects : (k : Service) → IsOfObject k → object_of k (v ∷ os) ≡ Some v
-        first_of_objects Mutexes i = refl
-        first_of_objects Barriers i = refl
-        first_of_objects Ids i = absurd i
-        first_of_objects Prints i = absurd i
+        first_of_objects Mutex i = refl
+        first_of_objects Barrier i = refl
+        first_of_objects ThreadIds i = absurd i
+        first_of_objects Printer i = absurd i
 
     abbrev object : Service → ℕ
     object s = r.signal (group t.inside.early.requests s).object
@@ -227,9 +227,9 @@ module _ (shape : Shape) (code : ThreadCode) (plan : Planned) (m : Module) (t : 
         by_call a next (Some call) e f =
             let named = names_one shape.is_main a call f in
             asked_open banks shape.served object k (value_of q.variables call).core less call.service
-            (λ is. object_is a next call e f Mutexes call.operands is refl (subst (λ s. NamesOne s call.operands) is named) tt
+            (λ is. object_is a next call e f Mutex call.operands is refl (subst (λ s. NamesOne s call.operands) is named) tt
             ∙ sym (ap (λ s. (asked_with s call.number (operand_words q.variables call.operands)).core) is))
-            (λ is. object_is a next call e f Barriers call.operands is refl (subst (λ s. NamesOne s call.operands) is named) tt
+            (λ is. object_is a next call e f Barrier call.operands is refl (subst (λ s. NamesOne s call.operands) is named) tt
             ∙ sym (ap (λ s. (asked_with s call.number (operand_words q.variables call.operands)).core) is))
             ∙ ap (λ s. is_core (core_in (numbers_of shape) s (value_of q.variables call).core) (banks + k)) (sym (service_kept call.service call.number
             (operand_words q.variables call.operands)))

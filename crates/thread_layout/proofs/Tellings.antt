@@ -17,10 +17,10 @@ use Rattle.block_datapath.specs.declared.registers.Held.{Held}
 use Rattle.thread_slots.specs.declared.shape.Served.{Served}
 use Rattle.thread_slots.specs.declared.told.Told.{Told}
 use Rattle.thread_slots.specs.Bits.{HasBit, HaveBits, BothOf, MakesBits, MakesAny, AddsBoths, AddsAny, AreBitsOf}
-use Rattle.thread_slots.specs.Services.{if_ids, news_widths}
+use Rattle.thread_slots.specs.Services.{if_thread_ids, news_widths}
 use Rattle.thread_slots.proofs.BitLists.{of_bits_later}
 use Rattle.thread_requests.specs.Early.{held_width}
-use Rattle.thread_layout.specs.Telling.{heard_place, TakesFirst, IdsStand, LaysTold}
+use Rattle.thread_layout.specs.Telling.{heard_place, TakesFirst, ThreadIdsStand, LaysTold}
 
 -- ---- the first n places
 
@@ -46,8 +46,8 @@ first_more places n place outs after t is same = record {
 module _ (served : Served) (named : List ℕ) (news : List Held) (a b c d e : List Signal) (never nothing : ℕ) (heard holds both : List ℕ) (told : Told)
     (one : Gives a b never 1 (λ m r. 0)) (two : Gives b c nothing 64 (λ m r. 0)) (is_heard : heard ≡ map (λ (h : Held). h.register) news)
     (takes : TakesFirst heard (length named) holds) (boths : MakesBits c d (length named) both (BothOf named holds))
-    (any : MakesAny d e never both (λ k. true) (length both) told.barred) (runs : told.runs ≡ (if served.ids then slice_index heard served.barriers else never))
-    (argument : told.argument ≡ (if served.ids then slice_index heard (served.barriers + 1) else nothing)) where
+    (any : MakesAny d e never both (λ k. true) (length both) told.barred) (runs : told.runs ≡ (if served.thread_ids then slice_index heard served.barriers else never))
+    (argument : told.argument ≡ (if served.thread_ids then slice_index heard (served.barriers + 1) else nothing)) where
   from_d : Grows d e
   from_d = any.grows
 
@@ -69,10 +69,10 @@ module _ (served : Served) (named : List ℕ) (news : List Held) (a b c d e : Li
   held_is : (k : ℕ) → k < length named → slice_index holds k ≡ heard_place news k
   held_is k less = takes.each k less ∙ place_is k
 
-  runs_is : served.ids ≡ true → told.runs ≡ heard_place news served.barriers
+  runs_is : served.thread_ids ≡ true → told.runs ≡ heard_place news served.barriers
   runs_is is = runs ∙ ap (λ t. if t then slice_index heard served.barriers else never) is ∙ place_is served.barriers
 
-  argument_is : served.ids ≡ true → told.argument ≡ heard_place news (suc served.barriers)
+  argument_is : served.thread_ids ≡ true → told.argument ≡ heard_place news (suc served.barriers)
   argument_is is =
       let next : served.barriers + 1 ≡ suc served.barriers = omega arith in
       argument ∙ ap (λ t. if t then slice_index heard (served.barriers + 1) else nothing) is ∙ place_is (served.barriers + 1) ∙ ap (heard_place news) next
@@ -98,7 +98,7 @@ module _ (served : Served) (named : List ℕ) (news : List Held) (a b c d e : Li
         subst (λ n. HasBit m r told.barred (any_below (λ k. names k && holding k) n)) boths.count (any.shows m r false (λ k. names k && holding k) g o first each);
     runs = runs_is;
     argument = argument_is;
-    wired = λ base room named_stand held_stand ids_stand.
+    wired = λ base room named_stand held_stand thread_ids_stand.
         let first = adds_never base room (omega arith) (omega arith) (omega arith) in
         let at_b = longer a b one.grows in
         let second = adds_nothing base (omega arith) (omega arith) (omega arith) (omega arith) in
@@ -112,23 +112,23 @@ module _ (served : Served) (named : List ℕ) (news : List Held) (a b c d e : Li
           wires_then base a b e first.wires (wires_then base b c e second.wires (wires_then base c d e third.wires last.wires)),
           record {
             barred = last.stands;
-            runs = run_stands base ids_stand (stands_after b e base never 1 from_b first.stands) served.ids refl;
-            argument = argument_stands base ids_stand (stands_after c e base nothing 64 from_c second.stands) served.ids refl;
+            runs = run_stands base thread_ids_stand (stands_after b e base never 1 from_b first.stands) served.thread_ids refl;
+            argument = argument_stands base thread_ids_stand (stands_after c e base nothing 64 from_c second.stands) served.thread_ids refl;
           },
         );
   }
     where
-      run_stands : (base : Base) → (served.ids ≡ true → IdsStand base a served news) → IsEarlier e base never 1 → (ids : Bool) → served.ids ≡ ids → IsEarlier e base told.runs 1
-      run_stands base ids_stand other true is =
-          subst (λ z. IsEarlier e base z 1) (sym (runs_is is)) (stands_after a e base (heard_place news served.barriers) 1 from_a (ids_stand is).runs)
-      run_stands base ids_stand other false is =
+      run_stands : (base : Base) → (served.thread_ids ≡ true → ThreadIdsStand base a served news) → IsEarlier e base never 1 → (thread_ids : Bool) → served.thread_ids ≡ thread_ids → IsEarlier e base told.runs 1
+      run_stands base thread_ids_stand other true is =
+          subst (λ z. IsEarlier e base z 1) (sym (runs_is is)) (stands_after a e base (heard_place news served.barriers) 1 from_a (thread_ids_stand is).runs)
+      run_stands base thread_ids_stand other false is =
           subst (λ z. IsEarlier e base z 1) (sym (runs ∙ ap (λ t. if t then slice_index heard served.barriers else never) is)) other
 
-      argument_stands : (base : Base) → (served.ids ≡ true → IdsStand base a served news) → IsEarlier e base nothing 64 → (ids : Bool) → served.ids ≡ ids
+      argument_stands : (base : Base) → (served.thread_ids ≡ true → ThreadIdsStand base a served news) → IsEarlier e base nothing 64 → (thread_ids : Bool) → served.thread_ids ≡ thread_ids
           → IsEarlier e base told.argument 64
-      argument_stands base ids_stand other true is =
-          subst (λ z. IsEarlier e base z 64) (sym (argument_is is)) (stands_after a e base (heard_place news (suc served.barriers)) 64 from_a (ids_stand is).argument)
-      argument_stands base ids_stand other false is =
+      argument_stands base thread_ids_stand other true is =
+          subst (λ z. IsEarlier e base z 64) (sym (argument_is is)) (stands_after a e base (heard_place news (suc served.barriers)) 64 from_a (thread_ids_stand is).argument)
+      argument_stands base thread_ids_stand other false is =
           subst (λ z. IsEarlier e base z 64) (sym (argument ∙ ap (λ t. if t then slice_index heard (served.barriers + 1) else nothing) is)) other
 
 -- ---- how wide the news are
@@ -139,17 +139,17 @@ behind_bars (suc n) k ws = ap (slice_get (1 ∷ (replicate n 1 ++ ws))) (let z :
 
 module _ (served : Served) where
   pub bar_wide : (k : ℕ) → k < served.barriers → slice_get (news_widths served) k ≡ Some 1
-  bar_wide k less = copies_front served.barriers k 1 (if_ids served.ids (1 ∷ 64 ∷ [])) less
+  bar_wide k less = copies_front served.barriers k 1 (if_thread_ids served.thread_ids (1 ∷ 64 ∷ [])) less
 
-  pub run_wide : served.ids ≡ true → slice_get (news_widths served) served.barriers ≡ Some 1
+  pub run_wide : served.thread_ids ≡ true → slice_get (news_widths served) served.barriers ≡ Some 1
   run_wide is =
       ap (slice_get (news_widths served)) (let z : served.barriers ≡ served.barriers + 0 = omega arith in z)
-      ∙ behind_bars served.barriers 0 (if_ids served.ids (1 ∷ 64 ∷ [])) ∙ ap (λ t. slice_get (if_ids t (1 ∷ 64 ∷ [])) 0) is
+      ∙ behind_bars served.barriers 0 (if_thread_ids served.thread_ids (1 ∷ 64 ∷ [])) ∙ ap (λ t. slice_get (if_thread_ids t (1 ∷ 64 ∷ [])) 0) is
 
-  pub argument_wide : served.ids ≡ true → slice_get (news_widths served) (suc served.barriers) ≡ Some 64
+  pub argument_wide : served.thread_ids ≡ true → slice_get (news_widths served) (suc served.barriers) ≡ Some 64
   argument_wide is =
       ap (slice_get (news_widths served)) (let z : suc served.barriers ≡ served.barriers + 1 = omega arith in z)
-      ∙ behind_bars served.barriers 1 (if_ids served.ids (1 ∷ 64 ∷ [])) ∙ ap (λ t. slice_get (if_ids t (1 ∷ 64 ∷ [])) 1) is
+      ∙ behind_bars served.barriers 1 (if_thread_ids served.thread_ids (1 ∷ 64 ∷ [])) ∙ ap (λ t. slice_get (if_thread_ids t (1 ∷ 64 ∷ [])) 1) is
 
 -- which of those that are heard stands there
 pub record HearsNews (news : List Held) (k w : ℕ) : Type 0 where

@@ -17,11 +17,10 @@ use Rattle.plan_blocks.specs.View.{register_at}
 use Rattle.netlist.specs.declared.netlist.Module.{Module}
 use Rattle.thread_promise.specs.Slots.{Places}
 use Rattle.thread_promise.specs.Globals.{IsSmallPower, bank_total}
-use Rattle.block_ir.specs.Asked.{Service, Mutexes, Barriers, Ids, Prints, Numbers, Request as Call, request_of}
-use Rattle.thread_slots.specs.declared.shape.Printer.{Printer}
+use Rattle.block_ir.specs.Asked.{Service, Mutex, Barrier, ThreadIds, Printer, Numbers, Request as Call, request_of}
+use Rattle.thread_slots.specs.declared.shape.PrinterPort.{PrinterPort}
 use Rattle.thread_slots.specs.declared.shape.Served.{Served}
-use Rattle.thread_slots.specs.declared.shape.Service.{Service as Kind}
-use Rattle.thread_slots.specs.Services.{service_of, services, numbers_with, core_count, news_widths, number_width, value_count}
+use Rattle.thread_slots.specs.Services.{services, numbers_with, core_count, news_widths, number_width, value_count}
 use Rattle.thread_slots.specs.declared.shape.Shape.{Shape}
 use Rattle.circuit.specs.Interfaces.{first_of}
 use Rattle.leaf_machine.specs.Ports.{CorePort, asks_of, ask_place, thread_outputs}
@@ -65,16 +64,13 @@ bank_port w = record { asks = 1 ∷ 1 ∷ 64 ∷ w ∷ []; told = w ∷ [] }
 
 -- what a core tells that acts ask
 abbrev pub told_by : Service → List ℕ
-told_by Mutexes = []
-told_by Barriers = 1 ∷ []
-told_by Ids = 1 ∷ 64 ∷ []
-told_by Prints = []
+told_by Mutex = []
+told_by Barrier = 1 ∷ []
+told_by ThreadIds = 1 ∷ 64 ∷ []
+told_by Printer = []
 
-abbrev pub service_port : Served → Service → CorePort
-service_port served s = record { asks = 1 ∷ number_width served s ∷ replicate (value_count served s) 64; told = told_by s }
-
-abbrev pub act_port : Served → Kind → CorePort
-act_port served k = service_port served (service_of k)
+abbrev pub act_port : Served → Service → CorePort
+act_port served s = record { asks = 1 ∷ number_width served s ∷ replicate (value_count served s) 64; told = told_by s }
 
 -- THE CORES that a thread asks: the banks of the globals, in order, and behind them those that acts ask
 abbrev pub core_ports : Shape → List CorePort
@@ -97,7 +93,7 @@ done_at shape m = first_output shape m + (length (asks_of (core_ports shape)) + 
 -- ---- codes that are spoken of
 
 -- a printf that the printer can print
-pub record IsPrintable (printer : Printer) (site : ℕ) (values : List ActOperand) : Type 0 where
+pub record IsPrintable (printer : PrinterPort) (site : ℕ) (values : List ActOperand) : Type 0 where
   pub site_fits : site < 2 ^ printer.site_width
   pub few : length values ≤ printer.values
 

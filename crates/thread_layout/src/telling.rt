@@ -35,8 +35,8 @@ pub fn lay_told(
     let barred = any_of(wires, never, both)?;
     Ok(Told {
         barred,
-        runs: pick(served.ids, place_at(heard, served.barriers), never),
-        argument: pick(served.ids, place_at(heard, last), nothing),
+        runs: pick(served.thread_ids, place_at(heard, served.barriers), never),
+        argument: pick(served.thread_ids, place_at(heard, last), nothing),
     })
 }
 

@@ -13,7 +13,7 @@ use Rattle.block_ir.specs.declared.code.Stage.TheVariants as stage
 use Rattle.block_ir.specs.declared.code.ThreadCode.{ThreadCode}
 use Rattle.block_ir.specs.declared.plan.BlockPlan.{BlockPlan}
 use Rattle.block_ir.specs.declared.plan.Planned.{Planned}
-use Rattle.block_ir.specs.Asked.{act_value, Asked, Numbers, barrier_core, ids_core, printer_core}
+use Rattle.block_ir.specs.Asked.{act_value, Asked, Numbers, barrier_core, thread_ids_core, printer_core}
 use Rattle.plan_conditions.specs.Slot.{Slot}
 use Rattle.plan_conditions.specs.Advance.{is_ready, advance}
 use Rattle.plan_conditions.specs.View.{planned_view, plan_view}
@@ -128,9 +128,9 @@ module _ (globals : List IntegerType) (spreads : List Spread) (N : Numbers) (mai
         r.signal ports.enable ≡ 1 → Shows (next_reading m r) (went_on rest q)
     pub ends : main ≡ true → (r : Reading) (q : Slot) → Obeys m r → Shows r q → q.stage ≡ rest → Shows (next_reading m r) q
     -- another thread rests until it is told that it runs, and then sets out with the argument that it is told
-    pub idles : main ≡ false → N.ids ≡ true → (r : Reading) (q : Slot) → Obeys m r → Shows r q → q.stage ≡ rest → r.signal ((ports.core (ids_core N)).told 0) ≡ 0 →
+    pub idles : main ≡ false → N.thread_ids ≡ true → (r : Reading) (q : Slot) → Obeys m r → Shows r q → q.stage ≡ rest → r.signal ((ports.core (thread_ids_core N)).told 0) ≡ 0 →
         Shows (next_reading m r) q
-    pub begins : main ≡ false → N.ids ≡ true → (r : Reading) (q : Slot) → Obeys m r → Shows r q → q.state ≡ 0 → q.stage ≡ rest → r.signal ports.enable ≡ 1 →
-        r.signal ((ports.core (ids_core N)).told 0) ≡ 1 →
-        Shows (next_reading m r) (set_out code.argument (r.signal ((ports.core (ids_core N)).told 1)) q)
+    pub begins : main ≡ false → N.thread_ids ≡ true → (r : Reading) (q : Slot) → Obeys m r → Shows r q → q.state ≡ 0 → q.stage ≡ rest → r.signal ports.enable ≡ 1 →
+        r.signal ((ports.core (thread_ids_core N)).told 0) ≡ 1 →
+        Shows (next_reading m r) (set_out code.argument (r.signal ((ports.core (thread_ids_core N)).told 1)) q)
     pub done : (r : Reading) (q : Slot) → Obeys m r → Shows r q → r.signal ports.done ≡ bit_of (nat_eq q.stage rest)

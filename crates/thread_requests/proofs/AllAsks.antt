@@ -6,7 +6,7 @@ use Rattle.std.proofs.lemmas.Option.{slice_get_within, slice_get-map}
 use Rattle.lists.proofs.Places.{get_there, copies_are}
 use Rattle.hls_ints.specs.Types.{IntegerType, width_of}
 use Rattle.bank_partition.specs.declared.banks.Spread.{Spread}
-use Rattle.block_ir.specs.Asked.{Service, Mutexes, Barriers, Ids, Prints}
+use Rattle.block_ir.specs.Asked.{Service, Mutex, Barrier, ThreadIds, Printer}
 use Rattle.block_ir.specs.declared.code.ThreadCode.{ThreadCode}
 use Rattle.block_ir.specs.declared.plan.Planned.{Planned}
 use Rattle.netlist.specs.declared.netlist.Signal.{Signal}
@@ -99,10 +99,10 @@ module _ (globals : List IntegerType) where
 -- ---- the same is asked of those that acts ask
 
 pub group_kept : (c : Requests) (banks : BankRequests) (s : Service) → group (with_banks c banks) s ≡ group c s
-group_kept c banks Mutexes = refl
-group_kept c banks Barriers = refl
-group_kept c banks Ids = refl
-group_kept c banks Prints = refl
+group_kept c banks Mutex = refl
+group_kept c banks Barrier = refl
+group_kept c banks ThreadIds = refl
+group_kept c banks Printer = refl
 
 -- a: before, b: nobody is asked, c: all stages ask, d: bank by bank
 pub banks_asked : (globals : List IntegerType) (code : ThreadCode) (registers : Registers) (caller : Caller) (plan : Planned) (a b c d : List Signal) (start requests : Requests)

@@ -1,7 +1,7 @@
 -- Nobody is asked, and at a meeting a barrier is named.
 use Rattle.std.proofs.Common.{◌≡◌, ℕ, suc, List, length, arith}
 use Rattle.block_ir.specs.declared.code.ThreadCode.{ThreadCode}
-use Rattle.block_ir.specs.Asked.{Service, Mutexes, Barriers, Ids, Prints}
+use Rattle.block_ir.specs.Asked.{Service, Mutex, Barrier, ThreadIds, Printer}
 use Rattle.netlist.specs.declared.netlist.Signal.{Signal}
 use Rattle.netlist.specs.declared.netlist.Module.{Module}
 use Rattle.verilog_meaning.specs.Readings.{Reading, width}
@@ -38,22 +38,22 @@ begins_met code registers served words a b d c met n t u = record {
     back m g = grows_then b d m.signals u.grows g
 
     bits : (s : Service) (m : Module) → Grows d m.signals → width m (group (naming c met) s).wants ≡ 1
-    bits Mutexes m g = t.bits Mutexes m (back m g)
-    bits Barriers m g = t.bits Barriers m (back m g)
-    bits Ids m g = t.bits Ids m (back m g)
-    bits Prints m g = t.bits Prints m (back m g)
+    bits Mutex m g = t.bits Mutex m (back m g)
+    bits Barrier m g = t.bits Barrier m (back m g)
+    bits ThreadIds m g = t.bits ThreadIds m (back m g)
+    bits Printer m g = t.bits Printer m (back m g)
 
     counts : (s : Service) → length (group (naming c met) s).fields ≡ suc (value_count served s)
-    counts Mutexes = t.counts Mutexes
-    counts Barriers = t.counts Barriers
-    counts Ids = t.counts Ids
-    counts Prints = t.counts Prints
+    counts Mutex = t.counts Mutex
+    counts Barrier = t.counts Barrier
+    counts ThreadIds = t.counts ThreadIds
+    counts Printer = t.counts Printer
 
     silent : (s : Service) (m : Module) (r : Reading) → Grows d m.signals → Obeys m r → r.signal (group (naming c met) s).wants ≡ 0
-    silent Mutexes m r g o = t.silent Mutexes m r (back m g) o
-    silent Barriers m r g o = t.silent Barriers m r (back m g) o
-    silent Ids m r g o = t.silent Ids m r (back m g) o
-    silent Prints m r g o = t.silent Prints m r (back m g) o
+    silent Mutex m r g o = t.silent Mutex m r (back m g) o
+    silent Barrier m r g o = t.silent Barrier m r (back m g) o
+    silent ThreadIds m r g o = t.silent ThreadIds m r (back m g) o
+    silent Printer m r g o = t.silent Printer m r (back m g) o
 
 pub linked_met : (code : ThreadCode) (registers : Registers) (served : Served) (words : List ℕ) (a b d : List Signal) (c : Requests) (met : ℕ)
     → BeginsLinked a b served words c → NamesMet code registers (length code.stages) b d met → BeginsLinkedOf code registers served words a d (naming c met)
@@ -75,7 +75,7 @@ linked_met code registers served words a b d c met t u base globals spreads bits
   where
     requests : (base : Base) → ((s : Service) → RequestStands base d (number_width served s) (group c s)) → IsEarlier d base met 64 → (s : Service)
         → RequestStands base d (number_width served s) (group (naming c met) s)
-    requests base stand there Mutexes = stand Mutexes
-    requests base stand there Barriers = let own = stand Barriers in record { wants = own.wants; object = there; fields = own.fields }
-    requests base stand there Ids = stand Ids
-    requests base stand there Prints = stand Prints
+    requests base stand there Mutex = stand Mutex
+    requests base stand there Barrier = let own = stand Barrier in record { wants = own.wants; object = there; fields = own.fields }
+    requests base stand there ThreadIds = stand ThreadIds
+    requests base stand there Printer = stand Printer

@@ -4,7 +4,7 @@ use Rattle.std.proofs.Common.{refl, sym, ap, subst, ◌∙◌, arith, ⊎_elim, 
 use Rattle.std.proofs.lemmas.Bool.{cases_lt, le-ltb, lt-ltb}
 use Rattle.std.proofs.lemmas.List.{get_or-append_right, get_or_append_left}
 use Rattle.hls_ints.specs.Residues.{bit_of}
-use Rattle.block_ir.specs.Asked.{Service, Mutexes, Barriers, Ids, Prints}
+use Rattle.block_ir.specs.Asked.{Service, Mutex, Barrier, ThreadIds, Printer}
 use Rattle.netlist.specs.declared.netlist.Signal.{Signal}
 use Rattle.netlist.specs.declared.netlist.Module.{Module}
 use Rattle.verilog_meaning.specs.Readings.{Reading, width}
@@ -21,7 +21,7 @@ use Rattle.thread_slots.specs.declared.requests.Requests.{Requests}
 use Rattle.thread_slots.specs.declared.shape.Served.{Served}
 use Rattle.thread_slots.specs.Bits.{HasBit, HaveBits, MakesAny, AddsAny, AreBitsOf}
 use Rattle.thread_slots.specs.Requests.{group}
-use Rattle.thread_slots.specs.Services.{if_ids}
+use Rattle.thread_slots.specs.Services.{if_thread_ids}
 use Rattle.thread_slots.proofs.BitLists.{of_bits_later, has_not, has_both, has_either}
 use Rattle.thread_requests.specs.declared.early.Acts.{Acts}
 use Rattle.thread_requests.specs.declared.early.Objects.{Objects}
@@ -54,11 +54,11 @@ have_one : (m : Module) (r : Reading) (x : ℕ) (b : Bool) → HasBit m r x b �
 have_one m r x b t zero less = t
 have_one m r x b t (suc k) less = absurd (omega arith)
 
-have_if : (m : Module) (r : Reading) (ids : Bool) (x : ℕ) (b : Bool) → HasBit m r x b → HaveBits m r (if_ids ids (x ∷ [])) (bit_of ids) (λ k. b)
+have_if : (m : Module) (r : Reading) (thread_ids : Bool) (x : ℕ) (b : Bool) → HasBit m r x b → HaveBits m r (if_thread_ids thread_ids (x ∷ [])) (bit_of thread_ids) (λ k. b)
 have_if m r true x b t = have_one m r x b t
 have_if m r false x b t = λ k less. absurd (omega arith)
 
-if_count : (ids : Bool) (x : ℕ) → length (if_ids ids (x ∷ [])) ≡ bit_of ids
+if_count : (thread_ids : Bool) (x : ℕ) → length (if_thread_ids thread_ids (x ∷ [])) ≡ bit_of thread_ids
 if_count true x = refl
 if_count false x = refl
 
@@ -108,52 +108,52 @@ bits_one : (base : Base) (a : List Signal) (x : ℕ) → IsEarlier a base x 1 �
 bits_one base a x t zero y e = let same : x ≡ y = cc in subst (λ z. IsEarlier a base z 1) same t
 bits_one base a x t (suc k) y e = absurd cc
 
-bits_if : (base : Base) (a : List Signal) (ids : Bool) (x : ℕ) → IsEarlier a base x 1 → AreBitsOf base a (if_ids ids (x ∷ []))
+bits_if : (base : Base) (a : List Signal) (thread_ids : Bool) (x : ℕ) → IsEarlier a base x 1 → AreBitsOf base a (if_thread_ids thread_ids (x ∷ []))
 bits_if base a true x t = bits_one base a x t
 bits_if base a false x t = λ k y e. absurd cc
 
 pub acts_opened : (served : Served) (requests : Requests) (a b c : List Signal) (mutexes barriers : Objects) (acts : Acts) → OpensObjects requests.mutex served.mutexes a b mutexes
     → OpensObjects requests.barrier served.barriers b c barriers
-    → acts.opens ≡ mutexes.opens ++ (barriers.opens ++ (if_ids served.ids (requests.ids.wants ∷ []) ++ requests.print.wants ∷ [])) → acts.barriers ≡ barriers.names
+    → acts.opens ≡ mutexes.opens ++ (barriers.opens ++ (if_thread_ids served.thread_ids (requests.thread_ids.wants ∷ []) ++ requests.printer.wants ∷ [])) → acts.barriers ≡ barriers.names
     → OpensActs served requests a c acts
 acts_opened served requests a b c mutexes barriers acts t u opens names = record {
   grows = grows_then a b c first second;
   count =
-      ap length opens ∙ length-append mutexes.opens (barriers.opens ++ (if_ids served.ids (requests.ids.wants ∷ []) ++ requests.print.wants ∷ []))
-      ∙ ap (λ n. n + length (barriers.opens ++ (if_ids served.ids (requests.ids.wants ∷ []) ++ requests.print.wants ∷ []))) mutexes_count
-      ∙ ap (λ n. served.mutexes + n) (length-append barriers.opens (if_ids served.ids (requests.ids.wants ∷ []) ++ requests.print.wants ∷ [])
-      ∙ ap (λ n. n + length (if_ids served.ids (requests.ids.wants ∷ []) ++ requests.print.wants ∷ [])) barriers_count
-      ∙ ap (λ n. served.barriers + n) (length-append (if_ids served.ids (requests.ids.wants ∷ [])) (requests.print.wants ∷ [])
-      ∙ ap (λ n. n + 1) (if_count served.ids requests.ids.wants)));
+      ap length opens ∙ length-append mutexes.opens (barriers.opens ++ (if_thread_ids served.thread_ids (requests.thread_ids.wants ∷ []) ++ requests.printer.wants ∷ []))
+      ∙ ap (λ n. n + length (barriers.opens ++ (if_thread_ids served.thread_ids (requests.thread_ids.wants ∷ []) ++ requests.printer.wants ∷ []))) mutexes_count
+      ∙ ap (λ n. served.mutexes + n) (length-append barriers.opens (if_thread_ids served.thread_ids (requests.thread_ids.wants ∷ []) ++ requests.printer.wants ∷ [])
+      ∙ ap (λ n. n + length (if_thread_ids served.thread_ids (requests.thread_ids.wants ∷ []) ++ requests.printer.wants ∷ [])) barriers_count
+      ∙ ap (λ n. served.barriers + n) (length-append (if_thread_ids served.thread_ids (requests.thread_ids.wants ∷ [])) (requests.printer.wants ∷ [])
+      ∙ ap (λ n. n + 1) (if_count served.thread_ids requests.thread_ids.wants)));
   barriers_count = ap length names ∙ names_counted requests.barrier served.barriers b c barriers u;
   shows = λ m r wants g o has objects.
       let in_b = grows_then b c m.signals second g in
       subst (λ (l : List ℕ). HaveBits m r l (act_count served) (act_open served wants (λ s. r.signal (group requests s).object))) (sym opens)
-      (have_joined m r mutexes.opens (barriers.opens ++ (if_ids served.ids (requests.ids.wants ∷ []) ++ requests.print.wants ∷ [])) served.mutexes
-      (served.barriers + (bit_of served.ids + 1)) (λ k. nat_eq (r.signal requests.mutex.object) k && wants Mutexes) _ mutexes_count
-      (opened_bits requests.mutex served.mutexes a b mutexes t m r in_b o (objects Mutexes) (wants Mutexes) (has Mutexes))
-      (have_joined m r barriers.opens (if_ids served.ids (requests.ids.wants ∷ []) ++ requests.print.wants ∷ []) served.barriers (bit_of served.ids + 1)
-      (λ k. nat_eq (r.signal requests.barrier.object) k && wants Barriers) _ barriers_count
-      (opened_bits requests.barrier served.barriers b c barriers u m r g o (objects Barriers) (wants Barriers) (has Barriers))
-      (have_joined m r (if_ids served.ids (requests.ids.wants ∷ [])) (requests.print.wants ∷ []) (bit_of served.ids) 1 (λ k. wants Ids) (λ k. wants Prints)
-      (if_count served.ids requests.ids.wants) (have_if m r served.ids requests.ids.wants (wants Ids) (has Ids))
-      (have_one m r requests.print.wants (wants Prints) (has Prints)))));
+      (have_joined m r mutexes.opens (barriers.opens ++ (if_thread_ids served.thread_ids (requests.thread_ids.wants ∷ []) ++ requests.printer.wants ∷ [])) served.mutexes
+      (served.barriers + (bit_of served.thread_ids + 1)) (λ k. nat_eq (r.signal requests.mutex.object) k && wants Mutex) _ mutexes_count
+      (opened_bits requests.mutex served.mutexes a b mutexes t m r in_b o (objects Mutex) (wants Mutex) (has Mutex))
+      (have_joined m r barriers.opens (if_thread_ids served.thread_ids (requests.thread_ids.wants ∷ []) ++ requests.printer.wants ∷ []) served.barriers (bit_of served.thread_ids + 1)
+      (λ k. nat_eq (r.signal requests.barrier.object) k && wants Barrier) _ barriers_count
+      (opened_bits requests.barrier served.barriers b c barriers u m r g o (objects Barrier) (wants Barrier) (has Barrier))
+      (have_joined m r (if_thread_ids served.thread_ids (requests.thread_ids.wants ∷ [])) (requests.printer.wants ∷ []) (bit_of served.thread_ids) 1 (λ k. wants ThreadIds) (λ k. wants Printer)
+      (if_count served.thread_ids requests.thread_ids.wants) (have_if m r served.thread_ids requests.thread_ids.wants (wants ThreadIds) (has ThreadIds))
+      (have_one m r requests.printer.wants (wants Printer) (has Printer)))));
   names = λ m r g o has.
       subst (λ (l : List ℕ). HaveBits m r l served.barriers (λ k. nat_eq (r.signal requests.barrier.object) k)) (sym names)
       (named_bits requests.barrier served.barriers b c barriers u m r g o has);
   wired = λ base wants objects.
-      let p = objects_stand requests.mutex served.mutexes a b mutexes t base (wants Mutexes) (objects Mutexes) in
+      let p = objects_stand requests.mutex served.mutexes a b mutexes t base (wants Mutex) (objects Mutex) in
       let in_b : (s : Service) → IsEarlier b base (group requests s).wants 1 = λ s. stands_after a b base (group requests s).wants 1 p.wires.grows (wants s) in
-      let k = objects_stand requests.barrier served.barriers b c barriers u base (in_b Barriers)
-      (stands_after a b base requests.barrier.object 64 p.wires.grows (objects Barriers)) in
+      let k = objects_stand requests.barrier served.barriers b c barriers u base (in_b Barrier)
+      (stands_after a b base requests.barrier.object 64 p.wires.grows (objects Barrier)) in
       let in_c : (s : Service) → IsEarlier c base (group requests s).wants 1 = λ s. stands_after b c base (group requests s).wants 1 k.wires.grows (in_b s) in
       record {
         wires = wires_then base a b c p.wires k.wires;
         opens = subst (AreBitsOf base c) (sym opens)
             (stand_joined base c mutexes.opens _ (of_bits_later base b c mutexes.opens k.wires.grows p.opens)
             (stand_joined base c barriers.opens _ k.opens
-            (stand_joined base c (if_ids served.ids (requests.ids.wants ∷ [])) (requests.print.wants ∷ []) (bits_if base c served.ids requests.ids.wants (in_c Ids))
-            (bits_one base c requests.print.wants (in_c Prints)))));
+            (stand_joined base c (if_thread_ids served.thread_ids (requests.thread_ids.wants ∷ [])) (requests.printer.wants ∷ []) (bits_if base c served.thread_ids requests.thread_ids.wants (in_c ThreadIds))
+            (bits_one base c requests.printer.wants (in_c Printer)))));
         barriers = subst (AreBitsOf base c) (sym names) k.barriers;
       };
 }
@@ -174,7 +174,7 @@ acts_opened served requests a b c mutexes barriers acts t u opens names = record
 
 module _ (s0 s1 s2 s3 s4 s5 s6 : List Signal) (requests : Requests) (opens : List ℕ) (objects wanted never raised shut lost : ℕ)
     (one : Gives s0 s1 objects 1 (λ m r. word_inclusive_or (width m requests.mutex.wants) (r.signal requests.mutex.wants) (r.signal requests.barrier.wants)))
-    (two : Gives s1 s2 wanted 1 (λ m r. word_inclusive_or (width m objects) (r.signal objects) (r.signal requests.ids.wants)))
+    (two : Gives s1 s2 wanted 1 (λ m r. word_inclusive_or (width m objects) (r.signal objects) (r.signal requests.thread_ids.wants)))
     (three : Gives s2 s3 never 1 (λ m r. 0)) (four : MakesAny s3 s4 never opens (λ k. true) (length opens) raised)
     (five : Gives s4 s5 shut 1 (λ m r. word_complement (width m raised) (r.signal raised)))
     (six : Gives s5 s6 lost 1 (λ m r. word_and (width m wanted) (r.signal wanted) (r.signal shut))) where
@@ -193,22 +193,22 @@ module _ (s0 s1 s2 s3 s4 s5 s6 : List Signal) (requests : Requests) (opens : Lis
   from_1 : (m : Module) → Grows s6 m.signals → Grows s1 m.signals
   from_1 m g = grows_then s1 s2 m.signals two.grows (from_2 m g)
 
-  pub lost_made : BothAdds s0 s1 requests.mutex.wants requests.barrier.wants objects → BothAdds s1 s2 objects requests.ids.wants wanted → ConstantAdds s2 s3 1 0 never
+  pub lost_made : BothAdds s0 s1 requests.mutex.wants requests.barrier.wants objects → BothAdds s1 s2 objects requests.thread_ids.wants wanted → ConstantAdds s2 s3 1 0 never
       → AddsAny s3 s4 never opens raised → NotAdds s4 s5 1 raised shut → BothAdds s5 s6 wanted shut lost → IsLost requests opens s0 s6 lost
   lost_made a1 a2 a3 a4 a5 a6 = record {
     grows = grows_then s0 s1 s6 one.grows (grows_then s1 s2 s6 two.grows (grows_then s2 s3 s6 three.grows (grows_then s3 s4 s6 four.grows
         (grows_then s4 s5 s6 five.grows six.grows))));
     shows = λ m r wants opened g o has have.
-        let b1 = has_either s0 s1 objects requests.mutex.wants requests.barrier.wants one m r (wants Mutexes) (wants Barriers) (from_1 m g) o (has Mutexes) (has Barriers) in
-        let b2 = has_either s1 s2 wanted objects requests.ids.wants two m r (wants Mutexes || wants Barriers) (wants Ids) (from_2 m g) o b1 (has Ids) in
+        let b1 = has_either s0 s1 objects requests.mutex.wants requests.barrier.wants one m r (wants Mutex) (wants Barrier) (from_1 m g) o (has Mutex) (has Barrier) in
+        let b2 = has_either s1 s2 wanted objects requests.thread_ids.wants two m r (wants Mutex || wants Barrier) (wants ThreadIds) (from_2 m g) o b1 (has ThreadIds) in
         let b3 : HasBit m r never false = record { wide = three.wide m (from_3 m g); shows = three.shows m r (from_3 m g) o } in
         let b4 = four.shows m r false opened (from_4 m g) o b3 have in
         let b5 = has_not s4 s5 shut raised five m r (any_below (λ k. true && opened k) (length opens)) (from_5 m g) o b4 in
-        has_both s5 s6 lost wanted shut six m r ((wants Mutexes || wants Barriers) || wants Ids) (not (any_below (λ k. true && opened k) (length opens))) g o b2 b5;
+        has_both s5 s6 lost wanted shut six m r ((wants Mutex || wants Barrier) || wants ThreadIds) (not (any_below (λ k. true && opened k) (length opens))) g o b2 b5;
     wired = λ base wants stand.
         let bit : 0 < 2 ^ 1 = omega arith in
-        let w1 = a1 base (wants Mutexes) (wants Barriers) in
-        let w2 = a2 base w1.stands (stands_after s0 s1 base requests.ids.wants 1 w1.wires.grows (wants Ids)) in
+        let w1 = a1 base (wants Mutex) (wants Barrier) in
+        let w2 = a2 base w1.stands (stands_after s0 s1 base requests.thread_ids.wants 1 w1.wires.grows (wants ThreadIds)) in
         let to_2 = grows_then s0 s1 s2 w1.wires.grows w2.wires.grows in
         let w3 = a3 base (room_of s2 base wanted 1 w2.stands) (omega arith) (omega arith) bit in
         let to_3 = grows_then s0 s2 s3 to_2 w3.wires.grows in

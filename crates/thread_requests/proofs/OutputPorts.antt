@@ -16,9 +16,9 @@ use Rattle.block_datapath.specs.declared.registers.Held.{Held}
 use Rattle.block_datapath.specs.declared.requests.BankRequests.{BankRequests}
 use Rattle.thread_slots.specs.declared.requests.Requests.{Requests}
 use Rattle.thread_slots.specs.declared.shape.Served.{Served}
-use Rattle.thread_slots.specs.declared.shape.Service.{Service as Kind}
 use Rattle.thread_slots.specs.Requests.{group}
-use Rattle.thread_slots.specs.Services.{service_of, services, number_width}
+use Rattle.block_ir.specs.Asked.{Service}
+use Rattle.thread_slots.specs.Services.{services, number_width}
 use Rattle.thread_slots.specs.Wired.{field_width}
 use Rattle.thread_requests.specs.declared.outputs.Row.{Row}
 use Rattle.thread_requests.specs.Outputs.{CopiesAt, LaysRows, LaysDone, LaysOutputs, AreNumbered}
@@ -80,29 +80,29 @@ fields_more old before after first fields n w x e listed wide made =
     ∙ ap (λ k. old ++ fields_from first 0 (take k fields)) (sym (add-one n))
 
 -- one more core that acts ask
-acts_next : (served : Served) (asks : List ℕ) (requests : Requests) (kinds : List Kind) (from n : ℕ) (k : Kind) → slice_get kinds n ≡ Some k
+acts_next : (served : Served) (asks : List ℕ) (requests : Requests) (kinds : List Service) (from n : ℕ) (k : Service) → slice_get kinds n ≡ Some k
     → joined (acts_from served asks requests from (take (suc n) kinds))
-    ≡ joined (acts_from served asks requests from (take n kinds)) ++ act_rows served (slice_index asks (from + n)) requests (service_of k)
+    ≡ joined (acts_from served asks requests from (take n kinds)) ++ act_rows served (slice_index asks (from + n)) requests k
 acts_next served asks requests [] from n k listed = absurd cc
 acts_next served asks requests (g ∷ kinds) from zero k listed =
     let same : g ≡ k = cc in
-    append-nil (act_rows served (slice_index asks from) requests (service_of g))
-    ∙ ap (λ (z : Kind). act_rows served (slice_index asks from) requests (service_of z)) same
-    ∙ ap (λ j. act_rows served (slice_index asks j) requests (service_of k)) (let at : from ≡ from + 0 = omega arith in at)
+    append-nil (act_rows served (slice_index asks from) requests g)
+    ∙ ap (λ (z : Service). act_rows served (slice_index asks from) requests z) same
+    ∙ ap (λ j. act_rows served (slice_index asks j) requests k) (let at : from ≡ from + 0 = omega arith in at)
 acts_next served asks requests (g ∷ kinds) from (suc n) k listed =
-    let own = act_rows served (slice_index asks from) requests (service_of g) in
+    let own = act_rows served (slice_index asks from) requests g in
     let rest = joined (acts_from served asks requests (suc from) (take n kinds)) in
     ap (λ l. own ++ l) (acts_next served asks requests kinds (suc from) n k listed)
-    ∙ sym (append_assoc own rest (act_rows served (slice_index asks (suc from + n)) requests (service_of k)))
-    ∙ ap (λ j. (own ++ rest) ++ act_rows served (slice_index asks j) requests (service_of k)) (let at : suc from + n ≡ from + suc n = omega arith in at)
+    ∙ sym (append_assoc own rest (act_rows served (slice_index asks (suc from + n)) requests k))
+    ∙ ap (λ j. (own ++ rest) ++ act_rows served (slice_index asks j) requests k) (let at : suc from + n ≡ from + suc n = omega arith in at)
 
-pub acts_more : (old before after : List Row) (served : Served) (asks : List ℕ) (requests : Requests) (banks : ℕ) (kinds : List Kind) (n : ℕ) (k : Kind) (ask : ℕ)
+pub acts_more : (old before after : List Row) (served : Served) (asks : List ℕ) (requests : Requests) (banks : ℕ) (kinds : List Service) (n : ℕ) (k : Service) (ask : ℕ)
     → before ≡ old ++ joined (acts_from served asks requests banks (take n kinds)) → slice_get kinds n ≡ Some k → ask ≡ slice_index asks (banks + n)
-    → after ≡ before ++ act_rows served ask requests (service_of k) → after ≡ old ++ joined (acts_from served asks requests banks (take (n + 1) kinds))
+    → after ≡ before ++ act_rows served ask requests k → after ≡ old ++ joined (acts_from served asks requests banks (take (n + 1) kinds))
 acts_more old before after served asks requests banks kinds n k ask e listed ask_is made =
     let first = joined (acts_from served asks requests banks (take n kinds)) in
-    let own = act_rows served (slice_index asks (banks + n)) requests (service_of k) in
-    made ∙ ap (λ l. l ++ act_rows served ask requests (service_of k)) e ∙ ap (λ j. (old ++ first) ++ act_rows served j requests (service_of k)) ask_is
+    let own = act_rows served (slice_index asks (banks + n)) requests k in
+    made ∙ ap (λ l. l ++ act_rows served ask requests k) e ∙ ap (λ j. (old ++ first) ++ act_rows served j requests k) ask_is
     ∙ append_assoc old first own ∙ ap (λ l. old ++ l) (sym (acts_next served asks requests kinds banks n k listed))
     ∙ ap (λ j. old ++ joined (acts_from served asks requests banks (take j kinds))) (sym (add-one n))
 
@@ -185,12 +185,12 @@ fields_numbered : (first n : ℕ) (fields : List ℕ) → AreNumbered (fields_fr
 fields_numbered first n [] = λ k row e. absurd cc
 fields_numbered first n (x ∷ fields) = numbered_first (field_row (field_width first n) x) (fields_from first (suc n) fields) refl (fields_numbered first (suc n) fields)
 
-acts_numbered : (served : Served) (asks : List ℕ) (requests : Requests) (n : ℕ) (kinds : List Kind) → AreNumbered (joined (acts_from served asks requests n kinds))
+acts_numbered : (served : Served) (asks : List ℕ) (requests : Requests) (n : ℕ) (kinds : List Service) → AreNumbered (joined (acts_from served asks requests n kinds))
 acts_numbered served asks requests n [] = λ k row e. absurd cc
 acts_numbered served asks requests n (g ∷ kinds) =
-    numbered_then (act_rows served (slice_index asks n) requests (service_of g)) (joined (acts_from served asks requests (suc n) kinds))
-    (numbered_first (request_row (slice_index asks n)) (fields_from (number_width served (service_of g)) 0 (group requests (service_of g)).fields) refl
-    (fields_numbered (number_width served (service_of g)) 0 (group requests (service_of g)).fields))
+    numbered_then (act_rows served (slice_index asks n) requests g) (joined (acts_from served asks requests (suc n) kinds))
+    (numbered_first (request_row (slice_index asks n)) (fields_from (number_width served g) 0 (group requests g).fields) refl
+    (fields_numbered (number_width served g) 0 (group requests g).fields))
     (acts_numbered served asks requests (suc n) kinds)
 
 banks_numbered : (asks : List ℕ) (banks : BankRequests) (n : ℕ) (words : List Held) → AreNumbered (joined (rows_from asks banks n words))

@@ -17,7 +17,7 @@ use Rattle.block_datapath.specs.declared.registers.Registers.{Registers}
 use Rattle.block_datapath.specs.declared.requests.BankRequests.{BankRequests}
 use Rattle.block_datapath.specs.Wired.{HasWidthAt}
 use Rattle.block_datapath.specs.Requests.{AreBankChains}
-use Rattle.block_ir.specs.Asked.{Service, Mutexes, Barriers, Ids, Prints}
+use Rattle.block_ir.specs.Asked.{Service, Mutex, Barrier, ThreadIds, Printer}
 use Rattle.thread_slots.specs.Requests.{group}
 use Rattle.thread_asks.specs.declared.asking.Caller.{Caller}
 use Rattle.thread_requests.specs.declared.early.Acts.{Acts}
@@ -43,13 +43,13 @@ wants_stand base a bits wide own banks t ones k y there =
 -- the bits that tell whether cores are asked that acts ask, behind those of banks
 all_wants_stand : (base : Base) (a : List Signal) (c : Requests) → AreBitsOf base a c.banks.wants → ((s : Service) → IsEarlier a base (group c s).wants 1)
     → AreBitsOf base a (wants_of c)
-all_wants_stand base a c banks acts = stand_joined base a c.banks.wants (c.mutex.wants ∷ c.barrier.wants ∷ c.ids.wants ∷ c.print.wants ∷ []) banks four
+all_wants_stand base a c banks acts = stand_joined base a c.banks.wants (c.mutex.wants ∷ c.barrier.wants ∷ c.thread_ids.wants ∷ c.printer.wants ∷ []) banks four
   where
-    four : AreBitsOf base a (c.mutex.wants ∷ c.barrier.wants ∷ c.ids.wants ∷ c.print.wants ∷ [])
-    four zero x e = let same : c.mutex.wants ≡ x = cc in subst (λ z. IsEarlier a base z 1) same (acts Mutexes)
-    four (suc zero) x e = let same : c.barrier.wants ≡ x = cc in subst (λ z. IsEarlier a base z 1) same (acts Barriers)
-    four (suc (suc zero)) x e = let same : c.ids.wants ≡ x = cc in subst (λ z. IsEarlier a base z 1) same (acts Ids)
-    four (suc (suc (suc zero))) x e = let same : c.print.wants ≡ x = cc in subst (λ z. IsEarlier a base z 1) same (acts Prints)
+    four : AreBitsOf base a (c.mutex.wants ∷ c.barrier.wants ∷ c.thread_ids.wants ∷ c.printer.wants ∷ [])
+    four zero x e = let same : c.mutex.wants ≡ x = cc in subst (λ z. IsEarlier a base z 1) same (acts Mutex)
+    four (suc zero) x e = let same : c.barrier.wants ≡ x = cc in subst (λ z. IsEarlier a base z 1) same (acts Barrier)
+    four (suc (suc zero)) x e = let same : c.thread_ids.wants ≡ x = cc in subst (λ z. IsEarlier a base z 1) same (acts ThreadIds)
+    four (suc (suc (suc zero))) x e = let same : c.printer.wants ≡ x = cc in subst (λ z. IsEarlier a base z 1) same (acts Printer)
     four (suc (suc (suc (suc k)))) x e = absurd cc
 
 globals_grow : (globals : List IntegerType) (code : ThreadCode) (registers : Registers) (caller : Caller) (plan : Planned) (a d : List Signal) (c : Requests) (done : ℕ)

@@ -15,7 +15,7 @@ use Rattle.block_datapath.specs.declared.requests.BankRequests.{BankRequests}
 use Rattle.block_datapath.specs.Requests.{HaveWidths}
 use Rattle.block_datapath.specs.Accesses.{HaveBankWidths}
 use Rattle.hls_ints.specs.Residues.{bit_of}
-use Rattle.block_ir.specs.Asked.{Service, Mutexes, Barriers, Ids, Prints}
+use Rattle.block_ir.specs.Asked.{Service, Mutex, Barrier, ThreadIds, Printer}
 use Rattle.netlist.specs.declared.netlist.Module.{Module}
 use Rattle.verilog_meaning.specs.Readings.{Reading, width}
 use Rattle.circuit.specs.Modules.{Obeys}
@@ -50,7 +50,7 @@ spread_out (s ∷ spreads) (v ∷ values) = replicate s.count v ++ spread_out sp
 
 -- what is wanted: of banks, and of those that acts ask, kind by kind
 abbrev pub wants_of : Requests → List ℕ
-wants_of c = c.banks.wants ++ c.mutex.wants ∷ c.barrier.wants ∷ c.ids.wants ∷ c.print.wants ∷ []
+wants_of c = c.banks.wants ++ c.mutex.wants ∷ c.barrier.wants ∷ c.thread_ids.wants ∷ c.printer.wants ∷ []
 
 -- the first links of this code stand
 abbrev pub BeginsLinkedOf : ThreadCode → Registers → Served → List ℕ → List Signal → List Signal → Requests → Type 0
@@ -111,11 +111,11 @@ joined_bits n f g k = if nat_lt k n then f k else g (k - n)
 -- core k, by what is wanted of each kind, and of which object
 abbrev pub act_open : Served → (Service → Bool) → (Service → ℕ) → ℕ → Bool
 act_open served wants object =
-    joined_bits served.mutexes (λ k. nat_eq (object Mutexes) k && wants Mutexes)
-    (joined_bits served.barriers (λ k. nat_eq (object Barriers) k && wants Barriers) (joined_bits (bit_of served.ids) (λ k. wants Ids) (λ k. wants Prints)))
+    joined_bits served.mutexes (λ k. nat_eq (object Mutex) k && wants Mutex)
+    (joined_bits served.barriers (λ k. nat_eq (object Barrier) k && wants Barrier) (joined_bits (bit_of served.thread_ids) (λ k. wants ThreadIds) (λ k. wants Printer)))
 
 abbrev pub act_count : Served → ℕ
-act_count served = served.mutexes + (served.barriers + (bit_of served.ids + 1))
+act_count served = served.mutexes + (served.barriers + (bit_of served.thread_ids + 1))
 
 -- a request's object has 64 bits
 pub record HasObject (m : Module) (r : Reading) (q : Request) : Type 0 where
@@ -153,7 +153,7 @@ pub record IsLost (requests : Requests) (opens : List ℕ) (old new : List Signa
   pub grows : Grows old new
   pub shows : (m : Module) (r : Reading) (wants : Service → Bool) (opened : ℕ → Bool) → Grows new m.signals → Obeys m r →
       ((s : Service) → HasBit m r (group requests s).wants (wants s)) → HaveBits m r opens (length opens) opened →
-      HasBit m r lost (((wants Mutexes || wants Barriers) || wants Ids) && not (any_below (λ k. true && opened k) (length opens)))
+      HasBit m r lost (((wants Mutex || wants Barrier) || wants ThreadIds) && not (any_below (λ k. true && opened k) (length opens)))
   pub wired : (base : Base) → ((s : Service) → IsEarlier old base (group requests s).wants 1) → AreBitsOf base old opens → Adds base old new 1 lost
 
 -- which banks are open: those that are wanted, and whose global's access has not been granted

@@ -11,9 +11,8 @@ use Rattle.block_datapath.specs.declared.registers.Held.{Held}
 use Rattle.block_datapath.specs.declared.requests.BankRequests.{BankRequests}
 use Rattle.block_ir.specs.Asked.{Service}
 use Rattle.thread_slots.specs.declared.shape.Served.{Served}
-use Rattle.thread_slots.specs.declared.shape.Service.{Service as Kind}
 use Rattle.thread_slots.specs.Requests.{group}
-use Rattle.thread_slots.specs.Services.{service_of, services, number_width}
+use Rattle.thread_slots.specs.Services.{services, number_width}
 use Rattle.thread_slots.specs.declared.requests.Requests.{Requests}
 use Rattle.thread_slots.specs.Slots.{StandsAt}
 use Rattle.thread_slots.specs.Wired.{field_width}
@@ -58,9 +57,9 @@ abbrev pub act_rows : Served → ℕ → Requests → Service → List Row
 act_rows served ask requests s = request_row ask ∷ fields_from (number_width served s) 0 (group requests s).fields
 
 -- such cores of these kinds, from core number n on
-abbrev pub acts_from : Served → List ℕ → Requests → ℕ → List Kind → List (List Row)
+abbrev pub acts_from : Served → List ℕ → Requests → ℕ → List Service → List (List Row)
 acts_from served asks requests n [] = []
-acts_from served asks requests n (k ∷ kinds) = act_rows served (slice_index asks n) requests (service_of k) ∷ acts_from served asks requests (suc n) kinds
+acts_from served asks requests n (k ∷ kinds) = act_rows served (slice_index asks n) requests k ∷ acts_from served asks requests (suc n) kinds
 
 -- CORE BY CORE: what banks are asked, and what those are that acts ask
 abbrev pub rows_of : Served → List Held → List ℕ → Requests → List (List Row)

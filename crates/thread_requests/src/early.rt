@@ -4,7 +4,7 @@ ghost use Rattle.std.specs.Prelude.{◌≡◌, List, ◌∷◌, [], ◌++◌, tr
 ghost use Rattle.hls_ints.specs.Types.{width_of};
 ghost use Rattle.netlist.specs.declared.netlist.Signal.{Signal};
 ghost use Rattle.thread_slots.specs.Bits.{MakesAny, AddsAny};
-ghost use Rattle.thread_slots.specs.Services.{if_ids};
+ghost use Rattle.thread_slots.specs.Services.{if_thread_ids};
 ghost use Rattle.thread_requests.specs.Early.{BeginsRequests, AsksBanks, OpensBanks, OpensActs, OpensObjects, IsLost, LaysEarlyWired, copies_of, spread_out, wants_of};
 
 use crate::banks::{one_bank_each, spread_places, spread_requests};
@@ -189,7 +189,7 @@ fn open_acts(wires: &mut Wires, requests: &Requests, served: Served) -> Result<A
         names: barriers,
         opens: more,
     } = open_objects(wires, &requests.barrier, served.barriers)?;
-    let opens = join_opens(mutexes.into_opens(), more, served.ids, requests)?;
+    let opens = join_opens(mutexes.into_opens(), more, served.thread_ids, requests)?;
     Ok(Acts { opens, barriers })
 }
 
@@ -197,17 +197,17 @@ fn open_acts(wires: &mut Wires, requests: &Requests, served: Served) -> Result<A
 fn join_opens(
     mutexes: Items<usize>,
     barriers: Items<usize>,
-    ids: bool,
+    thread_ids: bool,
     requests: &Requests,
 ) -> Result<Items<usize>, AllocError>
-    ensures { IfOk result (λ opens. opens ≡ mutexes ++ (barriers ++ (if_ids ids (requests.now.ids.wants ∷ []) ++ requests.now.print.wants ∷ []))) }
+    ensures { IfOk result (λ opens. opens ≡ mutexes ++ (barriers ++ (if_thread_ids thread_ids (requests.now.thread_ids.wants ∷ []) ++ requests.now.printer.wants ∷ []))) }
 {
     let mut opens = mutexes;
     opens.append(barriers)?;
-    if ids {
-        opens.push(requests.ids.wants)?;
+    if thread_ids {
+        opens.push(requests.thread_ids.wants)?;
     }
-    opens.push(requests.print.wants)?;
+    opens.push(requests.printer.wants)?;
     Ok(opens)
 }
 
@@ -225,7 +225,7 @@ fn lay_lost(wires: &mut Wires, requests: &Requests, opens: &[usize]) -> Result<u
     ensures { IfOk result (IsLost requests.now opens.now wires.old.signals wires.new.signals) }
 {
     let objects = wires.either(requests.mutex.wants, requests.barrier.wants)?;
-    let wanted = wires.either(objects, requests.ids.wants)?;
+    let wanted = wires.either(objects, requests.thread_ids.wants)?;
     let never = wires.constant(1, 0)?;
     let open = any_of(wires, never, opens)?;
     let shut = wires.not(1, open)?;
@@ -262,8 +262,8 @@ fn all_wants(alloc: Global, requests: &Requests) -> Result<Items<usize>, AllocEr
     let acts = [
         requests.mutex.wants,
         requests.barrier.wants,
-        requests.ids.wants,
-        requests.print.wants,
+        requests.thread_ids.wants,
+        requests.printer.wants,
     ];
     let more = Items::from_slice(alloc, &acts)?;
     let mut wants = Items::from_slice(alloc, requests.banks.wants.as_slice())?;

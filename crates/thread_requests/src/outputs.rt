@@ -2,17 +2,17 @@
 
 ghost use Rattle.std.specs.Prelude.{◌≡◌, ◌∷◌, [], ◌++◌, ℕ, ◌+◌, ◌≤◌, ◌^◌, Some, slice_get, slice_index, length, IfOk, OnOk};
 ghost use Rattle.thread_slots.specs.Wired.{Behind, IsNamedOutput, field_width};
-ghost use Rattle.thread_slots.specs.Services.{service_of};
 ghost use Rattle.thread_requests.specs.Outputs.{LaysRows, LaysDone, LaysOutputs, AreNumbered};
 ghost use Rattle.thread_requests.specs.Outputs.{joined, row_of, request_row, bank_rows, rows_from, fields_from, act_rows, acts_from, rows_of};
 
 use block_datapath::registers::{Held, place_at};
 use block_datapath::requests::BankRequests;
+use block_ir::service::Service;
 use operator_wires::wires::{Role, Wires};
 use sqlite_items::Items;
 use std::alloc::{AllocError, Global};
 use thread_slots::requests::{Request, Requests};
-use thread_slots::shape::{Served, Service};
+use thread_slots::shape::Served;
 
 /// An output port: what it is for, its width, and the signal that it copies.
 #[derive(Clone, Copy)]
@@ -116,14 +116,14 @@ fn add_act(
     ask: usize,
     requests: &Requests,
 ) -> Result<(), AllocError>
-    ensures { OnOk result (rows.new ≡ rows.old ++ act_rows served ask requests.now (service_of service)) }
+    ensures { OnOk result (rows.new ≡ rows.old ++ act_rows served ask requests.now service) }
 {
     let site_width = served.printer.site_width;
     match service {
-        Service::Mutexes => add_request(rows, 2, ask, &requests.mutex),
-        Service::Barriers => add_request(rows, 2, ask, &requests.barrier),
-        Service::Ids => add_request(rows, 2, ask, &requests.ids),
-        Service::Prints => add_request(rows, site_width, ask, &requests.print),
+        Service::Mutex => add_request(rows, 2, ask, &requests.mutex),
+        Service::Barrier => add_request(rows, 2, ask, &requests.barrier),
+        Service::ThreadIds => add_request(rows, 2, ask, &requests.thread_ids),
+        Service::Printer => add_request(rows, site_width, ask, &requests.printer),
     }
 }
 

@@ -2,7 +2,7 @@
 use Rattle.std.proofs.Common.{◌≡◌, ℕ, List, zero, suc, ◌<◌, ◌≤◌, ◌^◌, ◌∷◌, length, Some, refl, sym, ap, subst, ◌∙◌, arith}
 use Rattle.std.specs.Prelude.{replicate, slice_get}
 use Rattle.hls_ints.specs.Words.{word_inclusive_or}
-use Rattle.block_ir.specs.Asked.{Service, Mutexes, Barriers, Ids, Prints}
+use Rattle.block_ir.specs.Asked.{Service, Mutex, Barrier, ThreadIds, Printer}
 use Rattle.netlist.specs.declared.netlist.Signal.{Signal}
 use Rattle.netlist.specs.declared.netlist.Module.{Module}
 use Rattle.verilog_meaning.specs.Readings.{Reading, width}
@@ -94,14 +94,14 @@ begins_request a b c d w values widths q are bit object zeros bit_adds object_ad
     field_fits w zero low high = (low, high)
     field_fits w (suc k) low high = let wide = later_field w k in (subst (λ n. 1 ≤ n) (sym wide) (omega arith), subst (λ n. n ≤ 64) (sym wide) (omega arith))
 
--- a: before, then the mutexes' request, the barriers', that of the ids, the printer's, the banks'
+-- a: before, then the mutexes' request, the barriers', that of the thread ids, the printer's, the banks'
 module _ (a b c d e f : List Signal) (served : Served) (words : List ℕ) (x : Requests) (mutex : BeginsRequest a b 2 0 x.mutex) (barrier : BeginsRequest b c 2 1 x.barrier)
-    (ids : BeginsRequest c d 2 2 x.ids) (print : BeginsRequest d e served.printer.site_width served.printer.values x.print) (banks : AsksNothing e f words x.banks) where
+    (thread_ids : BeginsRequest c d 2 2 x.thread_ids) (printer : BeginsRequest d e served.printer.site_width served.printer.values x.printer) (banks : AsksNothing e f words x.banks) where
   from_d : Grows d f
-  from_d = grows_then d e f print.grows banks.grows
+  from_d = grows_then d e f printer.grows banks.grows
 
   from_c : Grows c f
-  from_c = grows_then c d f ids.grows from_d
+  from_c = grows_then c d f thread_ids.grows from_d
 
   from_b : Grows b f
   from_b = grows_then b c f barrier.grows from_c
@@ -117,22 +117,22 @@ module _ (a b c d e f : List Signal) (served : Served) (words : List ℕ) (x : R
   }
     where
       bits : (s : Service) → IsAskBit f (group x s)
-      bits Mutexes m g = mutex.bit m (grows_then b f m.signals from_b g)
-      bits Barriers m g = barrier.bit m (grows_then c f m.signals from_c g)
-      bits Ids m g = ids.bit m (grows_then d f m.signals from_d g)
-      bits Prints m g = print.bit m (grows_then e f m.signals banks.grows g)
+      bits Mutex m g = mutex.bit m (grows_then b f m.signals from_b g)
+      bits Barrier m g = barrier.bit m (grows_then c f m.signals from_c g)
+      bits ThreadIds m g = thread_ids.bit m (grows_then d f m.signals from_d g)
+      bits Printer m g = printer.bit m (grows_then e f m.signals banks.grows g)
 
       counts : (s : Service) → length (group x s).fields ≡ suc (value_count served s)
-      counts Mutexes = mutex.count
-      counts Barriers = barrier.count
-      counts Ids = ids.count
-      counts Prints = print.count
+      counts Mutex = mutex.count
+      counts Barrier = barrier.count
+      counts ThreadIds = thread_ids.count
+      counts Printer = printer.count
 
       silent : (s : Service) (m : Module) (r : Reading) → Grows f m.signals → Obeys m r → r.signal (group x s).wants ≡ 0
-      silent Mutexes m r g o = mutex.silent m r (grows_then b f m.signals from_b g) o
-      silent Barriers m r g o = barrier.silent m r (grows_then c f m.signals from_c g) o
-      silent Ids m r g o = ids.silent m r (grows_then d f m.signals from_d g) o
-      silent Prints m r g o = print.silent m r (grows_then e f m.signals banks.grows g) o
+      silent Mutex m r g o = mutex.silent m r (grows_then b f m.signals from_b g) o
+      silent Barrier m r g o = barrier.silent m r (grows_then c f m.signals from_c g) o
+      silent ThreadIds m r g o = thread_ids.silent m r (grows_then d f m.signals from_d g) o
+      silent Printer m r g o = printer.silent m r (grows_then e f m.signals banks.grows g) o
 
   pub begins_linked : AreEmptyChains e f words x.banks → BeginsLinked a f served words x
   begins_linked w base code registers globals spreads bits wide own slots low high fit one two three have =
@@ -143,9 +143,9 @@ module _ (a b c d e f : List Signal) (served : Served) (words : List ℕ) (x : R
       let room_b : base.first ≤ length b = (let l = longer a b t.wires.grows in omega arith) in
       let u = barrier.wired base room_b two_low two_high in
       let room_c : base.first ≤ length c = (let l = longer b c u.wires.grows in omega arith) in
-      let v = ids.wired base room_c two_low two_high in
+      let v = thread_ids.wired base room_c two_low two_high in
       let room_d : base.first ≤ length d = (let l = longer c d v.wires.grows in omega arith) in
-      let p = print.wired base room_d low high in
+      let p = printer.wired base room_d low high in
       let room_e : base.first ≤ length e = (let l = longer d e p.wires.grows in omega arith) in
       let k = w base bits wide own room_e fit one two three in
       let all = wires_then base a b f t.wires (wires_then base b c f u.wires (wires_then base c d f v.wires (wires_then base d e f p.wires k.wires))) in
@@ -161,9 +161,9 @@ module _ (a b c d e f : List Signal) (served : Served) (words : List ℕ) (x : R
         };
       }
     where
-      requests : (base : Base) → RequestStands base b 2 x.mutex → RequestStands base c 2 x.barrier → RequestStands base d 2 x.ids
-          → RequestStands base e served.printer.site_width x.print → Grows e f → (s : Service) → RequestStands base f (number_width served s) (group x s)
-      requests base t u v p g Mutexes = request_later base b f 2 x.mutex from_b t
-      requests base t u v p g Barriers = request_later base c f 2 x.barrier from_c u
-      requests base t u v p g Ids = request_later base d f 2 x.ids from_d v
-      requests base t u v p g Prints = request_later base e f served.printer.site_width x.print g p
+      requests : (base : Base) → RequestStands base b 2 x.mutex → RequestStands base c 2 x.barrier → RequestStands base d 2 x.thread_ids
+          → RequestStands base e served.printer.site_width x.printer → Grows e f → (s : Service) → RequestStands base f (number_width served s) (group x s)
+      requests base t u v p g Mutex = request_later base b f 2 x.mutex from_b t
+      requests base t u v p g Barrier = request_later base c f 2 x.barrier from_c u
+      requests base t u v p g ThreadIds = request_later base d f 2 x.thread_ids from_d v
+      requests base t u v p g Printer = request_later base e f served.printer.site_width x.printer g p

@@ -2,7 +2,7 @@
 use Rattle.std.specs.Prelude.{◌≡◌, ℕ, suc, ◌≤◌, List, ◌<◌, length, replicate, slice_get, Some}
 use Rattle.hls_ints.specs.Types.{IntegerType}
 use Rattle.bank_partition.specs.declared.banks.Spread.{Spread}
-use Rattle.block_ir.specs.Asked.{Service, Mutexes, Barriers, Ids, Prints}
+use Rattle.block_ir.specs.Asked.{Service, Mutex, Barrier, ThreadIds, Printer}
 use Rattle.block_ir.specs.declared.code.ThreadCode.{ThreadCode}
 use Rattle.netlist.specs.declared.netlist.Signal.{Signal}
 use Rattle.netlist.specs.declared.netlist.Module.{Module}
@@ -23,10 +23,10 @@ use Rattle.circuit.specs.Modules.{Obeys}
 
 -- what is asked of the cores of a service
 abbrev pub group : Requests → Service → Request
-group c Mutexes = c.mutex
-group c Barriers = c.barrier
-group c Ids = c.ids
-group c Prints = c.print
+group c Mutex = c.mutex
+group c Barrier = c.barrier
+group c ThreadIds = c.thread_ids
+group c Printer = c.printer
 
 -- ---- one more link
 

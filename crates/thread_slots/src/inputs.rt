@@ -51,7 +51,7 @@ pub fn told_widths(alloc: Global, served: Served) -> Result<Items<u64>, AllocErr
     ensures { IfOk result (λ widths. widths ≡ news_widths served) }
 {
     let mut widths = Items::from_vec(vec![in alloc; 1; served.barriers]?);
-    if served.ids {
+    if served.thread_ids {
         widths.push(1)?;
         widths.push(64)?;
     }

@@ -62,8 +62,8 @@ fn field_widths(alloc: Global, width: u64, values: usize) -> Result<Items<u64>, 
 pub struct Requests {
     pub mutex: Request,
     pub barrier: Request,
-    pub ids: Request,
-    pub print: Request,
+    pub thread_ids: Request,
+    pub printer: Request,
     /// What each bank is asked.
     pub banks: BankRequests,
 }
@@ -76,15 +76,15 @@ impl Requests {
     {
         let mutex = Request::begin(wires, 2, 0)?;
         let barrier = Request::begin(wires, 2, 1)?;
-        let ids = Request::begin(wires, 2, 2)?;
-        let printer = served.printer;
-        let print = Request::begin(wires, printer.site_width, printer.values)?;
+        let thread_ids = Request::begin(wires, 2, 2)?;
+        let port = served.printer;
+        let printer = Request::begin(wires, port.site_width, port.values)?;
         let banks = BankRequests::begin(wires, words)?;
         Ok(Requests {
             mutex,
             barrier,
-            ids,
-            print,
+            thread_ids,
+            printer,
             banks,
         })
     }

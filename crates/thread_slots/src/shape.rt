@@ -4,25 +4,15 @@ ghost use Rattle.std.specs.Prelude.{◌≡◌, IfOk};
 ghost use Rattle.thread_slots.specs.Services.{services as services_of};
 
 use bank_partition::banks::Spread;
+use block_ir::service::Service;
 use hls_ints::CType;
 use sqlite_items::Items;
 use std::alloc::{AllocError, Global};
 use verilog_tree::name::Identifier;
 
-/// The kinds of cores that acts ask.
+/// What the printer is asked, which writes the output.
 #[derive(Clone, Copy)]
-pub enum Service {
-    Mutexes,
-    Barriers,
-    /// The core of the thread ids.
-    Ids,
-    /// The core that writes the output.
-    Prints,
-}
-
-/// The core that writes the output.
-#[derive(Clone, Copy)]
-pub struct Printer {
+pub struct PrinterPort {
     /// The width of a site's number.
     pub site_width: u64,
     /// How many values it takes with a site, each of 64 bits.
@@ -37,8 +27,8 @@ pub struct Served {
     /// How many barriers there are.
     pub barriers: usize,
     /// Whether there is a core of the thread ids.
-    pub ids: bool,
-    pub printer: Printer,
+    pub thread_ids: bool,
+    pub printer: PrinterPort,
 }
 
 impl Served {
@@ -46,13 +36,13 @@ impl Served {
     pub fn services(self, alloc: Global) -> Result<Items<Service>, AllocError>
         ensures { IfOk result (λ services. services ≡ services_of self) }
     {
-        let mut services = Items::from_vec(vec![in alloc; Service::Mutexes; self.mutexes]?);
-        let barriers = Items::from_vec(vec![in alloc; Service::Barriers; self.barriers]?);
+        let mut services = Items::from_vec(vec![in alloc; Service::Mutex; self.mutexes]?);
+        let barriers = Items::from_vec(vec![in alloc; Service::Barrier; self.barriers]?);
         services.append(barriers)?;
-        if self.ids {
-            services.push(Service::Ids)?;
+        if self.thread_ids {
+            services.push(Service::ThreadIds)?;
         }
-        services.push(Service::Prints)?;
+        services.push(Service::Printer)?;
         Ok(services)
     }
 }

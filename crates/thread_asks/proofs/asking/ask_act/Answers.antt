@@ -3,7 +3,7 @@ use Rattle.std.specs.Prelude.{Result, OnOk}
 use Rattle.std.proofs.lemmas.Result.{on_ok_weaker}
 use Rattle.hls_ints.specs.Types.{IntegerType}
 use Rattle.bank_partition.specs.declared.banks.Spread.{Spread}
-use Rattle.block_ir.specs.Asked.{Service, Mutexes, Barriers, Ids, Prints, request_of}
+use Rattle.block_ir.specs.Asked.{Service, Mutex, Barrier, ThreadIds, Printer, request_of}
 use Rattle.block_ir.specs.declared.code.Act.{Act}
 use Rattle.block_ir.specs.declared.code.Act.TheVariants as act_taken
 use Rattle.block_ir.specs.declared.code.ActOperand.{ActOperand}
@@ -39,52 +39,52 @@ pub returns-in-Print : goal.returns-in-Print
 returns-in-Print c =
     let values = c.as_slice-values.result.now in
     by_table c.call.result c.args.code.now c.args.registers.now c.args.caller c.args.stage c.args.act.now c.args.wires.now.signals c.call.new.wires.signals c.args.requests.now
-    Prints c.in-Print.site values c.call.new.request (ap (request_of c.args.caller.is_main) c.in-Print.is ∙ ap (λ (vs : List ActOperand). Some (call_of Prints c.in-Print.site vs)) (sym c.as_slice-values.ensures)) c.call.ensures
+    Printer c.in-Print.site values c.call.new.request (ap (request_of c.args.caller.is_main) c.in-Print.is ∙ ap (λ (vs : List ActOperand). Some (call_of Printer c.in-Print.site vs)) (sym c.as_slice-values.ensures)) c.call.ensures
 
 pub returns-in-Create : goal.returns-in-Create
 returns-in-Create c =
     by_table c.call-in-Create.result c.args.code.now c.args.registers.now c.args.caller c.args.stage c.args.act.now c.args.wires.now.signals c.call-in-Create.new.wires.signals c.args.requests.now
-    Ids 0 (c.in-Create.thread ∷ c.in-Create.argument ∷ []) c.call-in-Create.new.request (ap (request_of c.args.caller.is_main) c.in-Create.is) c.call-in-Create.ensures
+    ThreadIds 0 (c.in-Create.thread ∷ c.in-Create.argument ∷ []) c.call-in-Create.new.request (ap (request_of c.args.caller.is_main) c.in-Create.is) c.call-in-Create.ensures
 
 pub returns-in-Join : goal.returns-in-Join
 returns-in-Join c =
     by_table c.call-in-Join.result c.args.code.now c.args.registers.now c.args.caller c.args.stage c.args.act.now c.args.wires.now.signals c.call-in-Join.new.wires.signals c.args.requests.now
-    Ids 1 (c.in-Join.thread ∷ []) c.call-in-Join.new.request (ap (request_of c.args.caller.is_main) c.in-Join.is) c.call-in-Join.ensures
+    ThreadIds 1 (c.in-Join.thread ∷ []) c.call-in-Join.new.request (ap (request_of c.args.caller.is_main) c.in-Join.is) c.call-in-Join.ensures
 
 pub returns-in-MutexInit : goal.returns-in-MutexInit
 returns-in-MutexInit c =
     by_table c.call-in-MutexInit.result c.args.code.now c.args.registers.now c.args.caller c.args.stage c.args.act.now c.args.wires.now.signals c.call-in-MutexInit.new.wires.signals c.args.requests.now
-    Mutexes 0 (c.in-MutexInit.mutex ∷ []) c.call-in-MutexInit.new.request (ap (request_of c.args.caller.is_main) c.in-MutexInit.is) c.call-in-MutexInit.ensures
+    Mutex 0 (c.in-MutexInit.mutex ∷ []) c.call-in-MutexInit.new.request (ap (request_of c.args.caller.is_main) c.in-MutexInit.is) c.call-in-MutexInit.ensures
 
 pub returns-in-MutexLock : goal.returns-in-MutexLock
 returns-in-MutexLock c =
     by_table c.call-in-MutexLock.result c.args.code.now c.args.registers.now c.args.caller c.args.stage c.args.act.now c.args.wires.now.signals c.call-in-MutexLock.new.wires.signals c.args.requests.now
-    Mutexes 1 (c.in-MutexLock.mutex ∷ []) c.call-in-MutexLock.new.request (ap (request_of c.args.caller.is_main) c.in-MutexLock.is) c.call-in-MutexLock.ensures
+    Mutex 1 (c.in-MutexLock.mutex ∷ []) c.call-in-MutexLock.new.request (ap (request_of c.args.caller.is_main) c.in-MutexLock.is) c.call-in-MutexLock.ensures
 
 pub returns-in-MutexUnlock : goal.returns-in-MutexUnlock
 returns-in-MutexUnlock c =
     by_table c.call-in-MutexUnlock.result c.args.code.now c.args.registers.now c.args.caller c.args.stage c.args.act.now c.args.wires.now.signals c.call-in-MutexUnlock.new.wires.signals c.args.requests.now
-    Mutexes 2 (c.in-MutexUnlock.mutex ∷ []) c.call-in-MutexUnlock.new.request (ap (request_of c.args.caller.is_main) c.in-MutexUnlock.is) c.call-in-MutexUnlock.ensures
+    Mutex 2 (c.in-MutexUnlock.mutex ∷ []) c.call-in-MutexUnlock.new.request (ap (request_of c.args.caller.is_main) c.in-MutexUnlock.is) c.call-in-MutexUnlock.ensures
 
 pub returns-in-MutexDestroy : goal.returns-in-MutexDestroy
 returns-in-MutexDestroy c =
     by_table c.call-in-MutexDestroy.result c.args.code.now c.args.registers.now c.args.caller c.args.stage c.args.act.now c.args.wires.now.signals c.call-in-MutexDestroy.new.wires.signals c.args.requests.now
-    Mutexes 3 (c.in-MutexDestroy.mutex ∷ []) c.call-in-MutexDestroy.new.request (ap (request_of c.args.caller.is_main) c.in-MutexDestroy.is) c.call-in-MutexDestroy.ensures
+    Mutex 3 (c.in-MutexDestroy.mutex ∷ []) c.call-in-MutexDestroy.new.request (ap (request_of c.args.caller.is_main) c.in-MutexDestroy.is) c.call-in-MutexDestroy.ensures
 
 pub returns-in-BarrierInit : goal.returns-in-BarrierInit
 returns-in-BarrierInit c =
     by_table c.call-in-BarrierInit.result c.args.code.now c.args.registers.now c.args.caller c.args.stage c.args.act.now c.args.wires.now.signals c.call-in-BarrierInit.new.wires.signals c.args.requests.now
-    Barriers 0 (c.in-BarrierInit.barrier ∷ c.in-BarrierInit.count ∷ []) c.call-in-BarrierInit.new.request (ap (request_of c.args.caller.is_main) c.in-BarrierInit.is) c.call-in-BarrierInit.ensures
+    Barrier 0 (c.in-BarrierInit.barrier ∷ c.in-BarrierInit.count ∷ []) c.call-in-BarrierInit.new.request (ap (request_of c.args.caller.is_main) c.in-BarrierInit.is) c.call-in-BarrierInit.ensures
 
 pub returns-in-BarrierWait : goal.returns-in-BarrierWait
 returns-in-BarrierWait c =
     by_table c.call-in-BarrierWait.result c.args.code.now c.args.registers.now c.args.caller c.args.stage c.args.act.now c.args.wires.now.signals c.call-in-BarrierWait.new.wires.signals c.args.requests.now
-    Barriers 1 (c.in-BarrierWait.barrier ∷ []) c.call-in-BarrierWait.new.request (ap (request_of c.args.caller.is_main) c.in-BarrierWait.is) c.call-in-BarrierWait.ensures
+    Barrier 1 (c.in-BarrierWait.barrier ∷ []) c.call-in-BarrierWait.new.request (ap (request_of c.args.caller.is_main) c.in-BarrierWait.is) c.call-in-BarrierWait.ensures
 
 pub returns-in-BarrierDestroy : goal.returns-in-BarrierDestroy
 returns-in-BarrierDestroy c =
     by_table c.call-in-BarrierDestroy.result c.args.code.now c.args.registers.now c.args.caller c.args.stage c.args.act.now c.args.wires.now.signals c.call-in-BarrierDestroy.new.wires.signals c.args.requests.now
-    Barriers 2 (c.in-BarrierDestroy.barrier ∷ []) c.call-in-BarrierDestroy.new.request (ap (request_of c.args.caller.is_main) c.in-BarrierDestroy.is) c.call-in-BarrierDestroy.ensures
+    Barrier 2 (c.in-BarrierDestroy.barrier ∷ []) c.call-in-BarrierDestroy.new.request (ap (request_of c.args.caller.is_main) c.in-BarrierDestroy.is) c.call-in-BarrierDestroy.ensures
 
 pub returns-then-caller : goal.returns-then-caller
 returns-then-caller c = λ globals spreads next plan.
@@ -96,5 +96,5 @@ returns-then-caller c = λ globals spreads next plan.
 pub returns-else-caller : goal.returns-else-caller
 returns-else-caller c =
     by_table c.call-else-caller.result c.args.code.now c.args.registers.now c.args.caller c.args.stage c.args.act.now c.args.wires.now.signals c.call-else-caller.new.wires.signals
-    c.args.requests.now Ids 2 [] c.call-else-caller.new.request
+    c.args.requests.now ThreadIds 2 [] c.call-else-caller.new.request
     (ap (request_of c.args.caller.is_main) c.in-Return.is ∙ ap (λ b. request_of b act_taken.Return) c.if-caller.false) c.call-else-caller.ensures

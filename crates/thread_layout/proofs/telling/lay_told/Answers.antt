@@ -23,9 +23,9 @@ returns c =
     (both_as b d named c.as_slice-holds.result.now named holds both refl c.as_slice-holds.ensures c.in_ok-both.ensures.shows)
     (any_as d e c.in_ok-never.never c.in_ok-barred.barred (λ k. true) c.as_slice-both.result.now both c.as_slice-both.ensures c.in_ok-barred.ensures.shows)
     (c.pick.ensures
-    ∙ ap (λ z. if served.ids then z else c.in_ok-never.never) (c.place_at.ensures ∙ ap (λ (l : List ℕ). slice_index l served.barriers) heard_same))
+    ∙ ap (λ z. if served.thread_ids then z else c.in_ok-never.never) (c.place_at.ensures ∙ ap (λ (l : List ℕ). slice_index l served.barriers) heard_same))
     (c.pick-2.ensures
-    ∙ ap (λ z. if served.ids then z else c.in_ok-nothing.nothing)
+    ∙ ap (λ z. if served.thread_ids then z else c.in_ok-nothing.nothing)
     (c.place_at-2.ensures ∙ ap (λ (l : List ℕ). slice_index l c.in_ok-last.last) heard_same ∙ ap (slice_index heard) c.in_ok-last.ensures))
     c.in_ok-never.ensures.wired c.in_ok-nothing.ensures.wired
     (adds_both_as b d named c.as_slice-holds.result.now named holds both refl c.as_slice-holds.ensures c.in_ok-both.ensures.wired)

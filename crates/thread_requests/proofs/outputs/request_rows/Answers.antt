@@ -1,8 +1,8 @@
 use Rattle.std.proofs.Common.{◌≡◌, List, ◌++◌, length, sym, ap, ◌∙◌}
 use Rattle.thread_requests.specs.declared.outputs.Row.{Row}
 use Rattle.thread_requests.specs.Outputs.{joined, rows_from, acts_from}
+use Rattle.block_ir.specs.Asked.{Service}
 use Rattle.thread_slots.specs.Services.{services}
-use Rattle.thread_slots.specs.declared.shape.Service.{Service as Kind}
 use Rattle.thread_requests.proofs.OutputPorts.{joined_then}
 use Rattle.thread_requests.proofs.outputs.request_rows.Goals as goal
 
@@ -14,5 +14,5 @@ returns c =
     let first : c.add_banks.new.rows ≡ joined banks = c.in_ok-add_banks.ensures ∙ ap (λ (l : List Row). l ++ joined banks) c.new-rows.ensures in
     c.in_ok-add_acts.ensures
     ∙ ap (λ (l : List Row). l ++ joined (acts_from c.args.served asks requests (length c.args.words.now) c.as_slice-kinds.result.now)) first
-    ∙ ap (λ (l : List Kind). joined banks ++ joined (acts_from c.args.served asks requests (length c.args.words.now) l)) (c.as_slice-kinds.ensures ∙ c.in_ok-services.ensures)
+    ∙ ap (λ (l : List Service). joined banks ++ joined (acts_from c.args.served asks requests (length c.args.words.now) l)) (c.as_slice-kinds.ensures ∙ c.in_ok-services.ensures)
     ∙ sym (joined_then banks (acts_from c.args.served asks requests (length c.args.words.now) (services c.args.served)))
