@@ -8,11 +8,11 @@ use Rattle.circuit.proofs.Spreads.{spread_is}
 use Rattle.bank_cores.specs.declared.bank.Shape.{Shape as BankShape}
 use Rattle.bank_cores.specs.Bank.{kept}
 use Rattle.bank_cores.specs.Machine.{bank_machine, bank_places}
-use Rattle.print_core.specs.declared.printer.Shape.{Shape as PrinterShape}
-use Rattle.print_core.specs.Machine.{printer_machine, printer_places}
+use Rattle.printer_cores.specs.declared.printer.Shape.{Shape as PrinterShape}
+use Rattle.printer_cores.specs.Machine.{printer_machine, printer_places}
 use Rattle.mutex_cores.proofs.Locks.{locks_wait}
 use Rattle.barrier_cores.proofs.WaitBits.{barriers_wait}
-use Rattle.fork_join_cores.proofs.ShownTable.{forks_wait}
+use Rattle.thread_id_cores.proofs.ShownTable.{forks_wait}
 use Rattle.core_family.specs.Family.{Bank, Mutex, Barrier, ThreadIds, Printer}
 use Rattle.core_family.specs.Laws.{EachWaits}
 

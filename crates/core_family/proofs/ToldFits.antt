@@ -8,7 +8,7 @@ use Rattle.core_states.specs.Machines.{Gate, total_of, with_waiter, gate_met, ga
 use Rattle.bank_cores.specs.declared.bank.Shape.{Shape as BankShape}
 use Rattle.bank_cores.specs.Machine as bank
 use Rattle.barrier_cores.specs.declared.barrier.Shape.{Shape as BarrierShape}
-use Rattle.fork_join_cores.specs.declared.forks.Shape.{Shape as ThreadIdsShape}
+use Rattle.thread_id_cores.specs.declared.forks.Shape.{Shape as ThreadIdsShape}
 use Rattle.core_family.specs.Family.{Bank, Mutex, Barrier, ThreadIds, Printer, told_width}
 use Rattle.core_family.specs.Laws.{FitsState, KeepsFitting, EachKeepsFitting}
 

@@ -13,12 +13,12 @@ use Rattle.mutex_cores.specs.Machine as mutex
 use Rattle.barrier_cores.specs.declared.barrier.Shape.{Shape as BarrierShape}
 use Rattle.barrier_cores.specs.Barrier.{IsBarrier}
 use Rattle.barrier_cores.specs.Machine as barrier
-use Rattle.fork_join_cores.specs.declared.forks.Shape.{Shape as ThreadIdsShape}
-use Rattle.fork_join_cores.specs.Forks.{IsForks}
-use Rattle.fork_join_cores.specs.Machine as thread_ids
-use Rattle.print_core.specs.declared.printer.Shape.{Shape as PrinterShape}
-use Rattle.print_core.specs.Printer.{IsPrinter}
-use Rattle.print_core.specs.Machine as printer
+use Rattle.thread_id_cores.specs.declared.forks.Shape.{Shape as ThreadIdsShape}
+use Rattle.thread_id_cores.specs.Forks.{IsForks}
+use Rattle.thread_id_cores.specs.Machine as thread_ids
+use Rattle.printer_cores.specs.declared.printer.Shape.{Shape as PrinterShape}
+use Rattle.printer_cores.specs.Printer.{IsPrinter}
+use Rattle.printer_cores.specs.Machine as printer
 use Rattle.leaf_machine.specs.Ports.{CorePort}
 
 -- a bank of a global, a mutex, a barrier, the core of the thread ids, the printer

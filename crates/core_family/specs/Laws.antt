@@ -4,7 +4,7 @@ use Rattle.netlist.specs.declared.netlist.Module.{Module}
 use Rattle.circuit.specs.Rows.{EachOf}
 use Rattle.circuit.specs.Turns.{WaitsForAsks}
 use Rattle.leaf_machine.specs.Standing.{IsSilent}
-use Rattle.print_core.specs.declared.printer.Shape.{Shape as PrinterShape}
+use Rattle.printer_cores.specs.declared.printer.Shape.{Shape as PrinterShape}
 use Rattle.core_family.specs.Family.{CoreKind, Bank, Barrier, ThreadIds, Printer, machine_of, places_of, machine_at, port_of, ask_width, told_width, IsCoreModule}
 
 -- WHO ASKS NOTHING WAITS: every reading shows a state, and nothing is offered to whom the first part of an ask is 0

@@ -7,7 +7,7 @@ ghost use Rattle.core_family.specs.View.{kind_of};
 
 use bank_cores::bank;
 use mutex_cores::mutex;
-use print_core::printer;
+use printer_cores::printer;
 use sqlite_items::Items;
 use std::alloc::{AllocError, Global};
 

@@ -4,7 +4,7 @@ use Rattle.circuit.specs.Rows.{EachOf}
 use Rattle.bank_cores.specs.declared.bank.Shape.{Shape as BankShape}
 use Rattle.bank_cores.specs.Bank.{IsShape as IsBankShape}
 use Rattle.mutex_cores.specs.declared.mutex.Shape.{Shape as MutexShape}
-use Rattle.print_core.specs.Printer.{IsShape as IsPrinterShape}
+use Rattle.printer_cores.specs.Printer.{IsShape as IsPrinterShape}
 use Rattle.core_tables.specs.Family.{CoreKind, Bank, Mutex, Barrier, ThreadIds, Printer}
 use Rattle.core_family.specs.declared.cores.Cores.{Cores}
 

@@ -10,10 +10,10 @@ ghost use Rattle.core_places.specs.Placing.{distinct, AreKinds};
 use bank_cores::bank;
 use barrier_cores::barrier;
 use core_family::cores::{CoreKind, Cores, bank_kinds, push_if};
-use fork_join_cores::forks;
+use thread_id_cores::forks;
 use mutex_cores::mutex;
 use netlist::netlist::Module;
-use print_core::printer;
+use printer_cores::printer;
 use sqlite_items::Items;
 use std::alloc::{AllocError, Global};
 

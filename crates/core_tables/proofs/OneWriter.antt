@@ -17,7 +17,7 @@ use Rattle.top_wiring.proofs.TopPlaces.{core_part_at}
 use Rattle.core_family.specs.Family.{CoreKind, Bank, Mutex, Barrier, ThreadIds, Printer}
 use Rattle.core_family.specs.Laws.{IsNoPrinter}
 use Rattle.core_family.proofs.OnePrinter.{others_silent}
-use Rattle.print_core.specs.declared.printer.Shape.{Shape as PrinterShape}
+use Rattle.printer_cores.specs.declared.printer.Shape.{Shape as PrinterShape}
 use Rattle.core_tables.specs.Tables.{PlacedCore, Table, HasCores, kinds_at, laid_core, layout_of, modules_of}
 use Rattle.core_tables.specs.Laws.{SameOf, StandOnce, HasPrinter, OneWrites, PrintersWrite}
 use Rattle.core_tables.proofs.Lists.{map_back, map_get, there, behind_one, InMiddle, InFront, TheOne, Behind, in_middle}

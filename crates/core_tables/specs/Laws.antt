@@ -13,7 +13,7 @@ use Rattle.top_wiring.specs.Machine.{IsThreadAt, IsCoreAt, IsArbiterAt}
 use Rattle.bank_arbiter.specs.Arbiter as arbiter
 use Rattle.leaf_machine.specs.Standing.{IsSilent}
 use Rattle.leaf_machine.specs.Leaves.{LeafPorts, leaf_thread, leaf_places, IsSlotBit, IsThreadLeaf as IsLeafOfThread}
-use Rattle.print_core.specs.declared.printer.Shape.{Shape as PrinterShape}
+use Rattle.printer_cores.specs.declared.printer.Shape.{Shape as PrinterShape}
 use Rattle.leaf_machine.specs.Ports as port
 use Rattle.core_family.specs.Family.{CoreKind, Bank, Mutex, Barrier, ThreadIds, Printer, machine_at, places_at}
 use Rattle.core_tables.specs.Tables.{PlacedCore, Table, HasCores, layout_of, modules_of, kinds_in, ports_of}

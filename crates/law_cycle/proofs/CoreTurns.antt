@@ -19,9 +19,9 @@ use Rattle.planned_block.proofs.Bits.{both_true}
 use Rattle.verilog_meaning.specs.Cycles.{Choice}
 use Rattle.circuit.specs.Rows.{spread}
 use Rattle.mutex_cores.specs.declared.mutex.Shape.{Shape as MutexShape}
-use Rattle.print_core.specs.declared.printer.Shape.{Shape as PrinterShape}
+use Rattle.printer_cores.specs.declared.printer.Shape.{Shape as PrinterShape}
 use Rattle.circuit.specs.Machines.{after_grant, printed}
-use Rattle.print_core.specs.Machine.{bytes_of_site}
+use Rattle.printer_cores.specs.Machine.{bytes_of_site}
 use Rattle.law_threads.specs.Cores.{Core, may_grant, granted, text_at}
 use Rattle.core_family.specs.Family.{CoreKind, Mutex, Barrier, ThreadIds, Printer, machine_of}
 use Rattle.core_family.specs.Laws.{FitsState}

@@ -10,9 +10,9 @@ use Rattle.core_states.specs.Machines.{lock_eligible, lock_after, Gate, gate_eli
 use Rattle.bank_cores.specs.declared.bank.Shape.{Shape as BankShape}
 use Rattle.mutex_cores.specs.declared.mutex.Shape.{Shape as MutexShape}
 use Rattle.barrier_cores.specs.declared.barrier.Shape.{Shape as BarrierShape}
-use Rattle.fork_join_cores.specs.declared.forks.Shape.{Shape as ThreadIdsShape}
-use Rattle.print_core.specs.declared.printer.Shape.{Shape as PrinterShape}
-use Rattle.print_core.specs.Machine.{bytes_of_site}
+use Rattle.thread_id_cores.specs.declared.forks.Shape.{Shape as ThreadIdsShape}
+use Rattle.printer_cores.specs.declared.printer.Shape.{Shape as PrinterShape}
+use Rattle.printer_cores.specs.Machine.{bytes_of_site}
 use Rattle.law_threads.specs.Cores.{OfBank, OfMutex, OfBarrier, OfThreadIds, OfPrinter, may_grant, granted, text_at}
 use Rattle.core_family.specs.Family.{CoreKind, Bank, Mutex, Barrier, ThreadIds, Printer, machine_of}
 use Rattle.law_cycle.specs.Stage.{shown_as}

@@ -7,7 +7,7 @@ use Rattle.hls_ints.specs.Residues.{residue_of, bit_of}
 use Rattle.c_program.specs.Tree.{Program}
 use Rattle.interleaving.specs.Memory.{Access}
 use Rattle.bank_cores.specs.Machine.{ask_of}
-use Rattle.fork_join_cores.specs.declared.forks.Shape.{Shape as ThreadIdsShape}
+use Rattle.thread_id_cores.specs.declared.forks.Shape.{Shape as ThreadIdsShape}
 use Rattle.barrier_cores.specs.declared.barrier.Shape.{Shape as BarrierShape}
 use Rattle.block_ir.specs.declared.block.Block.{Block}
 use Rattle.block_ir.specs.declared.code.Stage.{Stage as CodeStage}

@@ -8,8 +8,8 @@ use Rattle.hls_ints.specs.Words.{signed_word}
 use Rattle.c_program.specs.Tree.{Piece, Program}
 use Rattle.circuit.specs.Rows.{spread}
 use Rattle.code_following.specs.Following.{print_formats, conversions_of}
-use Rattle.print_core.specs.declared.format.Part.{Part}
-use Rattle.print_core.specs.Machine.{site_bytes, bytes_of_site}
+use Rattle.printer_cores.specs.declared.format.Part.{Part}
+use Rattle.printer_cores.specs.Machine.{site_bytes, bytes_of_site}
 use Rattle.law_threads.specs.Cores.{printed_words, text_at}
 use Rattle.law_cycle.specs.Built.{conversion_part, part_of}
 

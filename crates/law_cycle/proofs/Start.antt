@@ -11,8 +11,8 @@ use Rattle.circuit.specs.Wiring.{start}
 use Rattle.mutex_cores.specs.declared.mutex.Shape.{Shape as MutexShape}
 use Rattle.mutex_cores.specs.Machine.{first_lock}
 use Rattle.barrier_cores.specs.declared.barrier.Shape.{Shape as BarrierShape}
-use Rattle.fork_join_cores.specs.declared.forks.Shape.{Shape as ThreadIdsShape}
-use Rattle.print_core.specs.declared.printer.Shape.{Shape as PrinterShape}
+use Rattle.thread_id_cores.specs.declared.forks.Shape.{Shape as ThreadIdsShape}
+use Rattle.printer_cores.specs.declared.printer.Shape.{Shape as PrinterShape}
 use Rattle.leaf_machine.specs.Leaves.{leaf_thread}
 use Rattle.leaf_machine.proofs.Leaves.{leaf_keeps_slots}
 use Rattle.thread_promise.specs.Moves.{first_slot}

@@ -8,9 +8,9 @@ use Rattle.thread_semantics.specs.declared.object.MutexState.TheVariants.{Free}
 use Rattle.thread_semantics.specs.State.{start}
 use Rattle.bank_partition.specs.declared.banks.Spread.{Spread}
 use Rattle.mutex_cores.specs.declared.mutex.Shape.{Shape as MutexShape}
-use Rattle.print_core.specs.declared.format.Part.{Part}
-use Rattle.print_core.specs.declared.format.Part.TheVariants.{Text, Unsigned, Signed}
-use Rattle.print_core.specs.declared.printer.Shape.{Shape as PrinterShape}
+use Rattle.printer_cores.specs.declared.format.Part.{Part}
+use Rattle.printer_cores.specs.declared.format.Part.TheVariants.{Text, Unsigned, Signed}
+use Rattle.printer_cores.specs.declared.printer.Shape.{Shape as PrinterShape}
 use Rattle.netlist.specs.declared.netlist.Module.{Module}
 use Rattle.circuit.specs.Wiring.{NetState}
 use Rattle.leaf_machine.specs.Leaves.{LeafPorts, leaf_thread}

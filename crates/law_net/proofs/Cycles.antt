@@ -10,7 +10,7 @@ use Rattle.circuit.proofs.States.{keeps_states}
 use Rattle.circuit.proofs.NetRuns.{starts, cycle_steps, runs_steps}
 use Rattle.block_ir.specs.Asked.{printer_core}
 use Rattle.law_cycle.specs.Family.{CoreKind, Bank, Mutex, Barrier, ThreadIds, Printer, machine_of}
-use Rattle.print_core.specs.declared.printer.Shape.{Shape as PrinterShape}
+use Rattle.printer_cores.specs.declared.printer.Shape.{Shape as PrinterShape}
 use Rattle.law_cycle.specs.Built.{Parts, Machine}
 use Rattle.law_cycle.specs.Bodies.{numbers_of, core_at, core_machine, core_count}
 use Rattle.law_cycle.proofs.Listed.{printer_back}

@@ -23,7 +23,7 @@ use Rattle.planned_block.specs.Headline.{PlannedProgram}
 use Rattle.verilog_meaning.specs.Cycles.{Choice}
 use Rattle.block_ir.specs.Asked.{Numbers, printer_core}
 use Rattle.law_cycle.specs.Family.{CoreKind, Bank, Mutex, Barrier, ThreadIds, Printer, machine_of}
-use Rattle.print_core.specs.declared.printer.Shape.{Shape as PrinterShape}
+use Rattle.printer_cores.specs.declared.printer.Shape.{Shape as PrinterShape}
 use Rattle.law_threads.specs.Cores.{Core, OfPrinter}
 use Rattle.law_threads.specs.Stands.{StandsFor}
 use Rattle.law_threads.specs.Surroundings.{hardware_code}

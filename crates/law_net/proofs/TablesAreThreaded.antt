@@ -28,7 +28,7 @@ use Rattle.leaf_machine.specs.Leaves.{LeafPorts, leaf_thread, leaf_places}
 use Rattle.leaf_machine.specs.Steady.{KeepsToItself}
 use Rattle.leaf_machine.proofs.Leaves.{slot_bit_is}
 use Rattle.law_net.proofs.AgreedReadings.{agree_on}
-use Rattle.print_core.specs.declared.printer.Shape.{Shape as PrinterShape}
+use Rattle.printer_cores.specs.declared.printer.Shape.{Shape as PrinterShape}
 use Rattle.core_tables.specs.Family.{CoreKind, Bank, Mutex, Barrier, ThreadIds, Printer, machine_of, machine_at}
 use Rattle.core_tables.proofs.OffersToAskers.{each_waits}
 use Rattle.core_tables.specs.Tables.{PlacedCore, Table, laid_core, kinds_at, layout_of, modules_of, kinds_in}

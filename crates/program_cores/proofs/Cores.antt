@@ -12,7 +12,7 @@ use Rattle.bank_partition.specs.declared.banks.Banks.{Banks}
 use Rattle.bank_partition.specs.Partition.{shapes}
 use Rattle.bank_cores.specs.declared.bank.Shape.{Shape as Bank}
 use Rattle.mutex_cores.specs.declared.mutex.Shape.{Shape as MutexShape}
-use Rattle.print_core.specs.declared.printer.Shape.{Shape as PrinterShape}
+use Rattle.printer_cores.specs.declared.printer.Shape.{Shape as PrinterShape}
 use Rattle.core_family.specs.declared.cores.Cores.{Cores}
 use Rattle.core_places.specs.Placing.{placed}
 use Rattle.core_places.proofs.CoresPlaced.{placed_count}

@@ -10,9 +10,9 @@ use Rattle.code_following.specs.Following.{conversions_of, print_formats}
 use Rattle.code_storage.specs.Formats.{IsPrinted}
 use Rattle.code_storage.proofs.Formats.{program_prints, formats_listed}
 use Rattle.circuit.specs.Rows.{EachOf}
-use Rattle.print_core.specs.Format.{is_printable, all_printable, values_of, IsPart, IsSite}
-use Rattle.print_core.specs.Printer.{IsShape}
-use Rattle.print_core.specs.declared.format.Part.{Part}
+use Rattle.printer_cores.specs.Format.{is_printable, all_printable, values_of, IsPart, IsSite}
+use Rattle.printer_cores.specs.Printer.{IsShape}
+use Rattle.printer_cores.specs.declared.format.Part.{Part}
 use Rattle.law_cycle.specs.Built.{conversion_part, part_of}
 use Rattle.program_cores.specs.Sites.{site_of, sites_of}
 

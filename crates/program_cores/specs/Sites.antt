@@ -2,8 +2,8 @@
 use Rattle.std.specs.Prelude.{ℕ, List, map}
 use Rattle.c_program.specs.Tree.{Piece, Statement, Program}
 use Rattle.code_following.specs.Following.{formats_of, print_formats}
-use Rattle.print_core.specs.declared.format.Part.{Part}
-use Rattle.print_core.specs.declared.printer.Shape.{Shape}
+use Rattle.printer_cores.specs.declared.format.Part.{Part}
+use Rattle.printer_cores.specs.declared.printer.Shape.{Shape}
 use Rattle.law_cycle.specs.Built.{part_of}
 
 abbrev pub site_of : List Piece → List Part

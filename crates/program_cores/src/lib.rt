@@ -20,7 +20,7 @@ use bank_partition::banks::Banks;
 use c_program::threads::thread_count;
 use c_program::tree::Program;
 use core_family::cores::Cores;
-use print_core::printer;
+use printer_cores::printer;
 pub use sites::PRINT_VALUES;
 use std::alloc::{AllocError, Global};
 

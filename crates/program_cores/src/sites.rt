@@ -6,7 +6,7 @@ ghost use Rattle.law_cycle.specs.Built.{part_of};
 ghost use Rattle.program_cores.specs.Sites.{site_of, sites_in, sites_of};
 
 use c_program::tree::{Piece, Program, Statement};
-use print_core::format::Part;
+use printer_cores::format::Part;
 use sqlite_items::Items;
 use std::alloc::{AllocError, Global};
 
