@@ -18,7 +18,8 @@ use Rattle.race_model.specs.Orderly.{waits_in, waits_at}
 use Rattle.race_model.proofs.Lists.{get-set_cases}
 use Rattle.race_model.proofs.Orderly.{orderly}
 use Rattle.code_following.specs.Following.{print_formats}
-use Rattle.block_ir.specs.Asked.{Asked, Barrier, Numbers, mutex_core, barrier_core, thread_ids_core, printer_core}
+use Rattle.block_ir.specs.Asked.{Asked, Numbers, mutex_core, barrier_core, thread_ids_core, printer_core}
+use Rattle.block_ir.specs.declared.service.Service.TheVariants as service
 use Rattle.core_states.specs.Machines.{Gate}
 use Rattle.law_threads.specs.Cores.{Core, OfBarrier, granted, status_in, argument_in, waits_in as core_waits}
 use Rattle.law_threads.specs.Stands.{GateStands, BarrierStands, StandsFor}
@@ -28,7 +29,7 @@ use Rattle.law_threads.proofs.Common.{status_kept, other_core, same_core}
 use Rattle.law_threads.proofs.Anywhere.{any_set_same, none_any, live_frames}
 
 abbrev pub asks_barrier : ℕ → ℕ → List ℕ → Asked
-asks_barrier n operation ws = record { service = Barrier; core = n; number = operation; values = ws }
+asks_barrier n operation ws = record { service = service.Barrier; core = n; number = operation; values = ws }
 
 -- barrier n comes from one state to another, and its core from one gate to another
 module _ (P : Program) (codes : Codes) (N : Numbers) (T : ℕ) (R : IsResolved P) (numbers : AreNumbers P N T) (s : State) (i : ℕ) (c : ℕ → Core) (reached : Reachable (c_source P) s)
