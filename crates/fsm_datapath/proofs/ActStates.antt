@@ -28,7 +28,8 @@ use Rattle.block_datapath.specs.Chains.{next_number}
 use Rattle.thread_slots.specs.declared.shape.Shape.{Shape}
 use Rattle.thread_slots.specs.declared.stores.Store.{Store}
 use Rattle.thread_slots.specs.Cells.{store_action, AreOff}
-use Rattle.block_ir.specs.Asked.{act_value, Service, Request as Call, request_of}
+use Rattle.block_ir.specs.Asked.{act_value, Request as Call, request_of}
+use Rattle.block_ir.specs.declared.service.Service.{Service}
 use Rattle.thread_promise.specs.Moves.{asked_in, core_asked}
 use Rattle.thread_slots.specs.Requests.{group}
 use Rattle.thread_slots.specs.Services.{number_width, value_count}

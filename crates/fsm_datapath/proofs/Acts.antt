@@ -11,7 +11,9 @@ use Rattle.block_ir.specs.declared.code.Stage.{Stage}
 use Rattle.block_ir.specs.declared.code.Stage.TheVariants as stage
 use Rattle.block_ir.specs.declared.code.ThreadCode.{ThreadCode}
 use Rattle.block_ir.specs.declared.plan.Planned.{Planned}
-use Rattle.block_ir.specs.Asked.{act_value, Service, Mutex, Barrier, ThreadIds, Printer, Request as Call, Asked, request_of, operand_words, asked_with, value_of, asked_at}
+use Rattle.block_ir.specs.Asked.{act_value, Request as Call, Asked, request_of, operand_words, asked_with, value_of, asked_at}
+use Rattle.block_ir.specs.declared.service.Service.{Service}
+use Rattle.block_ir.specs.declared.service.Service.TheVariants.{Mutex, Barrier, ThreadIds, Printer}
 use Rattle.planned_block.specs.Slot.{Slot}
 use Rattle.netlist.specs.declared.netlist.Module.{Module}
 use Rattle.verilog_meaning.specs.Readings.{Reading, next_reading}

@@ -36,7 +36,7 @@ use Rattle.block_datapath.specs.declared.registers.Held.{Held}
 use Rattle.block_datapath.specs.Wired.{HasWidthAt, AreChains}
 use Rattle.block_datapath.specs.Requests.{AreAsMany}
 use Rattle.thread_slots.specs.Requests.{group}
-use Rattle.block_ir.specs.Asked.{Service}
+use Rattle.block_ir.specs.declared.service.Service.{Service}
 use Rattle.thread_slots.specs.Services.{services, number_width}
 use Rattle.thread_slots.specs.declared.shape.Shape.{Shape}
 use Rattle.thread_slots.specs.Bits.{AreBitsOf}

@@ -41,7 +41,7 @@ use Rattle.block_datapath.specs.Requests.{Asked}
 use Rattle.thread_slots.specs.declared.shape.Shape.{Shape}
 use Rattle.thread_layout.specs.Actions.{set_action, sets_from}
 use Rattle.thread_slots.specs.Cells.{store_action}
-use Rattle.block_ir.specs.Asked.{Service}
+use Rattle.block_ir.specs.declared.service.Service.{Service}
 use Rattle.thread_slots.specs.Requests.{group}
 use Rattle.thread_layout.specs.Asking.{is_asked, AskSame}
 use Rattle.thread_slots.specs.Bits.{HasBit}

@@ -7,7 +7,7 @@ use Rattle.std.proofs.lemmas.List.{map-append}
 use Rattle.leaf_machine.specs.Leaves.{Told}
 use Rattle.leaf_machine.specs.Ports.{CorePort, told_of, told_place}
 use Rattle.thread_slots.specs.declared.shape.Served.{Served}
-use Rattle.block_ir.specs.Asked.{Mutex, Barrier, ThreadIds, Printer}
+use Rattle.block_ir.specs.declared.service.Service.TheVariants.{Mutex, Barrier, ThreadIds, Printer}
 use Rattle.thread_slots.specs.Services.{services, if_thread_ids, news_widths}
 use Rattle.thread_layout.specs.Leaf.{told_from}
 use Rattle.thread_layout.specs.Thread.{bank_port, act_port}

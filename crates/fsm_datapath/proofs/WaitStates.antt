@@ -18,7 +18,8 @@ use Rattle.block_ir.specs.declared.code.Stage.{Stage}
 use Rattle.block_ir.specs.declared.code.Stage.TheVariants as stage
 use Rattle.block_ir.specs.declared.code.ThreadCode.{ThreadCode}
 use Rattle.block_ir.specs.declared.plan.Planned.{Planned}
-use Rattle.block_ir.specs.Asked.{Barrier, barrier_core, thread_ids_core, act_value}
+use Rattle.block_ir.specs.Asked.{barrier_core, thread_ids_core, act_value}
+use Rattle.block_ir.specs.declared.service.Service.TheVariants.{Barrier}
 use Rattle.netlist.specs.declared.netlist.Module.{Module}
 use Rattle.verilog_meaning.specs.Readings.{Reading, next_reading}
 use Rattle.circuit.specs.Modules.{Obeys}

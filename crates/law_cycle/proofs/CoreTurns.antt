@@ -11,7 +11,9 @@ use Rattle.block_ir.specs.declared.code.Act.{Act}
 use Rattle.block_ir.specs.declared.code.Act.TheVariants as act
 use Rattle.block_ir.specs.declared.code.ActOperand.{ActOperand}
 use Rattle.block_ir.specs.declared.code.Stage.TheVariants as stage
-use Rattle.block_ir.specs.Asked.{act_value, Service, Mutex, Barrier, ThreadIds, Printer, Asked, asked, core_in, core_of, first_word, second_word}
+use Rattle.block_ir.specs.Asked.{act_value, Asked, asked, core_in, core_of, first_word, second_word}
+use Rattle.block_ir.specs.declared.service.Service.{Service}
+use Rattle.block_ir.specs.declared.service.Service.TheVariants.{Mutex, Barrier, ThreadIds, Printer}
 use Rattle.block_ir.specs.Asked.{mutex_core, barrier_core, thread_ids_core, printer_core}
 use Rattle.block_refine.specs.Routines.{stage_at}
 use Rattle.code_following.specs.Following.{print_formats}

@@ -5,7 +5,8 @@ use Rattle.hls_ints.specs.Residues.{residue_of}
 use Rattle.block_ir.specs.declared.code.Act.{Act}
 use Rattle.block_ir.specs.declared.code.Act.TheVariants as act
 use Rattle.block_ir.specs.declared.code.ActOperand.{ActOperand}
-use Rattle.block_ir.specs.Asked.{act_value, Mutex, Barrier, ThreadIds, Printer, Asked, asked, operand_words}
+use Rattle.block_ir.specs.Asked.{act_value, Asked, asked, operand_words}
+use Rattle.block_ir.specs.declared.service.Service.TheVariants.{Mutex, Barrier, ThreadIds, Printer}
 
 -- an init of a barrier has a count, a create an id and an argument, a join an id; and a printf its site and its values
 pub record HandsOver (a : Act) (variables : ℕ → ℤ) (asks : Asked) : Type 0 where

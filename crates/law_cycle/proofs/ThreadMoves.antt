@@ -20,7 +20,9 @@ use Rattle.planned_block.specs.Advance.{advance}
 use Rattle.planned_block.proofs.Bits.{both_true, less_is}
 use Rattle.plan_blocks.specs.View.{planned_view, plan_view}
 use Rattle.verilog_meaning.specs.Readings.{Reading, next_reading, initial_reading}
-use Rattle.block_ir.specs.Asked.{act_value, Service, Mutex, Barrier, ThreadIds, Printer, Asked, asked, Numbers, core_in, core_of, mutex_core, barrier_core, thread_ids_core, printer_core}
+use Rattle.block_ir.specs.Asked.{act_value, Asked, asked, Numbers, core_in, core_of, mutex_core, barrier_core, thread_ids_core, printer_core}
+use Rattle.block_ir.specs.declared.service.Service.{Service}
+use Rattle.block_ir.specs.declared.service.Service.TheVariants.{Mutex, Barrier, ThreadIds, Printer}
 use Rattle.thread_promise.specs.Globals.{bank_at, bank_total, bank_of, place_now, bank_now, IsOpen}
 use Rattle.thread_promise.specs.Promise.{BankPorts, went_on}
 use Rattle.thread_promise.specs.Moves.{meeting, stage_after, set_out, first_slot, asked_in, core_asked}

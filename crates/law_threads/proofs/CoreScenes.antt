@@ -5,7 +5,8 @@ use Rattle.hls_ints.specs.Residues.{residue_of}
 use Rattle.hls_ints.specs.Types.{long_int}
 use Rattle.block_ir.specs.declared.code.Act.TheVariants as act
 use Rattle.block_ir.specs.declared.code.ActOperand.TheVariants.{Variable}
-use Rattle.block_ir.specs.Asked.{Mutex, Barrier, ThreadIds, asked_with, asked, core_of}
+use Rattle.block_ir.specs.Asked.{asked_with, asked, core_of}
+use Rattle.block_ir.specs.declared.service.Service.TheVariants.{Mutex, Barrier, ThreadIds}
 use Rattle.core_states.specs.Machines.{Free, Owned}
 use Rattle.law_threads.specs.Cores.{Core, OfMutex, OfBarrier, OfThreadIds, may_grant, granted, status_in, waits_in}
 

@@ -23,7 +23,8 @@ use Rattle.race_model.specs.Source.{Local, local_of, running, outcome_of}
 use Rattle.race_model.proofs.Lists.{get-set_cases}
 use Rattle.race_model.proofs.Sound.{reachable_sound, runs_on}
 use Rattle.race_model.proofs.Orderly.{orderly}
-use Rattle.block_ir.specs.Asked.{act_value, Asked, ThreadIds, Numbers, mutex_core, barrier_core, thread_ids_core, printer_core}
+use Rattle.block_ir.specs.Asked.{act_value, Asked, Numbers, mutex_core, barrier_core, thread_ids_core, printer_core}
+use Rattle.block_ir.specs.declared.service.Service.TheVariants.{ThreadIds}
 use Rattle.code_following.specs.Following.{print_formats, SameAct}
 use Rattle.core_states.specs.Machines.{ids_after}
 use Rattle.law_threads.specs.Cores.{Core, OfThreadIds, may_grant, status_in, argument_in, waits_in}

@@ -23,7 +23,8 @@ use Rattle.block_ir.specs.declared.code.ActOperand.{ActOperand}
 use Rattle.planned_block.proofs.Bits.{less_is}
 use Rattle.race_model.specs.Source.{Local, local_of, running, outcome_of, c_source}
 use Rattle.race_model.proofs.Lists.{get-set_cases}
-use Rattle.block_ir.specs.Asked.{act_value, Asked, Mutex, Numbers, mutex_core, barrier_core, thread_ids_core, printer_core, core_of}
+use Rattle.block_ir.specs.Asked.{act_value, Asked, Numbers, mutex_core, barrier_core, thread_ids_core, printer_core, core_of}
+use Rattle.block_ir.specs.declared.service.Service.TheVariants.{Mutex}
 use Rattle.code_following.specs.Following.{print_formats, SameAct}
 use Rattle.core_states.specs.Machines.{lock_eligible, lock_after}
 use Rattle.law_threads.specs.Cores.{Core, OfMutex, may_grant, status_in, argument_in, waits_in}

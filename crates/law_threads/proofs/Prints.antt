@@ -15,7 +15,8 @@ use Rattle.block_ir.specs.declared.code.Act.TheVariants as act
 use Rattle.block_ir.specs.declared.code.ActOperand.{ActOperand}
 use Rattle.race_model.specs.Source.{Local, local_of, running, outcome_of}
 use Rattle.code_following.specs.Following.{print_formats, SameAct}
-use Rattle.block_ir.specs.Asked.{Asked, Printer, operand_words, Numbers, mutex_core, barrier_core, thread_ids_core, printer_core}
+use Rattle.block_ir.specs.Asked.{Asked, operand_words, Numbers, mutex_core, barrier_core, thread_ids_core, printer_core}
+use Rattle.block_ir.specs.declared.service.Service.TheVariants.{Printer}
 use Rattle.law_threads.specs.Cores.{Core, OfPrinter, may_grant, text_at, status_in, argument_in, waits_in}
 use Rattle.block_refine.specs.Routines.{Codes, Starts}
 use Rattle.block_refine.specs.RoutineActs.{IsStepOf}

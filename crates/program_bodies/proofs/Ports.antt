@@ -16,7 +16,8 @@ use Rattle.core_family.specs.Kinds.{barrier, thread_ids, thread_ids_kinds, kinds
 use Rattle.thread_promise.specs.Globals.{bank_total}
 use Rattle.law_banks.specs.Partition.{globals_of, ArePartitioned}
 use Rattle.law_banks.proofs.Partitioned.{total, bank_is, type_here}
-use Rattle.block_ir.specs.Asked.{Service, Mutex, Barrier, ThreadIds, Printer}
+use Rattle.block_ir.specs.declared.service.Service.{Service}
+use Rattle.block_ir.specs.declared.service.Service.TheVariants.{Mutex, Barrier, ThreadIds, Printer}
 use Rattle.thread_slots.specs.Services.{if_thread_ids, services}
 use Rattle.fsm_datapath.specs.SoundLeaf.{parts_of, tells_of}
 use Rattle.fsm_datapath.specs.Thread.{AreRightSpreads, bank_port, act_port, core_ports}

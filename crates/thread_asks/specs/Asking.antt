@@ -24,7 +24,9 @@ use Rattle.operator_wires.specs.Words.{resized_word}
 use Rattle.operator_wires.specs.Built.{Base, IsEarlier}
 use Rattle.operator_wires.specs.Added.{NumberAdds}
 use Rattle.block_datapath.specs.Promise.{is_run}
-use Rattle.block_ir.specs.Asked.{act_value, Service, Mutex, Barrier, ThreadIds, Printer, Request as Call, request_of}
+use Rattle.block_ir.specs.Asked.{act_value, Request as Call, request_of}
+use Rattle.block_ir.specs.declared.service.Service.{Service}
+use Rattle.block_ir.specs.declared.service.Service.TheVariants.{Mutex, Barrier, ThreadIds, Printer}
 use Rattle.block_datapath.specs.declared.registers.Held.{Held}
 use Rattle.block_datapath.specs.declared.registers.Registers.{Registers}
 use Rattle.block_datapath.specs.Chains.{next_number, TellsStage}

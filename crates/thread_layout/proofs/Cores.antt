@@ -9,7 +9,9 @@ use Rattle.std.proofs.lemmas.Bool.Decides.{nat_tests}
 use Rattle.std.proofs.Math.Bool.{and-true, and-false}
 use Rattle.lists.proofs.Places.{get_front, copies_there, get_right}
 use Rattle.hls_ints.specs.Residues.{bit_of}
-use Rattle.block_ir.specs.Asked.{Service, Mutex, Barrier, ThreadIds, Printer, Numbers, core_in}
+use Rattle.block_ir.specs.Asked.{Numbers, core_in}
+use Rattle.block_ir.specs.declared.service.Service.{Service}
+use Rattle.block_ir.specs.declared.service.Service.TheVariants.{Mutex, Barrier, ThreadIds, Printer}
 use Rattle.thread_slots.specs.declared.shape.Served.{Served}
 use Rattle.thread_slots.specs.Services.{services, if_thread_ids, numbers_with, core_count}
 use Rattle.thread_asks.specs.Asking.{same_service}

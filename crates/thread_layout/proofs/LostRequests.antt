@@ -7,7 +7,9 @@ use Rattle.block_ir.specs.declared.code.Stage.{Stage}
 use Rattle.block_ir.specs.declared.code.Stage.TheVariants as stage
 use Rattle.block_ir.specs.declared.code.ThreadCode.{ThreadCode}
 use Rattle.block_ir.specs.declared.plan.Planned.{Planned}
-use Rattle.block_ir.specs.Asked.{Service, Mutex, Barrier, ThreadIds, Printer, Numbers, Asked, Request as Call, request_of, asked_at, printer_core}
+use Rattle.block_ir.specs.Asked.{Numbers, Asked, Request as Call, request_of, asked_at, printer_core}
+use Rattle.block_ir.specs.declared.service.Service.{Service}
+use Rattle.block_ir.specs.declared.service.Service.TheVariants.{Mutex, Barrier, ThreadIds, Printer}
 use Rattle.planned_block.specs.Slot.{Slot}
 use Rattle.planned_block.specs.Advance.{any_below}
 use Rattle.planned_block.proofs.Advances.{some_tells}

@@ -44,7 +44,8 @@ use Rattle.thread_layout.specs.Thread.{inputs_of, places_of, IsServed}
 use Rattle.thread_requests.proofs.Needs.{idle_needs}
 use Rattle.thread_layout.proofs.Opened.{wired, earlier_wide, wants_count, want_wide, ask_wide, bit_told}
 use Rattle.thread_requests.specs.Early.{wants_of}
-use Rattle.block_ir.specs.Asked.{Service, Mutex, Barrier, ThreadIds, Printer}
+use Rattle.block_ir.specs.declared.service.Service.{Service}
+use Rattle.block_ir.specs.declared.service.Service.TheVariants.{Mutex, Barrier, ThreadIds, Printer}
 use Rattle.thread_slots.specs.Requests.{group}
 use Rattle.thread_layout.proofs.Placed.{from_early, wide_bit}
 use Rattle.thread_layout.proofs.RaisedAsks.{from_whole, from_needs}

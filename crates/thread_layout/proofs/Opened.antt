@@ -25,7 +25,7 @@ use Rattle.thread_slots.specs.Bits.{HasBit, HaveBits}
 use Rattle.thread_requests.specs.Early.{spread_out, act_count, act_open, joined_bits, HasObject}
 use Rattle.thread_layout.specs.Modules.{marks_of, IsModule, IsWiredInside}
 use Rattle.thread_layout.specs.Thread.{inputs_of, cores_of, IsServed}
-use Rattle.block_ir.specs.Asked.{Service}
+use Rattle.block_ir.specs.declared.service.Service.{Service}
 use Rattle.thread_slots.specs.Requests.{group}
 use Rattle.thread_requests.proofs.OpenCores.{have_joined}
 use Rattle.thread_layout.proofs.Placed.{no_argument, from_early, wide_bit, banks_many, mark_held, stands_wide}

@@ -31,7 +31,7 @@ use Rattle.thread_requests.specs.Outputs.{CopiesAt, joined, request_row, field_r
 use Rattle.thread_slots.specs.Wired.{field_width}
 use Rattle.thread_states.specs.Acts.{IsTypedArgument}
 use Rattle.thread_layout.specs.Modules.{IsModule}
-use Rattle.block_ir.specs.Asked.{Service}
+use Rattle.block_ir.specs.declared.service.Service.{Service}
 use Rattle.thread_slots.specs.Requests.{group}
 use Rattle.thread_slots.specs.Services.{services, number_width, value_count}
 use Rattle.thread_slots.specs.Hearing.{IsHeard}

@@ -3,7 +3,9 @@ use Rattle.std.proofs.Common.{◌≡◌, ℕ, ◌+◌, ◌<◌, ◌≤◌, Bool,
 use Rattle.std.proofs.lemmas.Bool.{cases_lt}
 use Rattle.lists.proofs.Places.{get_there}
 use Rattle.hls_ints.specs.Residues.{bit_of}
-use Rattle.block_ir.specs.Asked.{Service, Mutex, Barrier, ThreadIds, Printer, Request as Call, request_of, Asked, asked_at, asked_with, value_of, operand_words, first_word, core_in}
+use Rattle.block_ir.specs.Asked.{Request as Call, request_of, Asked, asked_at, asked_with, value_of, operand_words, first_word, core_in}
+use Rattle.block_ir.specs.declared.service.Service.{Service}
+use Rattle.block_ir.specs.declared.service.Service.TheVariants.{Mutex, Barrier, ThreadIds, Printer}
 use Rattle.block_ir.specs.declared.code.Act.TheVariants as act
 use Rattle.block_ir.specs.declared.code.ActOperand.{ActOperand}
 use Rattle.thread_promise.specs.Moves.{asked_in, core_asked}

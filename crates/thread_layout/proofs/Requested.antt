@@ -28,7 +28,7 @@ use Rattle.block_datapath.proofs.TypedIndexes.{index_typed, target_typed}
 use Rattle.block_datapath.proofs.OneAskedBank.{some_banks}
 use Rattle.block_datapath.proofs.AskingOperations.{Asker}
 use Rattle.thread_slots.specs.declared.shape.Shape.{Shape}
-use Rattle.block_ir.specs.Asked.{Service}
+use Rattle.block_ir.specs.declared.service.Service.{Service}
 use Rattle.thread_slots.specs.Requests.{group}
 use Rattle.thread_slots.specs.Bits.{HasBit}
 use Rattle.thread_layout.specs.Leaf.{served_ports}

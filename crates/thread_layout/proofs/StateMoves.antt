@@ -32,7 +32,7 @@ use Rattle.block_datapath.specs.Accesses.{is_bank, reaches_in}
 use Rattle.block_datapath.proofs.OneAskedBank.{some_banks, reaching, only_one}
 use Rattle.block_datapath.proofs.AskingOperations.{Asker, asker_of}
 use Rattle.thread_slots.specs.declared.shape.Shape.{Shape}
-use Rattle.block_ir.specs.Asked.{Service}
+use Rattle.block_ir.specs.declared.service.Service.{Service}
 use Rattle.thread_slots.specs.Requests.{group}
 use Rattle.thread_requests.proofs.OpenCores.{joined_front, joined_back}
 use Rattle.thread_slots.specs.Bits.{HasBit, HaveBits, is_in}

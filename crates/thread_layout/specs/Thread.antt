@@ -17,7 +17,9 @@ use Rattle.plan_blocks.specs.View.{register_at}
 use Rattle.netlist.specs.declared.netlist.Module.{Module}
 use Rattle.thread_promise.specs.Slots.{Places}
 use Rattle.thread_promise.specs.Globals.{IsSmallPower, bank_total}
-use Rattle.block_ir.specs.Asked.{Service, Mutex, Barrier, ThreadIds, Printer, Numbers, Request as Call, request_of}
+use Rattle.block_ir.specs.Asked.{Numbers, Request as Call, request_of}
+use Rattle.block_ir.specs.declared.service.Service.{Service}
+use Rattle.block_ir.specs.declared.service.Service.TheVariants.{Mutex, Barrier, ThreadIds, Printer}
 use Rattle.thread_slots.specs.declared.shape.PrinterPort.{PrinterPort}
 use Rattle.thread_slots.specs.declared.shape.Served.{Served}
 use Rattle.thread_slots.specs.Services.{services, numbers_with, core_count, news_widths, number_width, value_count}

@@ -17,7 +17,7 @@ use Rattle.block_datapath.specs.declared.requests.BankRequests.{BankRequests}
 use Rattle.thread_slots.specs.declared.requests.Requests.{Requests}
 use Rattle.thread_slots.specs.declared.shape.Served.{Served}
 use Rattle.thread_slots.specs.Requests.{group}
-use Rattle.block_ir.specs.Asked.{Service}
+use Rattle.block_ir.specs.declared.service.Service.{Service}
 use Rattle.thread_slots.specs.Services.{services, number_width}
 use Rattle.thread_slots.specs.Wired.{field_width}
 use Rattle.thread_requests.specs.declared.outputs.Row.{Row}

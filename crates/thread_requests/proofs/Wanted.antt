@@ -17,7 +17,8 @@ use Rattle.block_datapath.specs.declared.registers.Registers.{Registers}
 use Rattle.block_datapath.specs.declared.requests.BankRequests.{BankRequests}
 use Rattle.block_datapath.specs.Wired.{HasWidthAt}
 use Rattle.block_datapath.specs.Requests.{AreBankChains}
-use Rattle.block_ir.specs.Asked.{Service, Mutex, Barrier, ThreadIds, Printer}
+use Rattle.block_ir.specs.declared.service.Service.{Service}
+use Rattle.block_ir.specs.declared.service.Service.TheVariants.{Mutex, Barrier, ThreadIds, Printer}
 use Rattle.thread_slots.specs.Requests.{group}
 use Rattle.thread_asks.specs.declared.asking.Caller.{Caller}
 use Rattle.thread_requests.specs.declared.early.Acts.{Acts}

@@ -9,7 +9,7 @@ use Rattle.operator_wires.specs.Built.{is_single}
 use Rattle.operator_wires.specs.Gives.{Grows}
 use Rattle.block_datapath.specs.declared.registers.Held.{Held}
 use Rattle.block_datapath.specs.declared.requests.BankRequests.{BankRequests}
-use Rattle.block_ir.specs.Asked.{Service}
+use Rattle.block_ir.specs.declared.service.Service.{Service}
 use Rattle.thread_slots.specs.declared.shape.Served.{Served}
 use Rattle.thread_slots.specs.Requests.{group}
 use Rattle.thread_slots.specs.Services.{services, number_width}

@@ -1,6 +1,8 @@
 -- The cores that acts ask, behind the banks: mutexes, barriers, the core of the thread ids, the printer.
 use Rattle.std.specs.Prelude.{ℕ, suc, Bool, true, false, List, [], ◌∷◌, ◌++◌, replicate}
-use Rattle.block_ir.specs.Asked.{Service, Mutex, Barrier, ThreadIds, Printer, Numbers, printer_core}
+use Rattle.block_ir.specs.Asked.{Numbers, printer_core}
+use Rattle.block_ir.specs.declared.service.Service.{Service}
+use Rattle.block_ir.specs.declared.service.Service.TheVariants.{Mutex, Barrier, ThreadIds, Printer}
 use Rattle.thread_slots.specs.declared.shape.Served.{Served}
 
 -- the core of the thread ids, if there is one

@@ -3,7 +3,9 @@ use Rattle.std.specs.Prelude.{Result, OnOk}
 use Rattle.std.proofs.lemmas.Result.{on_ok_weaker}
 use Rattle.hls_ints.specs.Types.{IntegerType}
 use Rattle.bank_partition.specs.declared.banks.Spread.{Spread}
-use Rattle.block_ir.specs.Asked.{Service, Mutex, Barrier, ThreadIds, Printer, request_of}
+use Rattle.block_ir.specs.Asked.{request_of}
+use Rattle.block_ir.specs.declared.service.Service.{Service}
+use Rattle.block_ir.specs.declared.service.Service.TheVariants.{Mutex, Barrier, ThreadIds, Printer}
 use Rattle.block_ir.specs.declared.code.Act.{Act}
 use Rattle.block_ir.specs.declared.code.Act.TheVariants as act_taken
 use Rattle.block_ir.specs.declared.code.ActOperand.{ActOperand}

@@ -1,7 +1,7 @@
 use Rattle.std.proofs.Common.{◌≡◌, List, ◌++◌, length, sym, ap, ◌∙◌}
 use Rattle.thread_requests.specs.declared.outputs.Row.{Row}
 use Rattle.thread_requests.specs.Outputs.{joined, rows_from, acts_from}
-use Rattle.block_ir.specs.Asked.{Service}
+use Rattle.block_ir.specs.declared.service.Service.{Service}
 use Rattle.thread_slots.specs.Services.{services}
 use Rattle.thread_requests.proofs.OutputPorts.{joined_then}
 use Rattle.thread_requests.proofs.outputs.request_rows.Goals as goal
