@@ -1,9 +1,14 @@
-"""Small random programs with threads and mutexes, each from a seed: their text, their interleavings, and whether they keep the lock discipline that
-docs/USING.md describes. A program is drawn as a tree of statements; what is said of its interleavings comes from running that tree by the words of C99
-and POSIX, and what is said of its discipline from going through it by the words of docs/USING.md."""
+"""Small random programs with threads and mutexes, each from a seed: their text, their interleavings, and whether they
+keep the lock discipline that docs/USING.md describes. A program is drawn as a tree of statements; what is said of its
+interleavings comes from running that tree by the words of C99 and POSIX, and what is said of its discipline from going
+through it by the words of docs/USING.md."""
+from __future__ import annotations
+
 import random
 from collections import deque
+from collections.abc import Callable, Iterable, Iterator
 from dataclasses import dataclass, field
+from typing import Union
 
 
 @dataclass
@@ -14,16 +19,20 @@ class Use:
     place: int = -1
 
 
+# What is written: a global, or a local of this name.
+Target = Union[Use, str]
+
+
 @dataclass
 class Sum:
-    uses: list
-    locals: list
+    uses: list[Use]
+    locals: list[str]
     constant: int
 
 
 @dataclass
 class Set:
-    target: object
+    target: Target
     value: Sum
     adds: bool
 
@@ -31,31 +40,31 @@ class Set:
 @dataclass
 class If:
     test: Sum
-    then: list
-    other: list
+    then: list[Statement]
+    other: list[Statement]
 
 
 @dataclass
 class Loop:
     counter: str
     times: int
-    body: list
+    body: list[Statement]
 
 
 @dataclass
 class Mutex:
     locks: bool
     name: str
-    index: int = None
+    index: int | None = None
 
 
 @dataclass
 class Thread:
-    """A create or a join of an object, or of an element of one."""
+    """A create or a join of an object, or of an element of one: by its number, or by a counter."""
 
     creates: bool
     name: str
-    index: object = None
+    index: int | str | None = None
     place: int = -1
 
 
@@ -74,14 +83,17 @@ class JoinLoop:
 @dataclass
 class Call:
     name: str
-    target: object = None
+    target: Target | None = None
 
 
 @dataclass
 class Return:
-    value: Sum = None
+    value: Sum | None = None
 
 
+Statement = Union[Set, If, Loop, Mutex, Thread, JoinLoop, Call, Return]
+
+# Heads of loops over the two elements of an object: their texts, what the counter is, and whether it is a join loop.
 HEADS = [
     ("for ({k} = 0; {k} < 2; {k}++) ", range(2), True),
     ("for ({k} = 0; {k} < 1 + 1; ++{k}) ", range(2), True),
@@ -93,41 +105,43 @@ HEADS = [
 
 @dataclass
 class Program:
-    """Functions by name; the threads' objects with their routines, the mutexes (with their lengths, 0 of a scalar), the globals."""
+    """Functions by name; the threads' objects with their routines, the mutexes (with their lengths, 0 of a scalar), the
+    globals."""
 
-    globals: list
-    objects: dict
-    routines: dict
-    mutexes: dict
-    functions: dict = field(default_factory=dict)
+    globals: list[str]
+    objects: dict[str, int]
+    routines: dict[str, str]
+    mutexes: dict[str, int]
+    functions: dict[str, list[Statement]] = field(default_factory=dict)
     text: str = ""
 
 
 # ---- drawing
 
 class Drawing:
-    def __init__(self, seed):
+    def __init__(self, seed: int) -> None:
         self.draw = random.Random(seed)
         self.counters = 0
         # objects and mutexes, with their lengths, 0 of a scalar
         names = [f"x{i}" for i in range(self.draw.randrange(1, 4))]
         objects = self.draw.choice([{"a": 0}, {"a": 0, "b": 0}, {"t": 2}, {"a": 0, "t": 2}])
-        self.program = Program(names, objects, {name: self.draw.choice("fg") for name in objects}, {"m": 0, "n": 0, "p": 2})
+        routines = {name: self.draw.choice("fg") for name in objects}
+        self.program = Program(names, objects, routines, {"m": 0, "n": 0, "p": 2})
         self.favourite = {name: self.draw.choice("mmn") for name in names}
 
-    def maybe(self, chance):
+    def maybe(self, chance: float) -> bool:
         return self.draw.random() < chance
 
-    def sum(self, names):
+    def sum(self, names: list[str]) -> Sum:
         uses = [Use(self.draw.choice(names))] if names and self.maybe(0.5) else []
         return Sum(uses, [], self.draw.randrange(3))
 
-    def access(self, name):
+    def access(self, name: str) -> Statement:
         if self.maybe(0.25):
             return Set("k", Sum([Use(name)], [], 0), False)
         return Set(Use(name), self.sum([name]), self.maybe(0.4))
 
-    def guarded(self, name):
+    def guarded(self, name: str) -> list[Statement]:
         mutex = self.favourite[name] if self.maybe(0.93) else self.draw.choice("mn")
         body = [self.access(name)]
         if self.maybe(0.15):
@@ -139,16 +153,16 @@ class Drawing:
             body += [self.access(name)] if self.maybe(0.5) else []
         if self.maybe(0.12):
             body = [self.loop(body)]
-        locked = [Mutex(True, mutex), *body, Mutex(False, mutex)]
+        locked: list[Statement] = [Mutex(True, mutex), *body, Mutex(False, mutex)]
         if self.maybe(0.04):
             locked.pop(self.draw.choice([0, -1]))
         return locked
 
-    def loop(self, body):
+    def loop(self, body: list[Statement]) -> Statement:
         self.counters += 1
         return Loop(f"i{self.counters}", self.draw.randrange(1, 3), body)
 
-    def part(self, helpers, plain):
+    def part(self, helpers: list[str], plain: float) -> list[Statement]:
         """What a thread does with a global, without its mutex as often as is said."""
         name = self.draw.choice(self.program.globals)
         kind = self.draw.random()
@@ -157,30 +171,44 @@ class Drawing:
         elif kind < 0.85 or not helpers:
             body = self.guarded(name)
         else:
-            helper = self.draw.choice(helpers)
-            body = [Call(helper, Use(name) if helper == "v" and self.maybe(0.5) else "k")] if helper == "v" else [Call(helper)]
+            body = [self.helped(name, self.draw.choice(helpers))]
         if self.maybe(0.1):
             body = [self.loop(body)]
         if self.maybe(0.1):
             body = [If(self.sum([]), body, [])]
         return body
 
-    def helper(self, returns):
+    def helped(self, name: str, helper: str) -> Statement:
+        """A call of a helper; where it returns a number, the global or a local takes it."""
+        if helper != "v":
+            return Call(helper)
+        return Call(helper, Use(name) if self.maybe(0.5) else "k")
+
+    def helper(self, returns: bool) -> list[Statement]:
         name = self.draw.choice(self.program.globals)
         mutex = self.favourite[name]
-        body = self.draw.choice([[self.access(name)], self.guarded(name), [Mutex(True, mutex)], [Mutex(False, mutex)], [Set("k", Sum([], [], 1), False)]])
+        bodies: list[list[Statement]] = [
+            [self.access(name)],
+            self.guarded(name),
+            [Mutex(True, mutex)],
+            [Mutex(False, mutex)],
+            [Set("k", Sum([], [], 1), False)],
+        ]
+        body = self.draw.choice(bodies)
         if self.maybe(0.3):
             body = [If(self.sum([]), [Return(Sum([], [], 1) if returns else None)], []), *body]
         return [*body, Return(self.sum([]))] if returns else body
 
-    def creates(self, name, length):
+    def creates(self, name: str, length: int) -> list[Statement]:
         if not length:
             return [Thread(True, name)]
         self.counters += 1
         counter = f"i{self.counters}"
-        return [Loop(counter, 2, [Thread(True, name, counter)])] if self.maybe(0.7) else [Thread(True, name, 0), Thread(True, name, 1)]
+        if self.maybe(0.7):
+            return [Loop(counter, 2, [Thread(True, name, counter)])]
+        return [Thread(True, name, 0), Thread(True, name, 1)]
 
-    def joins(self, name, length):
+    def joins(self, name: str, length: int) -> list[Statement]:
         if not length:
             return [Thread(False, name)]
         if self.maybe(0.7):
@@ -193,8 +221,8 @@ class Drawing:
             return [Thread(False, name, first), *self.part([], 0.9), Thread(False, name, 1 - first)]
         return [Thread(False, name, at) for at in range(2) if self.maybe(0.8)]
 
-    def main(self, helpers):
-        body = []
+    def main(self, helpers: list[str]) -> list[Statement]:
+        body: list[Statement] = []
         order = list(self.program.objects.items())
         if self.maybe(0.5):
             body += self.part([], 0.7)
@@ -214,11 +242,12 @@ class Drawing:
             if self.maybe(0.12):
                 body += self.part(helpers, 0.6)
             if self.maybe(0.08) and not length:
-                body += [Thread(True, name), *(self.part(helpers, 0.4) if self.maybe(0.4) else []), Thread(False, name)]
+                between = self.part(helpers, 0.4) if self.maybe(0.4) else []
+                body += [Thread(True, name), *between, Thread(False, name)]
         return body + (self.part(helpers, 0.8) if self.maybe(0.7) else [])
 
-    def routine(self, helpers):
-        body = []
+    def routine(self, helpers: list[str]) -> list[Statement]:
+        body: list[Statement] = []
         for _ in range(self.draw.randrange(1, 3)):
             body += self.part(helpers, 0.05)
         if self.maybe(0.03):
@@ -228,7 +257,7 @@ class Drawing:
             body.insert(self.draw.randrange(len(body) + 1), If(self.sum([]), [Return()], []))
         return body
 
-    def drawn(self):
+    def drawn(self) -> Program:
         """The program, with its text."""
         functions = self.program.functions
         functions["h"], functions["v"] = self.helper(False), self.helper(True)
@@ -241,59 +270,72 @@ class Drawing:
 
 # ---- the text
 
+def brackets(length: int) -> str:
+    """Behind a declared name: the length of an array, nothing of a scalar."""
+    return f"[{length}]" if length else ""
+
+
+def element(name: str, index: int | str | None) -> str:
+    return name if index is None else f"{name}[{index}]"
+
+
 class Text:
-    def __init__(self, program):
+    def __init__(self, program: Program) -> None:
         self.program, self.text = program, ""
 
-    def use(self, use):
+    def use(self, use: Use) -> None:
         use.place = len(self.text)
         self.text += use.name
 
-    def sum(self, value):
+    def sum(self, value: Sum) -> None:
         for use in value.uses:
             self.use(use)
             self.text += " + "
         self.text += "".join(f"{name} + " for name in value.locals) + str(value.constant)
 
-    def place(self, target):
+    def place(self, target: Target) -> None:
         if isinstance(target, Use):
             self.use(target)
         else:
             self.text += target
 
-    def block(self, body):
+    def block(self, body: list[Statement]) -> None:
         self.text += "{ "
         for statement in body:
             self.statement(statement)
             self.text += " "
         self.text += "}"
 
-    def thread(self, it):
+    def thread(self, it: Thread) -> None:
         it.place = len(self.text)
-        element = it.name if it.index is None else f"{it.name}[{it.index}]"
-        routine = self.program.routines[it.name]
-        self.text += f"pthread_create(&{element}, NULL, {routine}, NULL);" if it.creates else f"pthread_join({element}, NULL);"
+        named = element(it.name, it.index)
+        if it.creates:
+            self.text += f"pthread_create(&{named}, NULL, {self.program.routines[it.name]}, NULL);"
+        else:
+            self.text += f"pthread_join({named}, NULL);"
 
-    def statement(self, it):
+    def choice(self, it: If) -> None:
+        self.text += "if (("
+        self.sum(it.test)
+        self.text += ") % 2) "
+        self.block(it.then)
+        if it.other:
+            self.text += " else "
+            self.block(it.other)
+
+    def statement(self, it: Statement) -> None:
         if isinstance(it, Set):
             self.place(it.target)
             self.text += " += " if it.adds else " = "
             self.sum(it.value)
             self.text += ";"
         elif isinstance(it, If):
-            self.text += "if (("
-            self.sum(it.test)
-            self.text += ") % 2) "
-            self.block(it.then)
-            if it.other:
-                self.text += " else "
-                self.block(it.other)
+            self.choice(it)
         elif isinstance(it, Loop):
             self.text += f"for (int {it.counter} = 0; {it.counter} < {it.times}; {it.counter}++) "
             self.block(it.body)
         elif isinstance(it, Mutex):
-            element = it.name if it.index is None else f"{it.name}[{it.index}]"
-            self.text += f"pthread_mutex_{'lock' if it.locks else 'unlock'}(&{element});"
+            self.text += f"pthread_mutex_{'lock' if it.locks else 'unlock'}(&{element(it.name, it.index)});"
         elif isinstance(it, Thread):
             self.thread(it)
         elif isinstance(it, JoinLoop):
@@ -312,7 +354,7 @@ class Text:
             self.sum(it.value)
             self.text += ";"
 
-    def function(self, head, name, last):
+    def function(self, head: str, name: str, last: str) -> None:
         self.text += f"{head} {{ int k = 0; "
         for statement in self.program.functions[name]:
             if isinstance(statement, (If, Loop)) and name in "fg":
@@ -321,20 +363,19 @@ class Text:
             self.text += " "
         self.text += f"{last}}}\n"
 
-    def pointers(self, statement):
+    def pointers(self, statement: If | Loop) -> None:
         """A routine returns a null pointer."""
         for part in [statement.then, statement.other] if isinstance(statement, If) else [statement.body]:
             for at, inner in enumerate(part):
                 if isinstance(inner, Return):
                     part[at] = Return(Sum([], [], 0))
 
-    def written(self):
-        length = lambda n: f"[{n}]" if n else ""  # noqa: E731
+    def written(self) -> str:
         program = self.program
         self.text = "".join(f"int {name};\n" for name in program.globals)
-        self.text += "".join(f"pthread_t {name}{length(n)};\n" for name, n in program.objects.items())
-        self.text += "pthread_mutex_t m = PTHREAD_MUTEX_INITIALIZER;\npthread_mutex_t n = PTHREAD_MUTEX_INITIALIZER;\npthread_mutex_t p[2];\n"
-        self.text += "void *f(void *arg);\nvoid *g(void *arg);\n"
+        self.text += "".join(f"pthread_t {name}{brackets(n)};\n" for name, n in program.objects.items())
+        self.text += "pthread_mutex_t m = PTHREAD_MUTEX_INITIALIZER;\npthread_mutex_t n = PTHREAD_MUTEX_INITIALIZER;\n"
+        self.text += "pthread_mutex_t p[2];\nvoid *f(void *arg);\nvoid *g(void *arg);\n"
         self.function("void h(void)", "h", "")
         self.function("int v(void)", "v", "")
         for routine in "fg":
@@ -349,147 +390,212 @@ class Text:
 
 # ---- interleavings
 
+@dataclass
+class Assign:
+    """A global or a local by its name, which takes a sum, or to which the sum is added."""
+
+    name: str
+    value: Sum
+    adds: bool
+
+
+@dataclass
+class Test:
+    """Goes to a step where the sum is even, else on."""
+
+    value: Sum
+    to: int = -1
+
+
+@dataclass
+class Less:
+    """Goes to a step where the local is not less than a number, else on."""
+
+    counter: str
+    stop: int
+    to: int = -1
+
+
+@dataclass
+class Go:
+    to: int = -1
+
+
+@dataclass
+class Hold:
+    """A lock or an unlock of a mutex, or of an element of one."""
+
+    locks: bool
+    mutex: tuple[str, int | None]
+
+
+@dataclass
+class Meet:
+    """A create or a join of an object, or of an element of one: by its number, or by a local."""
+
+    creates: bool
+    name: str
+    index: int | str | None
+
+
+@dataclass
+class End:
+    """The end of the thread."""
+
+
+Step = Union[Assign, Test, Less, Go, Hold, Meet, End]
+
+
 class Code:
-    """A thread's function as a list of steps, calls inlined. A step is a word and what it needs."""
+    """A thread's function as a list of steps, calls inlined."""
 
-    def __init__(self, program, name):
-        self.program, self.steps, self.depth = program, [], 0
+    def __init__(self, program: Program, name: str) -> None:
+        self.program, self.depth = program, 0
+        self.steps: list[Step] = []
         self.block(program.functions[name], "", None)
-        self.steps.append(("end",))
+        self.steps.append(End())
 
-    def block(self, body, scope, ends):
+    def block(self, body: list[Statement], scope: str, ends: list[Go] | None) -> None:
         for statement in body:
             self.statement(statement, scope, ends)
 
-    def branch(self, step, body):
-        at = len(self.steps)
-        self.steps.append(step)
-        body()
-        return at
-
-    def target(self, target, scope):
+    def target(self, target: Target, scope: str) -> str:
         return target.name if isinstance(target, Use) else scope + target
 
-    def statement(self, it, scope, ends):
+    def statement(self, it: Statement, scope: str, ends: list[Go] | None) -> None:
+        """The steps of a statement of a function whose locals have names in this scope. A return of an inlined call
+        goes to the end of that call; one of the thread's own function ends the thread."""
         steps = self.steps
         if isinstance(it, Set):
-            steps.append(("set", self.target(it.target, scope), it.value, it.adds))
+            steps.append(Assign(self.target(it.target, scope), it.value, it.adds))
         elif isinstance(it, If):
-            at = self.branch(None, lambda: self.block(it.then, scope, ends))
-            out = len(steps)
-            steps.append(None)
-            steps[at] = ("test", it.test, len(steps))
-            self.block(it.other, scope, ends)
-            steps[out] = ("go", len(steps))
+            self.choice(it, scope, ends)
         elif isinstance(it, Loop):
-            self.counted(scope + it.counter, range(it.times), lambda: self.block(it.body, scope, ends))
+            body = it.body
+            self.counted(scope + it.counter, range(it.times), lambda: self.block(body, scope, ends))
         elif isinstance(it, Mutex):
-            steps.append(("lock" if it.locks else "unlock", (it.name, it.index)))
+            steps.append(Hold(it.locks, (it.name, it.index)))
         elif isinstance(it, Thread):
-            index = scope + it.index if isinstance(it.index, str) else it.index
-            steps.append(("create" if it.creates else "join", it.name, index))
+            steps.append(Meet(it.creates, it.name, scope + it.index if isinstance(it.index, str) else it.index))
         elif isinstance(it, JoinLoop):
-            counter = scope + it.counter
-            self.counted(counter, it.steps, lambda: steps.append(("join", it.name, counter)))
+            join = Meet(False, it.name, scope + it.counter)
+            self.counted(scope + it.counter, it.steps, lambda: steps.append(join))
         elif isinstance(it, Call):
             self.call(it, scope)
+        elif ends is None:
+            steps.append(End())
         else:
-            if it.value is not None and ends is not None:
-                steps.append(("set", f"{scope}result", it.value, False))
-            if ends is None:
-                steps.append(("end",))
-            else:
-                ends.append(len(steps))
-                steps.append(None)
+            if it.value is not None:
+                steps.append(Assign(f"{scope}result", it.value, False))
+            ends.append(Go())
+            steps.append(ends[-1])
 
-    def counted(self, counter, numbers, body):
-        self.steps.append(("set", counter, Sum([], [], numbers.start), False))
-        begin = len(self.steps)
-        at = self.branch(None, body)
-        self.steps.append(("set", counter, Sum([], [], 1), True))
-        self.steps.append(("go", begin))
-        self.steps[at] = ("less", counter, numbers.stop, len(self.steps))
+    def choice(self, it: If, scope: str, ends: list[Go] | None) -> None:
+        test, out = Test(it.test), Go()
+        self.steps.append(test)
+        self.block(it.then, scope, ends)
+        self.steps.append(out)
+        test.to = len(self.steps)
+        self.block(it.other, scope, ends)
+        out.to = len(self.steps)
 
-    def call(self, it, scope):
+    def counted(self, counter: str, numbers: range, body: Callable[[], None]) -> None:
+        self.steps.append(Assign(counter, Sum([], [], numbers.start), False))
+        begin, less = len(self.steps), Less(counter, numbers.stop)
+        self.steps.append(less)
+        body()
+        self.steps.append(Assign(counter, Sum([], [], 1), True))
+        self.steps.append(Go(begin))
+        less.to = len(self.steps)
+
+    def call(self, it: Call, scope: str) -> None:
         self.depth += 1
-        inner, ends = f"{scope}{it.name}{self.depth}.", []
+        inner = f"{scope}{it.name}{self.depth}."
+        ends: list[Go] = []
         self.block(self.program.functions[it.name], inner, ends)
-        for at in ends:
-            self.steps[at] = ("go", len(self.steps))
+        for go in ends:
+            go.to = len(self.steps)
         if it.target is not None:
-            self.steps.append(("set", self.target(it.target, scope), Sum([], [f"{inner}result"], 0), False))
+            self.steps.append(Assign(self.target(it.target, scope), Sum([], [f"{inner}result"], 0), False))
 
 
 UNUSED, RUNNING, FINISHED = range(3)
+# Of a thread whether it is used, its step and its locals.
+Slot = tuple[int, int, tuple[tuple[str, int], ...]]
+# The globals, the mutexes with their owners, the threads.
+State = tuple[tuple[int, ...], tuple[int, ...], tuple[Slot, ...]]
 
 
 class Run:
-    """All interleavings of a program, up to so many states. A state is the globals, the mutexes with their owners, and of each thread whether it is
-    used, its step and its locals. A step that is undefined is not taken."""
+    """All interleavings of a program, up to so many states. A step that is undefined is not taken."""
 
-    def __init__(self, program, most):
+    def __init__(self, program: Program, most: int) -> None:
         self.program, self.most = program, most
         self.codes = {name: Code(program, name).steps for name in ("main", "f", "g")}
-        self.routines, self.ids = ["main"], {}
-        for name, length in program.objects.items():
-            for index in range(length or 1):
-                self.ids[name, index if length else None] = len(self.routines)
-                self.routines.append(program.routines[name])
-        self.mutexes = {(name, index if length else None): at for at, (name, index, length) in enumerate(
-            (name, index, length) for name, length in program.mutexes.items() for index in range(length or 1))}
+        self.routines = ["main"]
+        self.ids: dict[tuple[str, int | None], int] = {}
+        for name, index in elements(program.objects):
+            self.ids[name, index] = len(self.routines)
+            self.routines.append(program.routines[name])
+        self.mutexes = {mutex: at for at, mutex in enumerate(elements(program.mutexes))}
         self.places = {name: at for at, name in enumerate(program.globals)}
 
-    def start(self):
-        threads = [(RUNNING, 0, ())] + [(UNUSED, 0, ())] * (len(self.routines) - 1)
-        return (0,) * len(self.places), (-1,) * len(self.mutexes), tuple(threads)
+    def start(self) -> State:
+        unused: Slot = (UNUSED, 0, ())
+        threads: tuple[Slot, ...] = ((RUNNING, 0, ()), *[unused] * (len(self.routines) - 1))
+        return (0,) * len(self.places), (-1,) * len(self.mutexes), threads
 
-    def step_of(self, state, i):
-        status, at, _ = state[2][i]
+    def step_of(self, state: State, i: int) -> tuple[Step, int]:
+        """A thread's next step, and its place in the thread's code."""
+        at = state[2][i][1]
         steps = self.codes[self.routines[i]]
-        while steps[at][0] == "go":
-            at = steps[at][1]
-        return steps[at], at
+        step = steps[at]
+        while isinstance(step, Go):
+            at = step.to
+            step = steps[at]
+        return step, at
 
-    def touched(self, step):
+    def touched(self, step: Step) -> tuple[list[str], str | None]:
         """The globals that a step reads, and the one that it writes."""
-        if step[0] == "set":
-            written = step[1] if step[1] in self.places else None
-            return [use.name for use in step[2].uses] + [step[1]] * (step[3] and written is not None), written
-        return [use.name for use in step[1].uses] if step[0] == "test" else [], None
+        if isinstance(step, Assign):
+            written = step.name if step.name in self.places else None
+            reads = [use.name for use in step.value.uses]
+            return reads + [step.name] * (step.adds and written is not None), written
+        return [use.name for use in step.value.uses] if isinstance(step, Test) else [], None
 
-    def value(self, total, values, held):
-        return sum(values[self.places[use.name]] for use in total.uses) + sum(held.get(name, 0) for name in total.locals) + total.constant
+    def value(self, total: Sum, values: tuple[int, ...], held: dict[str, int]) -> int:
+        of_globals = sum(values[self.places[use.name]] for use in total.uses)
+        return of_globals + sum(held.get(name, 0) for name in total.locals) + total.constant
 
-    def taken(self, state, i):
+    def taken(self, state: State, i: int) -> State | None:
         """The state behind the next step of a running thread; none where it is blocked or undefined."""
         values, owners, threads = state
         step, at = self.step_of(state, i)
         held = dict(threads[i][2])
-        word, after = step[0], at + 1
-        moved = {}
-        if word == "set":
-            number = self.value(step[2], values, held)
-            if step[1] in self.places:
-                place = self.places[step[1]]
-                number += values[place] if step[3] else 0
-                values = values[:place] + (number,) + values[place + 1:]
+        after = at + 1
+        moved: dict[int, Slot] = {}
+        if isinstance(step, Assign):
+            number = self.value(step.value, values, held)
+            if step.name in self.places:
+                place = self.places[step.name]
+                number += values[place] if step.adds else 0
+                values = (*values[:place], number, *values[place + 1:])
             else:
-                held[step[1]] = number + (held.get(step[1], 0) if step[3] else 0)
-        elif word == "test":
-            after = after if self.value(step[1], values, held) % 2 else step[2]
-        elif word == "less":
-            after = after if held[step[1]] < step[2] else step[3]
-        elif word in ("lock", "unlock"):
-            mutex = self.mutexes[step[1]]
-            if owners[mutex] != (-1 if word == "lock" else i):
+                held[step.name] = number + (held.get(step.name, 0) if step.adds else 0)
+        elif isinstance(step, Test):
+            after = after if self.value(step.value, values, held) % 2 else step.to
+        elif isinstance(step, Less):
+            after = after if held[step.counter] < step.stop else step.to
+        elif isinstance(step, Hold):
+            mutex = self.mutexes[step.mutex]
+            if owners[mutex] != (-1 if step.locks else i):
                 return None
-            owners = owners[:mutex] + (i if word == "lock" else -1,) + owners[mutex + 1:]
-        elif word in ("create", "join"):
-            index = held[step[2]] if isinstance(step[2], str) else step[2]
-            other = self.ids[step[1], index]
-            if other == i or threads[other][0] != (UNUSED if word == "create" else FINISHED):
+            owners = (*owners[:mutex], i if step.locks else -1, *owners[mutex + 1:])
+        elif isinstance(step, Meet):
+            other = self.ids[step.name, held[step.index] if isinstance(step.index, str) else step.index]
+            if other == i or threads[other][0] != (UNUSED if step.creates else FINISHED):
                 return None
-            moved[other] = (RUNNING if word == "create" else UNUSED, 0, ())
+            moved[other] = (RUNNING if step.creates else UNUSED, 0, ())
         elif i == 0:
             return None
         else:
@@ -497,15 +603,17 @@ class Run:
         moved.setdefault(i, (RUNNING, after, tuple(sorted(held.items()))))
         return values, owners, tuple(moved.get(j, thread) for j, thread in enumerate(threads))
 
-    def races_in(self, nexts):
+    def races_in(self, nexts: list[Step]) -> bool:
         touches = [self.touched(step) for step in nexts]
         for at, (reads, writes) in enumerate(touches):
             for others, written in touches[at + 1:]:
-                if (writes is not None and writes in [*others, written]) or (written is not None and written in [*reads, writes]):
+                if writes is not None and writes in [*others, written]:
+                    return True
+                if written is not None and written in [*reads, writes]:
                     return True
         return False
 
-    def races(self):
+    def races(self) -> tuple[bool, bool]:
         """Whether two threads race in a state that some interleaving reaches, and whether all states were seen."""
         first = self.start()
         seen, left = {first}, deque([first])
@@ -527,41 +635,69 @@ class Run:
         return False, len(seen) < self.most
 
 
+def elements(lengths: dict[str, int]) -> Iterator[tuple[str, int | None]]:
+    """Each element of each array, and each scalar, which has length 0."""
+    for name, length in lengths.items():
+        yield from ((name, index if length else None) for index in range(length or 1))
+
+
 # ---- the discipline
 
 # Walks that are wrong, each in one way.
-WRONG = ["quiet after any join", "a loop keeps its sets", "what either way of an if holds", "an unlock keeps", "a join of one element", "a create keeps"]
+WRONG = [
+    "quiet after any join",
+    "a loop keeps its sets",
+    "what either way of an if holds",
+    "an unlock keeps",
+    "a join of one element",
+    "a create keeps",
+]
+# The objects that are unused, and the mutexes that are held.
+Sets = tuple[frozenset[str], frozenset[str]]
+
+
+@dataclass
+class Access:
+    """A global where a thread names it: whether it is written, whether by main, and the mutexes that are held there."""
+
+    name: str
+    place: int
+    written: bool
+    main: bool
+    held: frozenset[str]
 
 
 class Walk:
     """What a thread meets, and what is surely so there: the objects that are unused, and the mutexes that are held."""
 
-    def __init__(self, program, name, wrong):
+    def __init__(self, program: Program, name: str, wrong: str | None) -> None:
         self.program, self.main, self.wrong = program, name == "main", wrong
-        self.met, self.returns, self.joined = [], [], False
+        self.met: list[Access] = []
+        self.returns: list[Sets] = []
+        self.joined = False
         self.block(program.functions[name], (frozenset(program.objects) if self.main else frozenset(), frozenset()))
 
-    def touch(self, sets, use, written):
-        quiet = self.main and (sets[0] == set(self.program.objects) or (self.wrong == WRONG[0] and self.joined))
-        if not quiet:
-            self.met.append((use.name, use.place, written, self.main, sets[1]))
+    def touch(self, sets: Sets, use: Use, written: bool) -> None:
+        unused = sets[0] == set(self.program.objects) or (self.wrong == WRONG[0] and self.joined)
+        if not (self.main and unused):
+            self.met.append(Access(use.name, use.place, written, self.main, sets[1]))
 
-    def read(self, sets, value):
+    def read(self, sets: Sets, value: Sum | None) -> None:
         for use in value.uses if value is not None else []:
             self.touch(sets, use, False)
 
-    def write(self, sets, target, adds):
+    def write(self, sets: Sets, target: Target, adds: bool) -> None:
         if isinstance(target, Use):
             if adds:
                 self.touch(sets, target, False)
             self.touch(sets, target, True)
 
-    def meet(self, a, b):
+    def meet(self, a: Sets, b: Sets) -> Sets:
         if self.wrong == WRONG[2]:
             return a[0] | b[0], a[1] | b[1]
         return a[0] & b[0], a[1] & b[1]
 
-    def behind(self, it, sets):
+    def behind(self, it: Mutex | Thread, sets: Sets) -> Sets:
         """What is so behind a call of pthreads."""
         unused, held = sets
         if isinstance(it, Mutex):
@@ -573,7 +709,7 @@ class Walk:
         self.joined = True
         return (unused | {it.name}, held) if it.index is None or self.wrong == WRONG[4] else sets
 
-    def lowered(self, body, sets):
+    def lowered(self, body: list[Statement], sets: Sets) -> Sets:
         """Without what the creates and unlocks in a statement take out, those of calls included."""
         if self.wrong == WRONG[1]:
             return sets
@@ -584,7 +720,7 @@ class Walk:
                 sets = sets[0] - {it.name}, sets[1]
         return sets
 
-    def called(self, name, sets):
+    def called(self, name: str, sets: Sets) -> Sets:
         outer, self.returns = self.returns, []
         sets = self.block(self.program.functions[name], sets)
         for point in self.returns:
@@ -592,12 +728,12 @@ class Walk:
         self.returns = outer
         return sets
 
-    def block(self, body, sets):
+    def block(self, body: list[Statement], sets: Sets) -> Sets:
         for statement in body:
             sets = self.statement(statement, sets)
         return sets
 
-    def statement(self, it, sets):
+    def statement(self, it: Statement, sets: Sets) -> Sets:
         if isinstance(it, Set):
             self.read(sets, it.value)
             self.write(sets, it.target, it.adds)
@@ -617,14 +753,15 @@ class Walk:
         elif isinstance(it, Call):
             sets = self.lowered(self.program.functions[it.name], sets)
             self.called(it.name, sets)
-            self.write(sets, it.target, False)
+            if it.target is not None:
+                self.write(sets, it.target, False)
         else:
             self.read(sets, it.value)
             self.returns.append(sets)
         return sets
 
 
-def inside(program, body):
+def inside(program: Program, body: Iterable[Statement]) -> Iterator[Statement]:
     """All statements in a list of them, and in the functions that it calls."""
     for it in body:
         yield it
@@ -636,20 +773,33 @@ def inside(program, body):
             yield from inside(program, program.functions[it.name])
 
 
-def is_disciplined(met):
+def is_disciplined(met: list[Access]) -> bool:
     """None writes, or all are main's, or one mutex is held at all."""
-    return not any(written for _, _, written, _, _ in met) or all(main for _, _, _, main, _ in met) or bool(frozenset.intersection(*(m[4] for m in met)))
+    if not any(access.written for access in met) or all(access.main for access in met):
+        return True
+    return bool(frozenset.intersection(*(access.held for access in met)))
 
 
-def verdict(program, wrong=None):
+def creators(program: Program) -> list[int]:
+    """Where a thread besides main creates or joins one."""
+    statements = (it for name in "fg" for it in inside(program, program.functions[name]))
+    return [it.place for it in statements if isinstance(it, (Thread, JoinLoop))]
+
+
+def started(program: Program) -> set[str]:
+    """The routines of the threads that are created."""
+    statements = (it for body in program.functions.values() for it in inside(program, body))
+    return {program.routines[it.name] for it in statements if isinstance(it, Thread) and it.creates}
+
+
+def verdict(program: Program, wrong: str | None = None) -> str:
     """The line of `hls check`: the number of globals, or the place and the name of the first doubt."""
-    creators = [it.place for name in "fg" for it in inside(program, program.functions[name]) if isinstance(it, (Thread, JoinLoop))]
-    if creators:
-        return f"hls: doubt at byte {min(creators)}: creator\n"
-    used = {program.routines[it.name] for body in program.functions.values() for it in inside(program, body) if isinstance(it, Thread) and it.creates}
-    met = [access for name in ["main", *sorted(used)] for access in Walk(program, name, wrong).met]
+    if places := creators(program):
+        return f"hls: doubt at byte {min(places)}: creator\n"
+    walked = ["main", *sorted(started(program))]
+    met = [access for name in walked for access in Walk(program, name, wrong).met]
     for name in program.globals:
-        counted = [access for access in met if access[0] == name]
+        counted = [access for access in met if access.name == name]
         if counted and not is_disciplined(counted):
-            return f"hls: doubt at byte {min(access[1] for access in counted)}: {name}\n"
+            return f"hls: doubt at byte {min(access.place for access in counted)}: {name}\n"
     return f"hls: disciplined, {len(program.globals)} globals\n"
