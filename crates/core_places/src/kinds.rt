@@ -10,12 +10,12 @@ ghost use Rattle.core_places.specs.Placing.{distinct, AreKinds};
 use bank_cores::bank;
 use barrier_cores::barrier;
 use core_family::cores::{CoreKind, Cores, bank_kinds, push_if};
-use thread_id_cores::forks;
 use mutex_cores::mutex;
 use netlist::netlist::Module;
 use printer_cores::printer;
 use sqlite_items::Items;
 use std::alloc::{AllocError, Global};
+use thread_id_cores::forks;
 
 /// Whether a mutex is uninitialised at the start.
 pub fn has_unset(mutexes: &[mutex::Shape]) -> bool

@@ -5,7 +5,6 @@ use bank_arbiter::arbiter;
 use bank_cores::bank;
 use bank_cores::name::GlobalName;
 use barrier_cores::barrier;
-use thread_id_cores::forks;
 use mutex_cores::mutex;
 use netlist::netlist::{Action, Effect, Memory, Module, Signal};
 use printer_cores::format::Part;
@@ -14,6 +13,7 @@ use sqlite_items::Items;
 use std::alloc::{AllocError, Global};
 use std::process::Abort;
 use std::test::Fail;
+use thread_id_cores::forks;
 
 /// A bank of two words, of which the second begins as 7.
 fn two_words(alloc: Global) -> Result<Module, AllocError> {
