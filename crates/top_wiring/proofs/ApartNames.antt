@@ -1,9 +1,9 @@
 -- The names that top declares are apart: each begins as its kind does, and tells its number.
-use Rattle.std.proofs.Common.{◌≡◌, ℕ, zero, suc, ◌+◌, ◌^◌, ◌<◌, ◌≤◌, nat_eq, if◌then◌else◌, List, [], ◌∷◌, ◌++◌, length, get_or, map, Some, refl, sym, ap, ◌∙◌, subst, inl, inr, arith, length-append}
+use Rattle.std.proofs.Common.{◌≡◌, ℕ, ◌+◌, ◌^◌, ◌<◌, ◌≤◌, nat_eq, if◌then◌else◌, List, [], ◌∷◌, ◌++◌, length, get_or, map, Some, refl, sym, ap, ◌∙◌, subst, inl, inr, arith, length-append}
 use Rattle.std.specs.Prelude.{slice_get, codes, decimal}
 use Rattle.std.proofs.lemmas.List.{length-map}
 use Rattle.std.proofs.lemmas.Fmt.{decimal_injective}
-use Rattle.std.proofs.lemmas.Option.{same_Some, none-some, slice_get_within}
+use Rattle.std.proofs.lemmas.Option.{none-some, slice_get_within}
 use Rattle.netlist.specs.declared.netlist.Signal.{Signal}
 use Rattle.netlist.specs.declared.netlist.Memory.{Memory}
 use Rattle.netlist.specs.declared.netlist.Instance.{Instance}
@@ -18,6 +18,7 @@ use Rattle.top_wiring.specs.Sound.{AreSound}
 use Rattle.top_parts.specs.Parts.{ask_widths, thread_outputs, core_outputs}
 use Rattle.top_wiring.specs.Ports as ports
 use Rattle.top_wiring.proofs.Steps.{wires_low}
+use Rattle.lists.proofs.Places.{get_unmapped}
 use Rattle.top_wiring.proofs.Lists.{get_either}
 use Rattle.top_wiring.proofs.InstanceKinds as kinds
 use Rattle.top_wiring.proofs.InstanceKinds.Kind.{of_thread, of_core, of_arbiter}
@@ -168,12 +169,6 @@ module _ (layout : Layout) where
       instance_named i j x e (of_arbiter k m p l q b leaf) =
           record { kind = Arbiter; number = k; name = ((let z = few_cores in omega arith), ap (λ (z : Instance). z.name) q); at = omega arith }
 
-      -- an element of mapped names
-      mapped : {A : Type 0} (f : A → List ℕ) (xs : List A) (i : ℕ) (x : List ℕ) → slice_get (map f xs) i ≡ Some x → (a : A) × (slice_get xs i ≡ Some a) × (x ≡ f a)
-      mapped f [] i x h = absurd (none-some x h)
-      mapped f (a ∷ xs) zero x h = (a, refl, sym (same_Some (f a) x h))
-      mapped f (a ∷ xs) (suc i) x h = mapped f xs i x h
-
       no_memories : memory_names top ≡ []
       no_memories = ap (map (λ (x : Memory). x.name)) is.memories
 
@@ -182,17 +177,17 @@ module _ (layout : Layout) where
           elim (get_either (signal_names top ++ memory_names top) (instance_names top) i x h) [
             | inl g ↦ elim (get_either (signal_names top) (memory_names top) i x g) [
               | inl f ↦
-                  let a = mapped (λ (s : Signal). s.name) top.signals i x f in
-                  subst (IsNamed i) (sym a.2) (signal_named i a.0 (signals.signal_kind modules layout top is i a.0 a.1))
+                  let a = get_unmapped (λ (s : Signal). s.name) top.signals i x f in
+                  subst (IsNamed i) a.2 (signal_named i a.0 (signals.signal_kind modules layout top is i a.0 a.1))
               | inr f ↦ absurd (none-some x (ap (λ l. slice_get l f.at) (sym no_memories) ∙ f.found))
             ]
             | inr g ↦
-                let a = mapped (λ (y : Instance). y.name) top.instances g.at x g.found in
+                let a = get_unmapped (λ (y : Instance). y.name) top.instances g.at x g.found in
                 let b = length-append (signal_names top) (memory_names top) in
                 let c = length-map top.signals (λ (s : Signal). s.name) in
                 let d = ap length no_memories in
                 let e = g.is in
-                subst (IsNamed i) (sym a.2) (instance_named i g.at a.0 (omega arith) (kinds.kind_of layout modules Threads Cores Arbiters sound.each top is g.at a.0 a.1))
+                subst (IsNamed i) a.2 (instance_named i g.at a.0 (omega arith) (kinds.kind_of layout modules Threads Cores Arbiters sound.each top is g.at a.0 a.1))
           ]
 
       pub names_apart : AreApart (declared_names top)

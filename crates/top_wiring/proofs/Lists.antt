@@ -8,12 +8,17 @@ use Rattle.std.proofs.lemmas.List.{length-replicate}
 use Rattle.std.proofs.lemmas.Option.{slice_get_within, same_Some, none-some}
 use Rattle.lists.proofs.Places.{get_front, get_back, copies_there}
 use Rattle.netlist.specs.declared.netlist.Module.{Module}
+use Rattle.netlist.specs.Laid.{EachAt}
 use Rattle.circuit.specs.Rows.{spread}
 use Rattle.circuit.proofs.Growth.{slice_get-spread}
 use Rattle.top_parts.specs.declared.parts.Part.{Part}
 use Rattle.top_parts.specs.Parts.{each_from, flat_from, flat_spread}
 use Rattle.top_parts.specs.Wires.{ports, starts_from}
 use Rattle.top_parts.proofs.GrownLists.{length-ports}
+
+-- no place is listed
+pub no_places : (P : ℕ → ℕ → Type 0) → EachAt [] P
+no_places P k x e = absurd (none-some x e)
 
 -- the same, where the length is known
 pub get_behind : {A : Type 0} (n : ℕ) (xs ys : List A) (i : ℕ) (x : A) → length xs ≡ n → slice_get ys i ≡ Some x → slice_get (xs ++ ys) (n + i) ≡ Some x

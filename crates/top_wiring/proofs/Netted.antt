@@ -1,12 +1,12 @@
 -- The whole net is sound.
 use Rattle.std.proofs.Common.{◌≡◌, ℕ, zero, suc, ◌+◌, ◌≤◌, Bool, true, false, List, [], ◌∷◌, ◌++◌, length}
-use Rattle.std.proofs.Common.{take, map, Option, Some, None, refl, sym, ap, ◌∙◌, subst, inl, inr, arith, add-zero, length-append}
+use Rattle.std.proofs.Common.{take, Option, Some, None, refl, sym, ap, ◌∙◌, subst, inl, inr, arith, add-zero, length-append}
 use Rattle.std.specs.Prelude.{slice_get, codes, ◌||◌}
 use Rattle.std.proofs.Math.Seq.{take-append_seam}
 use Rattle.std.proofs.lemmas.List.{take-append-le}
 use Rattle.std.proofs.lemmas.Option.{same_Some, none-some, slice_get_within}
 use Rattle.std.proofs.lemmas.Bool.{or_right}
-use Rattle.lists.proofs.Places.{get_front, get_back, get_mapped}
+use Rattle.lists.proofs.Places.{get_front, get_back, get_mapped, get_unmapped}
 use Rattle.verilog_tree.specs.Facts.{is_top}
 use Rattle.netlist.specs.declared.netlist.Action.{Action}
 use Rattle.netlist.specs.declared.netlist.Instance.{Instance}
@@ -22,12 +22,6 @@ use Rattle.top_wiring.specs.Wired.{IsWired}
 use Rattle.top_wiring.proofs.Lists.{get_either}
 use Rattle.top_wiring.proofs.Soundness as soundness
 use Rattle.top_wiring.proofs.RoundModule as rounding
-
--- an element of mapped names
-mapped : {A : Type 0} (f : A → List ℕ) (xs : List A) (i : ℕ) (x : List ℕ) → slice_get (map f xs) i ≡ Some x → (a : A) × (slice_get xs i ≡ Some a) × (x ≡ f a)
-mapped f [] i x h = absurd (none-some x h)
-mapped f (a ∷ xs) zero x h = (a, refl, sym (same_Some (f a) x h))
-mapped f (a ∷ xs) (suc i) x h = mapped f xs i x h
 
 -- whether an action of a module writes
 abbrev writes : List Action → Bool
@@ -146,9 +140,9 @@ module _ (layout : Layout) (modules : List Module) (n : Netlist) (w : IsWired mo
 
   names : AreApart (module_names n.modules)
   names i j x e f =
-      let a = mapped (λ (m : Module). m.name) n.modules i x e in
-      let b = mapped (λ (m : Module). m.name) n.modules j x f in
-      same_member i j a.0 b.0 (sym a.2 ∙ b.2) (member i a.0 a.1) (member j b.0 b.1)
+      let a = get_unmapped (λ (m : Module). m.name) n.modules i x e in
+      let b = get_unmapped (λ (m : Module). m.name) n.modules j x f in
+      same_member i j a.0 b.0 (a.2 ∙ sym b.2) (member i a.0 a.1) (member j b.0 b.1)
 
   -- ---- printing
 

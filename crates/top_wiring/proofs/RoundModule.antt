@@ -28,7 +28,7 @@ use Rattle.top_parts.specs.declared.layout.Layout.{Layout}
 use Rattle.top_wiring.specs.Top.{input, preference, output, done_place, all_wires, IsTop}
 use Rattle.top_wiring.specs.Round.{inner, round_signals, top_instance, count, IsRound}
 use Rattle.top_wiring.specs.Sound.{AreSound}
-use Rattle.top_wiring.proofs.Lists.{get_either, copies_back}
+use Rattle.top_wiring.proofs.Lists.{no_places, get_either, copies_back}
 use Rattle.top_wiring.proofs.TopPlaces as standing
 use Rattle.top_wiring.proofs.Soundness as soundness
 
@@ -159,9 +159,6 @@ module _ (layout : Layout) (modules : List Module) (sound : AreSound layout modu
 
   places_of : (xs : List ℕ) → EachFrom (λ k x. x < 9) 0 xs → AreSignals r xs
   places_of xs h k x e = let l = each_at (λ k x. x < 9) xs h k x e in let z = nine in omega arith
-
-  no_places : (P : ℕ → ℕ → Type 0) → EachAt [] P
-  no_places P k x e = absurd (none-some x e)
 
   driven : IsDriven before r 5 0 shown
   driven = record { instance = dut; of = top; output = 0; stands = dut_stands; earlier = top_stands; port_is = shown_is; tied = refl }

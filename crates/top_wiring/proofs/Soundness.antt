@@ -17,7 +17,7 @@ use Rattle.netlist.specs.declared.netlist.Signal.{Signal}
 use Rattle.netlist.specs.declared.netlist.Instance.{Instance}
 use Rattle.netlist.specs.declared.netlist.Module.{Module}
 use Rattle.netlist.specs.NetlistOf.{is_output_port}
-use Rattle.netlist.specs.Laid.{EachAt, AreSignals, kind_of, is_input_port, is_inner, input_signals, inner_signals, output_signals, first_output, IsDriven, IsLaidSignal, IsLaidInstance, IsLaidModule}
+use Rattle.netlist.specs.Laid.{AreSignals, kind_of, is_input_port, is_inner, input_signals, inner_signals, output_signals, first_output, IsDriven, IsLaidSignal, IsLaidInstance, IsLaidModule}
 use Rattle.netlist.specs.Sound.{width, width_read, has_width, source_fits, IsSoundSignal, is_clk_at, input_fits, IsSoundInstance, IsSoundModule}
 use Rattle.circuit.specs.Rows.{spread}
 use Rattle.circuit.proofs.Growth.{length-spread}
@@ -33,7 +33,7 @@ use Rattle.top_wiring.specs.Top.{input, preference, output, run, starts, all_wir
 use Rattle.top_wiring.specs.Ports as ports
 use Rattle.circuit.specs.Interfaces.{HasInterface}
 use Rattle.top_wiring.specs.Sound.{AreSound}
-use Rattle.top_wiring.proofs.Lists.{get_either, each_back, spread_back, get_spread}
+use Rattle.top_wiring.proofs.Lists.{no_places, get_either, each_back, spread_back, get_spread}
 use Rattle.top_wiring.proofs.InstanceKinds as kinds
 use Rattle.top_wiring.proofs.InstanceKinds.Kind.{of_thread, of_core, of_arbiter}
 use Rattle.top_wiring.proofs.SignalKinds as signals
@@ -243,9 +243,6 @@ module _ (layout : Layout) (modules : List Module) (sound : AreSound layout modu
   one_place : (a : ℕ) → a < length top.signals → AreSignals top (a ∷ [])
   one_place a l zero x e = subst (λ z. z < length top.signals) (same_Some a x e) l
   one_place a l (suc k) x e = absurd (none-some x e)
-
-  no_places : (P : ℕ → ℕ → Type 0) → EachAt [] P
-  no_places P k x e = absurd (none-some x e)
 
   long : length top.signals ≡ 2 + K + length (all_wires modules layout) + 1
   long = standing.length-signals modules layout top is
