@@ -20,7 +20,7 @@ use Rattle.law_banks.specs.Cycle.{AreBanked, Does, Elsewhere, InBlock, CyclesBan
 use Rattle.law_banks.specs.Laws.{all_made, owner_of, MemoryHasAll, PlacesAreOwned, AnsweredIsOwned}
 use Rattle.law_banks.proofs.BlockBanks.{writes_granted}
 
-granted_is : (o : Option ℕ) (i : ℕ) → is_granted o i ≡ true → o ≡ Some i
+pub granted_is : (o : Option ℕ) (i : ℕ) → is_granted o i ≡ true → o ≡ Some i
 granted_is None i e = absurd cc
 granted_is (Some w) i e = ap Some (is_same w i e)
 

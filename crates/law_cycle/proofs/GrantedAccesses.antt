@@ -84,7 +84,7 @@ who_stays t enabled granted news memory q r moved on same = stays t enabled gran
 
 -- ---- a still reading
 
-same_bit : (a b : Bool) → bit_of a ≡ bit_of b → a ≡ b
+pub same_bit : (a b : Bool) → bit_of a ≡ bit_of b → a ≡ b
 same_bit true true e = refl
 same_bit false false e = refl
 same_bit true false e = absurd (omega arith)

@@ -38,7 +38,7 @@ use Rattle.law_threads.specs.Cores.{Core, may_grant, granted, status_at, waits_b
 use Rattle.law_threads.specs.Surroundings.{routine_of, Wakes, Sets_out, Goes_on}
 use Rattle.law_banks.specs.Laws.{owner_of}
 use Rattle.law_banks.specs.Cycle.{memory_next}
-use Rattle.law_banks.proofs.OwnedMemory.{places_are_owned}
+use Rattle.law_banks.proofs.OwnedMemory.{granted_is, places_are_owned}
 use Rattle.law_banks.proofs.Partitioned.{there}
 use Rattle.law_cycle.specs.Thread.{Thread, rest}
 use Rattle.law_cycle.specs.Asks.{AsksAct}
@@ -97,10 +97,6 @@ owner_is T (Some w) i lt e = ap Some e
 nobody : (T : ℕ) (o : Option ℕ) → ((i : ℕ) → o ≡ Some i → i < T) → T ≤ owner_of T o → o ≡ None
 nobody T None below l = refl
 nobody T (Some w) below l = absurd (let lt = below w refl in omega (arith, lt, l))
-
-granted_is : (o : Option ℕ) (i : ℕ) → is_granted o i ≡ true → o ≡ Some i
-granted_is None i e = absurd cc
-granted_is (Some w) i e = ap Some (is_same w i e)
 
 module _ (P : Program) (K : Parts) (built : IsBuilt P K) (chain : ℕ → ℕ → ℕ) (known : FitsTheory P K chain) (c : Choice) (h : Stage P K) where
   abbrev left : Next P K c h

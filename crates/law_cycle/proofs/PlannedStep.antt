@@ -77,7 +77,8 @@ one_bit false e = absurd (omega arith)
 pub thread_ids_told : (P : Program) (K : Parts) (built : IsBuilt P K) (i : ℕ) → i < K.cores.threads → nat_eq i 0 ≡ false → (h : Stage P K) (j : ℕ) →
     news P K h.net i (thread_ids_core (numbers_of K.cores)) j ≡ ids_tell (thread_ids_in (cores_shown P K h.net h.out (thread_ids_core (numbers_of K.cores)))) i j
 thread_ids_told P K built i lt other h j =
-    tells_thread_ids (core_at K.cores (thread_ids_core (numbers_of K.cores))) (record { threads = K.cores.threads }) (thread_ids_at K.cores (thread_ids_there P K built i lt other)) (h.net.states (thread_ids_core (numbers_of K.cores))) h.out i j
+    let k = thread_ids_core (numbers_of K.cores) in
+    tells_thread_ids (core_at K.cores k) (record { threads = K.cores.threads }) (thread_ids_at K.cores (thread_ids_there P K built i lt other)) (h.net.states k) h.out i j
 
 -- and each its bit at a barrier
 pub bit_told : (P : Program) (K : Parts) (i : ℕ) (h : Stage P K) (n : ℕ) → n < K.cores.barriers →

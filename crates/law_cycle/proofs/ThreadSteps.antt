@@ -1,7 +1,6 @@
 -- THREAD STEPS, and THREAD IS DONE.
-use Rattle.std.specs.Prelude.{Bool, true, false, nat_eq}
-use Rattle.std.proofs.Common.{◌≡◌, refl, sym, ap, ◌∙◌, arith}
-use Rattle.hls_ints.specs.Residues.{bit_of}
+use Rattle.std.specs.Prelude.{false, nat_eq}
+use Rattle.std.proofs.Common.{sym, ap, ◌∙◌}
 use Rattle.leaf_machine.specs.Leaves.{leaf_thread}
 use Rattle.leaf_machine.proofs.Leaves.{leaf_keeps_slots, slot_bit_is}
 use Rattle.law_cycle.specs.Thread.{rest, cores}
@@ -9,12 +8,7 @@ use Rattle.law_cycle.specs.Steps.{ThreadSteps, ThreadIsDone}
 use Rattle.law_cycle.proofs.SlotStands.{shows_of, where_on}
 use Rattle.law_cycle.proofs.ThreadMoves.{thread_moves}
 use Rattle.law_cycle.proofs.ThreadAsks.{thread_asks}
-
-same_bit : (a b : Bool) → bit_of a ≡ bit_of b → a ≡ b
-same_bit true true e = refl
-same_bit false false e = refl
-same_bit true false e = absurd (omega arith)
-same_bit false true e = absurd (omega arith)
+use Rattle.law_cycle.proofs.GrantedAccesses.{same_bit}
 
 pub thread_steps : ThreadSteps
 thread_steps t inputs s enabled granted news memory q is leaf slot fits told stands =
