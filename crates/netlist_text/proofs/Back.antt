@@ -39,7 +39,7 @@ width_by w h false e = let low : w ≤ 1 = grind (arith, nat_tests) in omega ari
 width_back : (w : ℕ) → 1 ≤ w → n.width_of (laid.high_of w) ≡ w
 width_back w h = width_by w h (nat_lt 1 w) refl
 
-driven_within : (m : Module) (p : ℕ) (from : Source) → source_at m p ≡ Some from → p < length m.signals
+pub driven_within : (m : Module) (p : ℕ) (from : Source) → source_at m p ≡ Some from → p < length m.signals
 driven_within m p from h = let u = mapped_some (λ (y : Signal). y.source) (slice_get m.signals p) from h in slice_get_within m.signals p u.0 u.1
 
 output_back : (from : Source) (out : Bool) → (before : List Module) (m : Module) (x : ℕ) → IsSource before m x out from → is_output_port (kind_by from out) ≡ out

@@ -40,6 +40,7 @@ use Rattle.netlist_text.proofs.Places.{get_either, apart_front, other_name}
 use Rattle.netlist_text.proofs.Connections.{AreBefore, instance_is}
 use Rattle.netlist_text.proofs.Back.{before_are, fits_at}
 use Rattle.netlist_text.proofs.Members.{In, in_none, in_flat, in_unmap, in_map, after_in, in_after, in_holds, holds_in}
+use Rattle.netlist_text.proofs.EachOfLists.{each_append, each_flat, each_map, each_block}
 use Rattle.netlist_text.proofs.Grown.{module_printed, module_placed, modules_placed, module_writes, module_places, item_modules}
 use Rattle.netlist_text.proofs.Views.{is_port, front, placed_view}
 use Rattle.netlist_text.proofs.Widths.{IsPlain}
@@ -79,22 +80,6 @@ filled (y ∷ xs) x h = tt
 filled_ports : (cs : List Connection) (z : Name) → In (connected_ports cs) z → IsFilled cs
 filled_ports [] z h = in_none z h
 filled_ports (c ∷ cs) z h = tt
-
-each_append : {A : Type 0} (P : A → Type 0) (xs ys : List A) → Each P xs → Each P ys → Each P (xs ++ ys)
-each_append P [] ys h g = g
-each_append P (x ∷ xs) ys h g = (h.0, each_append P xs ys h.1 g)
-
-each_flat : {A B : Type 0} (P : B → Type 0) (f : A → List B) (xs : List A) → ((k : ℕ) (x : A) → slice_get xs k ≡ Some x → Each P (f x)) → Each P (flat_map f xs)
-each_flat P f [] h = tt
-each_flat P f (x ∷ xs) h = each_append P (f x) (flat_map f xs) (h 0 x refl) (each_flat P f xs (λ k y q. h (suc k) y q))
-
-each_map : {A B : Type 0} (P : B → Type 0) (f : A → B) (xs : List A) → ((k : ℕ) (x : A) → slice_get xs k ≡ Some x → P (f x)) → Each P (map f xs)
-each_map P f [] h = tt
-each_map P f (x ∷ xs) h = (h 0 x refl, each_map P f xs (λ k y q. h (suc k) y q))
-
-each_block : {A B : Type 0} (P : B → Type 0) (f : List A → B) (xs : List A) → P (f xs) → Each P (laid.block f xs)
-each_block P f [] h = tt
-each_block P f (x ∷ xs) h = (h, tt)
 
 full_declared : (s : Signal) (k : Kind) → Each IsFullItem (laid.declared_by s k)
 full_declared s InputPort = tt

@@ -32,7 +32,7 @@ no_both OutputPort p q = cc
 no_both PlainWire p q = cc
 no_both Reg p q = cc
 
-port_or_inner : (k : Kind) → (is_port k ≡ true) ⊎ (is_inner k ≡ true)
+pub port_or_inner : (k : Kind) → (is_port k ≡ true) ⊎ (is_inner k ≡ true)
 port_or_inner InputPort = inl refl
 port_or_inner OutputPort = inl refl
 port_or_inner PlainWire = inr refl

@@ -1,7 +1,7 @@
 -- One element more.
 use Rattle.std.proofs.Common.{◌≡◌, ℕ, suc, ◌+◌, ◌<◌, List, [], ◌∷◌, ◌++◌, sym, ap, ◌∙◌, append_assoc, add-zero, subst, length, take, get_or, arith}
 use Rattle.std.proofs.lemmas.List.{take_more, length-take-le, get_or_default}
-use Rattle.netlist_text.specs.LaidOut.{with_places, block}
+use Rattle.netlist_text.specs.LaidOut.{with_places}
 
 take_next : {A : Type 0} (xs : List A) (i : ℕ) (x : A) → x ≡ get_or xs i x → i < length xs → take (i + 1) xs ≡ take i xs ++ x ∷ []
 take_next xs i x is lt = take_more xs i x lt ∙ ap (λ y. take i xs ++ y ∷ []) (sym is)
