@@ -1,5 +1,6 @@
 -- A checked module is a leaf.
 use Rattle.std.proofs.Common.{◌≡◌, ℕ, zero, suc, ◌+◌, ◌-◌, ◌<◌, ◌≤◌, Bool, true, false, nat_eq, nat_le, nat_lt, if◌then◌else◌, List, [], ◌∷◌, ◌++◌, length, map, take, slice_get, slice_index}
+use Rattle.std.specs.Prelude.{codes}
 use Rattle.std.proofs.Common.{Some, min, refl, sym, ap, subst, ◌∙◌, arith, ⊎_elim, ◌≢◌, length-append}
 use Rattle.std.proofs.lemmas.Bool.{cases_lt, cases_eq, le-ltb, lt-ltb, ltb-false, ltb-true, ne_eqb, eqb-false, eqb-true, lt-leb}
 use Rattle.std.proofs.lemmas.Option.{get_or_from_slice_get, slice_get_within}
@@ -9,8 +10,10 @@ use Rattle.netlist.specs.declared.netlist.Signal.{Signal}
 use Rattle.netlist.specs.declared.netlist.Effect.{Effect}
 use Rattle.netlist.specs.declared.netlist.Effect.TheVariants as effect
 use Rattle.netlist.specs.declared.netlist.Action.{Action}
+use Rattle.netlist.specs.declared.netlist.Memory.{Memory}
 use Rattle.netlist.specs.declared.netlist.Module.{Module}
 use Rattle.netlist.specs.Sound.{is_write}
+use Rattle.verilog_meaning.specs.Names.{numbered}
 use Rattle.verilog_meaning.specs.Readings.{Reading, is_on, effect_bytes, action_bytes}
 use Rattle.circuit.specs.Rows.{EachOf}
 use Rattle.circuit.specs.Modules.{HasInput, FitsAction, FitsMemory, Reads, IsSoundSource, IsSound, IsLeaf}
@@ -35,6 +38,7 @@ use Rattle.thread_promise.specs.Globals.{bank_total}
 use Rattle.thread_layout.specs.Thread.{cores_of, inputs_of, bank_port, act_port, core_ports, first_output, port_at, need_at, done_at, IsServed}
 use Rattle.thread_layout.specs.Leaf.{told_from, input_at, leaf_of}
 use Rattle.fsm_datapath.specs.SoundLeaf.{parts_of, tells_of, IsChecked, IsLeafOf}
+use Rattle.fsm_datapath.proofs.ArrayMemories.{memory_found}
 use Rattle.module_sound.proofs.SoundModule.{placed_is_sound}
 use Rattle.operator_wires.proofs.PutSignals.{listed}
 use Rattle.thread_layout.proofs.Opened.{wired}
@@ -313,6 +317,12 @@ module _ (shape : Shape) (code : ThreadCode) (plan : Planned) (m : Module) (t : 
       (cases_eq x asked))
       (cases_lt x asked)
 
+  array_named : (j : ℕ) (c : Memory) → slice_get m.memories j ≡ Some c → c.name ≡ numbered (codes "array") j
+  array_named j c listed =
+      let f = memory_found 0 j code.arrays c (ap (λ (l : List Memory). slice_get l j) (sym t.memories) ∙ listed) in
+      let z : 0 + j ≡ j = omega arith in
+      ap (λ (y : Memory). y.name) f.2 ∙ ap (numbered (codes "array")) z
+
   pub leaf_is : IsLeafOf shape m
   leaf_is = record {
     thread = record {
@@ -334,5 +344,7 @@ module _ (shape : Shape) (code : ThreadCode) (plan : Planned) (m : Module) (t : 
     done = slot_bit (done_at shape m) checked.ports.done;
     alone = placed_is_sound m count first checked.grades checked.are checked.ports.acts t.alone checked.memories checked.ports.placed checked.ports.begins;
     acts = checked.ports.acts;
+    placed = checked.ports.placed;
+    arrays = array_named;
     early = early_output;
   }

@@ -8,3 +8,4 @@ pub use Rattle.thread_layout.specs.Early
 pub use Rattle.thread_layout.specs.Fields
 pub use Rattle.thread_layout.specs.Acts
 pub use Rattle.thread_layout.specs.Leaf
+pub use Rattle.module_sound.specs.Names

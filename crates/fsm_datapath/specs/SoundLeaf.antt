@@ -1,8 +1,10 @@
 -- The module of a thread as a leaf of a net: its ports, and the order of its signals.
-use Rattle.std.specs.Prelude.{◌≡◌, ℕ, zero, suc, ◌+◌, ◌<◌, false, List, [], ◌∷◌, length}
+use Rattle.std.specs.Prelude.{◌≡◌, ℕ, zero, suc, ◌+◌, ◌<◌, false, List, [], ◌∷◌, length, Some, slice_get, codes}
 use Rattle.block_ir.specs.declared.code.ThreadCode.{ThreadCode}
 use Rattle.block_ir.specs.declared.plan.Planned.{Planned}
+use Rattle.netlist.specs.declared.netlist.Memory.{Memory}
 use Rattle.netlist.specs.declared.netlist.Module.{Module}
+use Rattle.verilog_meaning.specs.Names.{numbered}
 use Rattle.circuit.specs.Rows.{EachOf}
 use Rattle.circuit.specs.Modules.{FitsMemory}
 use Rattle.leaf_machine.specs.Leaves.{IsThreadLeaf, IsSlotBit}
@@ -51,6 +53,9 @@ pub record IsLeafOf (shape : Shape) (m : Module) : Type 0 where
   pub alone : IsSoundAlone m (inputs_of shape) (first_output shape m)
   -- each statement sets a register to a number of its width
   pub acts : EachOf (ActsRight m) m.actions
+  -- its signals stand where their names say, and its memories are called by their places
+  pub placed : IsPlaced m (inputs_of shape) (first_output shape m)
+  pub arrays : (j : ℕ) (c : Memory) → slice_get m.memories j ≡ Some c → c.name ≡ numbered (codes "array") j
   -- no output hangs on an answer
   pub early : (x : ℕ) → x < length (thread_outputs (core_ports shape)) → thread.late (first_output shape m + x) ≡ false
 
