@@ -18,6 +18,7 @@ use Rattle.core_family.specs.declared.cores.Cores.{Cores}
 use Rattle.core_places.specs.Placing.{AreKinds}
 use Rattle.core_places.specs.Kinds.{HaveModules}
 use Rattle.core_places.proofs.CoresPlaced.{placed_narrow, cores_are_placed}
+use Rattle.netlist_text.specs.Portable.{HasFreeNames, IsPortable}
 use Rattle.net_emitter.specs.Written.{IsWritten, table_of, FitsTable}
 
 module _ (threads : List ℕ) (routines : List Module) (w : Cores) (right : HaveModules w) (fits : FitsTable threads routines w) (arbiter : Module) (kinds : List Module)
@@ -37,7 +38,8 @@ module _ (threads : List ℕ) (routines : List Module) (w : Cores) (right : Have
   layout_small = is_small (table_of threads routines arbiter w kinds) has_cores
 
 pub written_as : (modules table : List Module) (laid layout : Layout) (n : Netlist) (net : Net) (text : List ℕ) → table ≡ modules → layout ≡ laid → IsWired table layout n →
-    (AreSound layout table → IsSound n) → (IsLaid n → netlist_of net ≡ n) → (IsSound n → IsWellFormed net) → (IsFull net → Reads text net) → IsWritten laid modules n net text
-written_as modules table laid layout n net text e f wired sound netlist formed reads =
+    (AreSound layout table → IsSound n) → (IsLaid n → netlist_of net ≡ n) → (IsSound n → IsWellFormed net) → (IsSound n → HasFreeNames n → IsPortable net) →
+    (IsFull net → Reads text net) → IsWritten laid modules n net text
+written_as modules table laid layout n net text e f wired sound netlist formed portable reads =
     subst (λ (l : Layout). IsWritten l modules n net text) f
-    (subst (λ (ms : List Module). IsWritten layout ms n net text) e (record { wired = wired; sound = sound; netlist = netlist; formed = formed; reads = reads }))
+    (subst (λ (ms : List Module). IsWritten layout ms n net text) e (record { wired = wired; sound = sound; netlist = netlist; formed = formed; portable = portable; reads = reads }))

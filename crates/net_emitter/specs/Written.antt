@@ -13,6 +13,7 @@ use Rattle.top_wiring.specs.Sound.{AreSound}
 use Rattle.top_wiring.specs.Wired.{IsWired}
 use Rattle.core_places.specs.Tables.{Table, IsArbiterModule, layout_of, modules_of}
 use Rattle.core_family.specs.declared.cores.Cores.{Cores}
+use Rattle.netlist_text.specs.Portable.{HasFreeNames, IsPortable}
 use Rattle.core_places.specs.Placing.{AreKinds, placed}
 
 -- a net of these modules, its text's tree and the text, as they are promised: by `wire` of the net, by `text_of` of the tree,
@@ -22,6 +23,7 @@ pub record IsWritten (layout : Layout) (modules : List Module) (n : Netlist) (ne
   pub sound : AreSound layout modules → IsSound n
   pub netlist : IsLaid n → netlist_of net ≡ n
   pub formed : IsSound n → IsWellFormed net
+  pub portable : IsSound n → HasFreeNames n → IsPortable net
   pub reads : IsFull net → Reads text net
 
 -- the table of these threads and cores

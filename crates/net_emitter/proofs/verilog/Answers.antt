@@ -27,6 +27,6 @@ returns c =
       written = written_as (modules_of t) c.in_ok-table.table (layout_of t) c.in_ok-layout.layout c.in_ok-netlist.netlist c.in_ok-net.net c.in_ok-text.text
           c.in_ok-table.ensures
           (c.in_ok-layout.ensures ∙ ap (λ n. laying.layout_of c.args.threads n c.args.wanted.now) c.len.ensures) c.in_ok-netlist.ensures.wired c.in_ok-netlist.ensures.sound
-          c.in_ok-net.ensures.netlist c.in_ok-net.ensures.well_formed
+          c.in_ok-net.ensures.netlist c.in_ok-net.ensures.well_formed c.in_ok-net.ensures.portable
           c.in_ok-text.ensures.reads;
     }
