@@ -1,1 +1,3 @@
+pub mod CoreNames
 pub mod MadeText
+pub mod ReportedCores

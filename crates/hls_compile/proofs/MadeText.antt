@@ -32,6 +32,8 @@ use Rattle.program_bodies.specs.Modules.{AreLaid, module_shape, bodies_of}
 use Rattle.program_bodies.proofs.Served.{codes_are_served}
 use Rattle.hls_compile.specs.Banks.{AreBanksOf}
 use Rattle.hls_compile.specs.Plans.{RunsPlanned, RunPlanned}
+use Rattle.hls_compile.specs.Served.{core_names}
+use Rattle.hls_compile.proofs.CoreNames.{cores_named}
 use Rattle.program_bodies.proofs.FirstNamed.{first_named}
 use Rattle.program_cores.proofs.Cores.{few_threads}
 
@@ -79,10 +81,11 @@ module _ (P : Program) (banks : Banks) (w : Cores) (plans : List PlannedFunction
   -- ---- the text
 
   module _ (n : Netlist) (text : List ℕ) (is : IsTextOf (module_numbers P) modules w n text) where
-    pub is_good : IsGoodText P n text
+    pub is_good : IsGoodText P (core_names P) n text
     is_good =
-        parts_are_good P banks.spreads.items w (map routine_of plans) (bodies_of P banks.spreads.items w (map routine_of plans) modules) modules n text R made.cores
-        made.bodies is
+        subst (λ names. IsGoodText P names n text) (cores_named P banks w banked made.cores)
+        (parts_are_good P banks.spreads.items w (map routine_of plans) (bodies_of P banks.spreads.items w (map routine_of plans) modules) modules n text R made.cores
+        made.bodies is)
 
     module _ (k f : ℕ) (p : PlannedFunction) (function : slice_get FS k ≡ Some f) (plan : slice_get plans k ≡ Some p) where
       is_main : nat_eq k 0 ≡ nat_eq f P.main

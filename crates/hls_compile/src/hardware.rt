@@ -9,6 +9,7 @@ ghost use Rattle.program_bodies.specs.Parts.{IsGoodText};
 ghost use Rattle.program_bodies.specs.Plans.{ArePlanned};
 ghost use Rattle.hls_compile.specs.Banks.{AreBanksOf};
 ghost use Rattle.hls_compile.specs.Plans.{RunPlanned};
+ghost use Rattle.hls_compile.specs.Served.{core_names};
 
 use bank_partition::banks::{Banks, partition};
 use c_program::tree::Program;
@@ -42,7 +43,7 @@ pub fn written(
     requires limits { first_passed (program_of program.now) ≡ None }
     requires threads { functions.now ≡ thread_functions (program_of program.now) }
     requires planned { ArePlanned (program_of program.now) plans.now }
-    ensures good { IfOk result (λ w. IsGoodText (program_of program.now) w.net w.text) }
+    ensures good { IfOk result (λ w. IsGoodText (program_of program.now) (core_names (program_of program.now)) w.net w.text) }
     ensures run { IfOk result (λ w. RunPlanned (program_of program.now) w.net plans.now) }
 {
     let banks = banks(alloc, program)?;

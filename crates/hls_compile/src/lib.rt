@@ -29,6 +29,7 @@ ghost use Rattle.c_accepted.specs.declared.refusal.Refusal as refusal;
 ghost use Rattle.c_accepted.specs.Profile.{IsAccepted, IsRefused};
 ghost use Rattle.hls_compile.specs.Compiled.{IsCompiled};
 ghost use Rattle.hls_compile.specs.Plans.{ArePlans};
+ghost use Rattle.hls_compile.specs.Reported.{ReportNamesCores};
 ghost use Rattle.hls_compile.specs.declared.CompileError.TheVariants as error;
 
 use c_profile::{Accepted, ProfileError, accept};
@@ -123,3 +124,10 @@ pub fn compile<R: Threads + Sync>(
         plans,
     })
 }
+
+/// The lines of cores in the report of a net that is compiled are those of the program's names: `core K NAME` says that the
+/// instance NAME is served by `arbiter_K`, which prefers the thread that `pref_K` says. The function takes and answers nothing:
+/// its contract is the law.
+pub fn report_names_cores()
+    ensures { ReportNamesCores }
+{}

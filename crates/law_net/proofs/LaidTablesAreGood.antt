@@ -1,5 +1,5 @@
 -- The text of the net of a program's parts is good Verilog of it.
-use Rattle.std.proofs.Common.{ℕ, List, ◌∙◌, subst}
+use Rattle.std.proofs.Common.{◌≡◌, ℕ, List, ◌∙◌, subst}
 use Rattle.c_program.specs.Tree.{Program}
 use Rattle.verilog_tree.specs.declared.tree.Net.{Net}
 use Rattle.good_verilog.specs.GoodVerilog.{IsGoodVerilog}
@@ -30,10 +30,10 @@ module _ (P : Program) (K : Parts) (t : Table) (built : IsBuilt P K) (is : IsLai
     follows : FollowsProgram P n.modules written.wired.top
     follows = let law = wired_follow P K t n table written.wired in record { determined = law.0; runs = law.1; follows = law.2 }
 
-    good_text : IsGoodVerilog P text × IsNetOf K.cores.threads n text
+    good_text : IsGoodVerilog P text × ((read : IsNetOf K.cores.threads n text) × (read.net ≡ net))
     good_text = (
       texts_are_good P t (thread_modules K) (thread_leaves K) n net text table.whole stand (is.threads.count ∙ built.threads) written follows,
-      subst (λ k. IsNetOf k n text) is.threads.count (texts_are_nets t (thread_modules K) (thread_leaves K) n net text table.whole stand written),
+      subst (λ k. (read : IsNetOf k n text) × (read.net ≡ net)) is.threads.count (texts_are_nets t (thread_modules K) (thread_leaves K) n net text table.whole stand written),
     )
 
 pub each_thread_stands : ThreadsStand

@@ -18,7 +18,9 @@ pub mod FirstNamed
 pub mod Found
 pub mod NamesApart
 pub mod CycleGrants
+pub mod CoreNames
 pub mod Insides
+pub mod InstanceNames
 pub mod LaidTablesAreGood
 pub mod LaidTablesAreWhole
 pub mod MachineFollows
@@ -28,6 +30,8 @@ pub mod SameNames
 pub mod NetFollows
 pub mod NetFollowsFrom
 pub mod PartsAreGood
+pub mod PortableTexts
+pub mod PreferenceInputs
 pub mod Paths
 pub mod Prefs
 pub mod RestingCycle
@@ -53,3 +57,5 @@ pub mod WrappedRuns
 pub mod Written
 pub use Rattle.law_cycle.proofs.Listed
 pub use Rattle.program_cores.proofs.Globals
+pub use Rattle.net_emitter.proofs.EachOfLists
+pub use Rattle.net_emitter.proofs.ReservedWords

@@ -26,7 +26,10 @@ use Rattle.core_tables.proofs.TableNets.{tables_are_nets}
 use Rattle.law_net.specs.Threaded.{AreSteady}
 use Rattle.law_net.proofs.TablesAreThreaded.{net_of_table_is_threaded}
 use Rattle.law_net.specs.Grants.{IsGranting}
-use Rattle.law_net.proofs.TablesGrant.{net_of_table_grants}
+use Rattle.law_net.specs.Served.{AreServed, names_of, table_names}
+use Rattle.law_net.proofs.CoreNames.{names_placed}
+use Rattle.law_net.proofs.TablesGrant.{cores_of_table_are_served}
+use Rattle.law_net.proofs.PortableTexts.{text_is_free}
 use Rattle.law_cycle.specs.Cores.{Cores}
 use Rattle.program_cores.specs.Placing.{placed}
 use Rattle.law_cycle.specs.Kinds.{kinds_of}
@@ -37,6 +40,7 @@ use Rattle.law_cycle.proofs.Listed.{count_is}
 use Rattle.law_net.proofs.ThreadsStand.{leaf_there, done_there, steady_there}
 use Rattle.law_routines.specs.Plans.{IsRoutine, AreRoutines, chain_of}
 use Rattle.law_routines.proofs.Routines.{routines_are_code, routines_are_coded}
+use Rattle.net_emitter.specs.Portable.{IsPortable}
 use Rattle.net_emitter.specs.Written.{table_of, IsTextOf}
 use Rattle.law_net.specs.Tables.{HaveThreads, IsLaidTable}
 use Rattle.law_net.specs.Texts.{IsNetOf}
@@ -332,20 +336,26 @@ module _ (P : Program) (spreads : List Spread) (w : Cores) (made : List RoutineC
               ∙ ap Some (of_thread i l (λ (b : ThreadBody). b.body ≡ own) refl)),
         )
 
-    good : IsGoodText P n text
+    good : IsGoodText P (names_of w) n text
     good =
         let law = laid_tables_are_good P K t n is.net text is_built laid is.written in
+        let read : (o : IsNetOf (thread_count P) n text) × (o.net ≡ is.net) = subst (λ k. (o : IsNetOf k n text) × (o.net ≡ is.net)) cores.threads law.1 in
+        let served : (g : IsGranting n.modules top (thread_count P)) × AreServed n.modules top (thread_count P) g.has (names_of w) =
+        subst (λ names. (g : IsGranting n.modules top (thread_count P)) × AreServed n.modules top (thread_count P) g.has names) (names_placed w)
+        (subst (λ k. (g : IsGranting n.modules top k) × AreServed n.modules top k g.has (table_names (placed w))) (numbers.count P R)
+        (cores_of_table_are_served t (thread_modules K) (thread_leaves K) (λ i. (K.bodies i).places.beat) n whole stand steady (λ i l. (body_there i (in_table i l)).beats) is.written.wired)) in
         record {
           good = law.0;
-          net = subst (λ k. IsNetOf k n text) cores.threads law.1;
+          net = read.0;
+          portable = subst IsPortable (sym read.1) (is.written.portable read.0.sound (text_is_free (module_numbers P) routines w n text is are.free));
           threaded = record {
             top = top;
             is_top = net.is_top;
             threaded = subst (λ k. IsThreaded n.modules top k) (numbers.count P R) (net_of_table_is_threaded t (thread_modules K) (thread_leaves K) n whole stand steady is.written.wired);
-            granting = subst (λ k. IsGranting n.modules top k) (numbers.count P R)
-                (net_of_table_grants t (thread_modules K) (thread_leaves K) (λ i. (K.bodies i).places.beat) n whole stand steady (λ i l. (body_there i (in_table i l)).beats) is.written.wired);
+            granting = served.0;
           };
           modules = have;
+          served = served.1;
         }
 
 pub parts_are_good : PartsAreGood

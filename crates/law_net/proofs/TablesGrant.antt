@@ -1,6 +1,8 @@
 -- The net of a whole table obeys the laws of grants.
-use Rattle.std.proofs.Common.{◌≡◌, ℕ, ◌+◌, ◌<◌, [], ◌∷◌, length, Some, codes, true, refl, sym, ap, ◌∙◌, subst}
+use Rattle.std.proofs.Common.{◌≡◌, ℕ, ◌+◌, ◌<◌, List, [], ◌∷◌, length, take, Some, codes, true, refl, sym, ap, ◌∙◌, subst}
+use Rattle.std.specs.Prelude.{slice_get}
 use Rattle.std.proofs.lemmas.Option.{same_Some}
+use Rattle.lists.proofs.Places.{get_mapped, get_unmapped}
 use Rattle.netlist.specs.declared.netlist.Instance.{Instance}
 use Rattle.netlist.specs.declared.netlist.Module.{Module}
 use Rattle.netlist.specs.declared.netlist.Netlist.{Netlist}
@@ -12,12 +14,12 @@ use Rattle.circuit.specs.Machines.{CoreMachine, ThreadMachine}
 use Rattle.circuit.specs.Wiring.{NetPlaces}
 use Rattle.top_wiring.specs.Parts as top_parts
 use Rattle.top_wiring.specs.Ports.{threads, cores}
-use Rattle.top_wiring.specs.Top.{starts, arbiter_instance}
+use Rattle.top_wiring.specs.Top.{starts, preference, core_instance, arbiter_instance}
 use Rattle.top_wiring.specs.Wired.{IsWired}
 use Rattle.top_wiring.proofs.TopPlaces as standing
 use Rattle.leaf_machine.specs.Leaves.{LeafPorts, leaf_thread, leaf_places}
 use Rattle.core_tables.specs.Family.{machine_at}
-use Rattle.core_tables.specs.Tables.{Table, layout_of, modules_of, kinds_in}
+use Rattle.core_tables.specs.Tables.{PlacedCore, Table, core_name, kinds_at, laid_core, layout_of, modules_of, kinds_in}
 use Rattle.core_tables.specs.Whole.{IsWholeTable, AreThreads, places_of}
 use Rattle.core_tables.specs.Nets.{IsNetOfTable}
 use Rattle.core_tables.proofs.TableNets.{tables_are_nets}
@@ -27,6 +29,9 @@ use Rattle.law_net.proofs.TablesAreThreaded.{is_steady}
 use Rattle.law_net.specs.Grants.{HasBeat, IsGranting}
 use Rattle.law_cycle.specs.Bodies.{TurnsBeat}
 use Rattle.law_net.specs.Granted.{NetOfTableGrants}
+use Rattle.law_net.specs.Served.{AreServed, table_names, CoresOfTableAreServed}
+use Rattle.law_net.proofs.InstanceNames.{as_many, in_order}
+use Rattle.law_net.proofs.PreferenceInputs.{only_its_arbiter}
 use Rattle.law_net.proofs.CycleGrants.{has_cores, right_grants}
 use Rattle.law_net.proofs.Apart.{alike}
 use Rattle.law_net.proofs.BeatToggles.{toggled}
@@ -100,6 +105,42 @@ module _ (t : Table) (modules : ℕ → Module) (leaves : ℕ → LeafPorts) (be
         toggled T K machines core_machines places n.modules top whole_net i l (beats i) (subst (λ (m : Module). TurnsBeat m (beats i)) (own_module i l) (turning i l))
         (subst (λ (m : Module). EachOf (FitsAction m) m.actions) (own_module i l) (steady.leaf i l).clockless.signals.acts) h g c out cycle;
   }
+
+  -- ---- the cores by their names
+
+  core_there : (k : ℕ) (name : List ℕ) → slice_get (table_names t.cores) k ≡ Some name → (x : Instance) × IsInstance top name (T + k) x
+  core_there k name e =
+      let c = get_unmapped (λ (c : PlacedCore). core_name c.kind c.number) t.cores k name e in
+      let laid = laid_core (kinds_at t) c.0 in (
+        core_instance (starts (modules_of t) (layout_of t)) T K (top_parts.parts (layout_of t)) (length (top_parts.ask_widths (take k (layout_of t).cores))) k laid,
+        record {
+          listed = standing.core_stands (modules_of t) (layout_of t) top wired.is_top k laid (get_mapped (laid_core (kinds_at t)) t.cores k c.0 c.1);
+          named = c.2;
+        },
+      )
+
+  serves : AreServed n.modules top T granting.has (table_names t.cores)
+  unfolding granting
+  serves = record {
+    count = as_many t n wired;
+    named = core_there;
+    preferred = λ k l. record {
+      instance = arbiter_instance (starts (modules_of t) (layout_of t)) T K (top_parts.parts (layout_of t)) (layout_of t).arbiter k;
+      is = record { listed = standing.arbiter_stands (modules_of t) (layout_of t) top wired.is_top k l; named = refl };
+      place = 2 + k;
+      signal = preference k;
+      named = record { listed = standing.preference_stands (modules_of t) (layout_of t) top wired.is_top k l; named = refl };
+      input = refl;
+      port = 1;
+      connects = refl;
+      only = λ j x port listed read. only_its_arbiter (modules_of t) (layout_of t) top wired.is_top k l j x port listed read;
+    };
+    order = in_order t n wired;
+  }
+
+pub cores_of_table_are_served : CoresOfTableAreServed
+cores_of_table_are_served t modules leaves beats n whole runs steady turning wired =
+    (granting t modules leaves beats n whole runs steady turning wired, serves t modules leaves beats n whole runs steady turning wired)
 
 pub net_of_table_grants : NetOfTableGrants
 net_of_table_grants t modules leaves beats n whole runs steady turning wired = granting t modules leaves beats n whole runs steady turning wired

@@ -1,5 +1,5 @@
 -- The text of a whole table reads as its net, and is good Verilog of a program that the net follows.
-use Rattle.std.proofs.Common.{◌≡◌, ℕ, List, length, sym, ap, ◌∙◌, subst}
+use Rattle.std.proofs.Common.{◌≡◌, ℕ, List, length, refl, sym, ap, ◌∙◌, subst}
 use Rattle.std.specs.Prelude.{codes}
 use Rattle.std.proofs.lemmas.Option.{same_Some}
 use Rattle.c_program.specs.Tree.{Program}
@@ -55,6 +55,10 @@ module _ (t : Table) (modules : ℕ → Module) (leaves : ℕ → LeafPorts) (n 
     round = rounds_stand (layout_of t) (modules_of t) n written.wired (tables_are_sound t whole);
   }
 
+  pub same_tree : is_net_of.net ≡ net
+  unfolding is_net_of
+  same_tree = refl
+
   module _ (P : Program) (many : length t.threads ≡ thread_count P) (follows : FollowsProgram P n.modules top) where
     its : FollowsProgram P (netlist_of net).modules top
     its = subst (λ (z : Netlist). FollowsProgram P z.modules top) (sym netlist_is) follows
@@ -74,7 +78,8 @@ module _ (t : Table) (modules : ℕ → Module) (leaves : ℕ → LeafPorts) (n 
     }
 
 pub texts_are_nets : TextsAreNets
-texts_are_nets t modules leaves n net text whole threads written = is_net_of t modules leaves n net text whole threads written
+texts_are_nets t modules leaves n net text whole threads written =
+    (is_net_of t modules leaves n net text whole threads written, same_tree t modules leaves n net text whole threads written)
 
 pub texts_are_good : TextsAreGood
 texts_are_good P t modules leaves n net text whole threads many written follows = is_good t modules leaves n net text whole threads written P many follows

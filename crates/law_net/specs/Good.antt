@@ -16,11 +16,11 @@ use Rattle.law_net.specs.Texts.{IsNetOf}
 abbrev pub ThreadsStand : Type 0
 ThreadsStand = (P : Program) (K : Parts) (t : Table) → IsBuilt P K → IsLaidTable K t → AreThreads t (thread_modules K) (thread_leaves K)
 
--- THE TEXT IS GOOD: each text of the net of a program's parts is good Verilog of it, and reads as that net
+-- THE TEXT IS GOOD: each text of the net of a program's parts is good Verilog of it, and reads as that net, by the tree that it was written of
 abbrev pub LaidTablesAreGood : Type 0
 LaidTablesAreGood =
     (P : Program) (K : Parts) (t : Table) (n : Netlist) (net : Net) (text : List ℕ) → IsBuilt P K → IsLaidTable K t →
-    IsWritten (layout_of t) (modules_of t) n net text → IsGoodVerilog P text × IsNetOf K.cores.threads n text
+    IsWritten (layout_of t) (modules_of t) n net text → IsGoodVerilog P text × ((read : IsNetOf K.cores.threads n text) × (read.net ≡ net))
 
 -- ---- the cores as they are placed
 

@@ -9,6 +9,7 @@ pub mod Holding
 pub mod Parts
 pub mod Prefs
 pub mod Rounded
+pub mod Served
 pub mod Start
 pub mod Steady
 pub mod Stepped
@@ -21,3 +22,4 @@ pub use Rattle.law_cycle.specs.Bodies
 pub use Rattle.law_cycle.specs.Built
 pub use Rattle.law_routines.specs.Plans
 pub use Rattle.program_cores.specs.Cores
+pub use Rattle.net_emitter.specs.Portable

@@ -19,6 +19,8 @@ use Rattle.law_cycle.specs.Bodies.{ThreadBody, core_count, IsBody}
 use Rattle.law_routines.specs.Plans.{IsRoutine}
 use Rattle.good_verilog.specs.GoodVerilog.{IsGoodVerilog}
 use Rattle.law_net.specs.Grants.{IsGranting}
+use Rattle.law_net.specs.Served.{AreServed, names_of}
+use Rattle.net_emitter.specs.Portable.{IsPortable, IsFreelyNamed}
 use Rattle.net_emitter.specs.Written.{IsTextOf}
 use Rattle.law_net.specs.Texts.{IsNetOf}
 use Rattle.program_cores.specs.Cores.{AreCoresOf}
@@ -61,6 +63,8 @@ pub record AreBodies (P : Program) (spreads : List Spread) (cores : Cores) (made
       IsBody P spreads cores (nat_eq k 0) c (function_module P f) (bodies k)
   pub idle : has_idle P ≡ true → IsBody P spreads cores false no_code (codes "idle") (bodies (length made))
   pub main : IsSteadyMain (core_count cores) (bodies 0).body (bodies 0).leaf
+  -- nothing in them is called by a reserved word
+  pub free : (k : ℕ) (m : Module) → slice_get routines k ≡ Some m → IsFreelyNamed m
 
 -- ---- the whole
 
@@ -83,14 +87,18 @@ HaveModules P n top =
     (i : ℕ) (o : Option ℕ) → slice_get (hardware_routines P) i ≡ Some o →
     (m : Module) × (module_named n.modules (thread_module P o) ≡ Some m) × (module_at n.modules top (slot n.modules top (thread_count P) i) ≡ Some m)
 
-pub record IsGoodText (P : Program) (n : Netlist) (text : List ℕ) : Type 0 where
+-- and its cores are of these names
+pub record IsGoodText (P : Program) (names : List (List ℕ)) (n : Netlist) (text : List ℕ) : Type 0 where
   pub good : IsGoodVerilog P text
   pub net : IsNetOf (thread_count P) n text
+  pub portable : IsPortable net.net
   pub threaded : IsThreadedNet n (thread_count P)
   pub modules : HaveModules P n threaded.top
+  pub served : AreServed n.modules threaded.top (thread_count P) threaded.granting.has names
 
 -- PARTS ARE GOOD: the text that is written of a program's modules and cores is good Verilog of it, and reads as a threaded net
 abbrev pub PartsAreGood : Type 0
 PartsAreGood =
     (P : Program) (spreads : List Spread) (cores : Cores) (made : List RoutineCode) (bodies : ℕ → ThreadBody) (routines : List Module) (n : Netlist) (text : List ℕ) →
-    IsResolved P → AreCoresOf P spreads cores → AreBodies P spreads cores made bodies routines → IsTextOf (module_numbers P) routines cores n text → IsGoodText P n text
+    IsResolved P → AreCoresOf P spreads cores → AreBodies P spreads cores made bodies routines → IsTextOf (module_numbers P) routines cores n text →
+    IsGoodText P (names_of cores) n text

@@ -37,11 +37,11 @@ pub record IsNetOf (threads : ℕ) (n : Netlist) (text : List ℕ) : Type 0 wher
   pub takes : (top : Module) → top_of n.modules ≡ Some top → (c : Choice) → IsChoice threads c → FitsChoice n.modules top c
   pub round : HasRound n.modules top threads
 
--- THE TEXT READS AS THE NET: so does that of a whole table
+-- THE TEXT READS AS THE NET: so does that of a whole table, by the tree that it was written of
 abbrev pub TextsAreNets : Type 0
 TextsAreNets =
     (t : Table) (modules : ℕ → Module) (leaves : ℕ → LeafPorts) (n : Netlist) (net : Net) (text : List ℕ) → IsWholeTable t → AreThreads t modules leaves →
-    IsWritten (layout_of t) (modules_of t) n net text → IsNetOf (length t.threads) n text
+    IsWritten (layout_of t) (modules_of t) n net text → (read : IsNetOf (length t.threads) n text) × (read.net ≡ net)
 
 -- a net is determined, has a run for every list of choices, and follows a program if that is good
 pub record FollowsProgram (P : Program) (modules : List Module) (top : Module) : Type 0 where

@@ -12,6 +12,7 @@ ghost use Rattle.law_net.specs.Holding.{ArbitersHoldNothing, TopsHoldNothing};
 ghost use Rattle.law_net.specs.Parts.{PartsAreGood};
 ghost use Rattle.law_net.specs.Prefs.{PrefsAreCounted};
 ghost use Rattle.law_net.specs.Rounded.{RoundsStand};
+ghost use Rattle.law_net.specs.Served.{CoresOfTableAreServed};
 ghost use Rattle.law_net.specs.Start.{ThreadsArePlanned, ThreadsStart};
 ghost use Rattle.law_net.specs.Stepped.{StepsAsRound};
 ghost use Rattle.law_net.specs.Tables.{LaidTablesAreWhole};
@@ -61,12 +62,14 @@ pub fn rounds()
 /// In every cycle of the net that is wired of a whole table a thread that needs no core is granted nowhere, and a core changes
 /// only where it grants a thread, whose slot then changes; and each change of a slot toggles its beat. An arbiter has no
 /// register and no memory, and neither has the outermost module. The net is threaded, where each thread's module keeps to
-/// itself in closed cycles.
+/// itself in closed cycles. Its cores stand in the order of the table, each the instance of its name, and `arbiter_k` of core k
+/// is connected to the input `pref_k`.
 pub fn tables_grant()
     ensures arbiters { ArbitersHoldNothing }
     ensures tops { TopsHoldNothing }
     ensures threaded { NetOfTableIsThreaded }
     ensures grants { NetOfTableGrants }
+    ensures serves { CoresOfTableAreServed }
 {}
 
 /// The text of the net of a program's parts is good Verilog of it, for any number of threads, and reads as that net. The table
@@ -84,7 +87,8 @@ pub fn laid_tables_are_good()
 {}
 
 /// The text that is written of a program's modules and cores is good Verilog of the program, and reads as a threaded net: where
-/// each thread function has its code, by a right plan, and a module that runs it beside the program's cores.
+/// each thread function has its code, by a right plan, and a module that runs it beside the program's cores. No name in it is a
+/// reserved word, each is declared before it is used, and the cores are served in their order.
 pub fn parts_are_good()
     ensures { PartsAreGood }
 {}

@@ -5,6 +5,7 @@ use Rattle.std.specs.Prelude.{slice_get, slice_index_or, string_bytes}
 use Rattle.std.specs.declared.alloc.Global.{Global}
 use Rattle.std.proofs.lemmas.List.{length-map}
 use Rattle.std.proofs.lemmas.Option.{none-some, same_Some, slice_get_within, slice_get-get_or, slice_get_past, get_or_from_slice_get}
+use Rattle.std.proofs.lemmas.Bool.{cases_lt}
 use Rattle.std.proofs.Math.Dec.{eqb-suc-zero}
 use Rattle.lists.proofs.Places.{get_there, get_mapped, get_pushed}
 use Rattle.hls_ints.specs.Residues.{bit_of}
@@ -37,12 +38,14 @@ use Rattle.law_net.specs.Cores.{AreCoresOf}
 use Rattle.law_net.proofs.Globals.{named}
 use Rattle.law_net.specs.Bodies.{IsBody}
 use Rattle.law_net.specs.Parts.{no_code, code_at, thread_module, AreBodies}
+use Rattle.law_net.specs.Portable.{IsFree, IsFreelyNamed}
 use Rattle.program_plans.specs.declared.PlannedFunction.{PlannedFunction}
 use Rattle.program_plans.specs.Plans.{ArePlanned, routine_of, PlannedAreRoutines}
 use Rattle.program_bodies.specs.Bodies.{shape_of, IsLaid}
 use Rattle.program_bodies.specs.Modules.{module_shape, AreLaid, no_module, bodies_of}
 use Rattle.program_bodies.proofs.Bodies.{laid_are_bodies, laid_main_stays}
 use Rattle.program_bodies.proofs.Served.{at_place, codes_are_served}
+use Rattle.program_bodies.proofs.RoutineNames.{thread_name_free, routine_free}
 use Rattle.program_bodies.proofs.Spreads.{right_spreads}
 
 -- ---- codes by place
@@ -145,6 +148,10 @@ module _ (P : Program) (resolved : IsResolved P) (plans : List PlannedFunction) 
 
 -- ---- bodies
 
+low_bit : (b : Bool) → bit_of b ≤ 1
+low_bit true = omega arith
+low_bit false = omega arith
+
 other_name : (P : Program) (o : Option ℕ) → is_clk (thread_module P o) ≡ false
 other_name P None = refl
 other_name P (Some f) = refl
@@ -205,6 +212,30 @@ module _ (P : Program) (resolved : IsResolved P) (limits : first_passed P ≡ No
         (subst (λ (z : RoutineCode). IsBody P spreads w (nat_eq k 0) z (thread_module P (function_at k)) (bodies_of P spreads w made modules k)) (code_past made)
         (body_at k inside served)))
 
+    -- nothing in a module is called by a reserved word
+    free_at : (k : ℕ) (m : Module) → slice_get modules k ≡ Some m → IsServed (module_shape P spreads w k) (code_at made k).code (code_at made k).plan → IsFreelyNamed m
+    free_at k m e served =
+        let own = laid.each k m e in
+        let routine = own.routine (other_name P (function_at k)) served in
+        routine_free (module_shape P spreads w k) m (subst IsFree (sym routine.named) (thread_name_free P (function_at k))) routine.stands.alone (own.leaf served)
+
+    each_free : (k : ℕ) (m : Module) → slice_get modules k ≡ Some m → IsFreelyNamed m
+    each_free k m e =
+        ⊎_elim
+        (λ (h : k < length (thread_functions P)).
+        let f = get_there (thread_functions P) k h in
+        let c = get_there made k (omega (arith, h, count)) in
+        free_at k m e (served_at k f.0 c.0 f.1 c.1))
+        (λ (h : length (thread_functions P) ≤ k).
+        let l = slice_get_within modules k m e in
+        let n = laid.count in
+        let low = low_bit (has_idle P) in
+        let at : length made ≡ k = omega (arith, h, l, n, low, count) in
+        free_at k m e
+        (subst (λ (z : RoutineCode). IsServed (module_shape P spreads w k) z.code z.plan) (sym (ap (code_at made) (sym at) ∙ code_past made))
+        (idle_served (nat_eq k 0) (thread_module P (function_at k)))))
+        (cases_lt k (length (thread_functions P)))
+
     pub all_bodies : AreBodies P spreads w made (bodies_of P spreads w made modules) modules
     all_bodies = record {
       count = count;
@@ -217,6 +248,7 @@ module _ (P : Program) (resolved : IsResolved P) (limits : first_passed P ≡ No
           (let c = get_there made 0 (omega (arith, count)) in
           laid_main_stays P spreads w (thread_module P (function_at 0)) (code_at made 0) (slice_index_or modules 0 no_module) cores (served_at 0 P.main c.0 refl c.1)
           (laid.each 0 (slice_index_or modules 0 no_module) (slice_get-get_or modules 0 no_module (within 0 c.0 c.1))));
+      free = each_free;
     }
 
 -- the modules of planned functions, and one for threads without a function

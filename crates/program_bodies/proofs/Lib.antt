@@ -2,7 +2,9 @@ pub mod Ports
 pub mod Spreads
 pub mod Bodies
 pub mod Served
+pub mod RoutineNames
 pub mod LaidModules
+pub use Rattle.law_net.proofs.CoreNames
 pub use Rattle.law_net.proofs.FirstNamed
 pub use Rattle.law_net.proofs.ModuleNames
 pub use Rattle.law_net.proofs.PartsAreGood

@@ -25,8 +25,10 @@ returns-clause-ok g c = record {
   few = few_threads (program_of c.in_ok-accepted.accepted.program) c.in_ok-accepted.ensures.limits;
   good = c.in_ok-written.ensures.good.good;
   net = c.in_ok-written.ensures.good.net;
+  portable = c.in_ok-written.ensures.good.portable;
   threaded = c.in_ok-written.ensures.good.threaded;
   modules = c.in_ok-written.ensures.good.modules;
+  served = c.in_ok-written.ensures.good.served;
 }
 
 pub returns-clause-plans : goal.returns-clause-plans
