@@ -89,11 +89,26 @@ abbrev pub built_line : ℕ → ℕ → ℕ → List ℕ
 built_line threads weight bytes =
     codes "hls: built, " ++ (decimal threads ++ (codes " threads, weight " ++ (decimal weight ++ (codes ", " ++ (decimal bytes ++ codes " bytes\n")))))
 
+-- ---- what a Verilog text is made of
+
+abbrev pub reported_line : ℕ → List ℕ
+reported_line bytes = codes "hls: reported, " ++ (decimal bytes ++ codes " bytes\n")
+
 -- ---- runs of the Verilog
 
 abbrev pub cycles_line : Bool → ℕ → List ℕ
 cycles_line true cycles = codes "hls: done, " ++ (decimal cycles ++ codes " cycles\n")
 cycles_line false cycles = codes "hls: not done, " ++ (decimal cycles ++ codes " cycles\n")
+
+-- ---- programs made from a number
+
+abbrev pub sizes_and_cycles : ℕ → ℕ → ℕ → List ℕ
+sizes_and_cycles c_bytes bytes cycles =
+    decimal c_bytes ++ (codes " bytes of C, " ++ (decimal bytes ++ (codes " bytes of Verilog, " ++ (decimal cycles ++ codes " cycles\n"))))
+
+abbrev pub generated_line : Bool → ℕ → ℕ → ℕ → List ℕ
+generated_line true c_bytes bytes cycles = codes "hls: generated, done, " ++ sizes_and_cycles c_bytes bytes cycles
+generated_line false c_bytes bytes cycles = codes "hls: generated, not done, " ++ sizes_and_cycles c_bytes bytes cycles
 
 -- ---- Verilog texts
 

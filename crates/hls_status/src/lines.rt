@@ -148,6 +148,34 @@ pub fn cycles_line(alloc: Global, is_done: bool, cycles: u32) -> Result<String, 
     }
 }
 
+/// The line of a report of so many bytes.
+pub fn reported_line(alloc: Global, bytes: usize) -> Result<String, AllocError>
+    ensures { IfOk result (λ s. string_bytes s ≡ lines.reported_line bytes) }
+{
+    format!(in alloc; "hls: reported, {bytes} bytes\n")
+}
+
+/// The line of a program made from a number: how many bytes its C text and its Verilog text have, and how many cycles ran.
+pub fn generated_line(
+    alloc: Global,
+    is_done: bool,
+    c_bytes: usize,
+    bytes: usize,
+    cycles: u32,
+) -> Result<String, AllocError>
+    ensures { IfOk result (λ s. string_bytes s ≡ lines.generated_line is_done c_bytes bytes cycles) }
+{
+    if is_done {
+        format!(in alloc;
+            "hls: generated, done, {c_bytes} bytes of C, {bytes} bytes of Verilog, {cycles} cycles\n"
+        )
+    } else {
+        format!(in alloc;
+            "hls: generated, not done, {c_bytes} bytes of C, {bytes} bytes of Verilog, {cycles} cycles\n"
+        )
+    }
+}
+
 /// The line of a Verilog text that spells no net at an offset.
 pub fn not_net_line(alloc: Global, offset: usize) -> Result<String, AllocError>
     ensures { IfOk result (λ s. string_bytes s ≡ lines.not_net_line offset) }

@@ -3,7 +3,7 @@ use Rattle.std.proofs.Common.{◌≡◌, ℕ, List, [], ◌∷◌, refl, codes}
 use Rattle.std.specs.Prelude.{Some, None, true, false}
 use Rattle.clap.proofs.OnLiterals.{clap_on_literals}
 use Rattle.turns.specs.Turns.{turn}
-use Rattle.hls_words.specs.declared.task.Task.TheVariants.{Build, Step, Run, Replay, Walk, Check, CheckRun, Sim}
+use Rattle.hls_words.specs.declared.task.Task.TheVariants.{Build, Step, Run, Replay, Walk, Check, CheckRun, Sim, Gen, Report}
 use Rattle.hls_words.specs.Line.{command_line, task_of}
 
 builds : task_of (codes "hls" ∷ codes "build" ∷ []) ≡ Some (Build 1)
@@ -265,3 +265,43 @@ checks_no_run = refl
 checks_no_longer_run : task_of (codes "hls" ∷ codes "check" ∷ codes "--run=10000001" ∷ []) ≡ None
 unfolding clap_on_literals command_line
 checks_no_longer_run = refl
+
+-- ---- programs made from a number
+
+makes : task_of (codes "hls" ∷ codes "gen" ∷ codes "--seed" ∷ codes "0" ∷ codes "--threads" ∷ codes "2" ∷ codes "--size" ∷ codes "1" ∷ []) ≡ Some (Gen 0 2 1 1000000)
+unfolding clap_on_literals command_line
+makes = refl
+
+makes_the_largest : task_of (codes "hls" ∷ codes "gen" ∷ codes "--steps=9" ∷ codes "--size=1000" ∷ codes "--threads=63" ∷ codes "--seed=4294967295" ∷ []) ≡ Some (Gen 4294967295 63 1000 9)
+unfolding clap_on_literals command_line
+makes_the_largest = refl
+
+makes_no_thread : task_of (codes "hls" ∷ codes "gen" ∷ codes "--seed=0" ∷ codes "--threads=0" ∷ codes "--size=1" ∷ []) ≡ None
+unfolding clap_on_literals command_line
+makes_no_thread = refl
+
+makes_one_thread_more : task_of (codes "hls" ∷ codes "gen" ∷ codes "--seed=0" ∷ codes "--threads=64" ∷ codes "--size=1" ∷ []) ≡ None
+unfolding clap_on_literals command_line
+makes_one_thread_more = refl
+
+makes_one_line_more : task_of (codes "hls" ∷ codes "gen" ∷ codes "--seed=0" ∷ codes "--threads=2" ∷ codes "--size=1001" ∷ []) ≡ None
+unfolding clap_on_literals command_line
+makes_one_line_more = refl
+
+makes_no_line : task_of (codes "hls" ∷ codes "gen" ∷ codes "--seed=0" ∷ codes "--threads=2" ∷ codes "--size=0" ∷ []) ≡ None
+unfolding clap_on_literals command_line
+makes_no_line = refl
+
+makes_of_no_seed : task_of (codes "hls" ∷ codes "gen" ∷ codes "--threads=2" ∷ codes "--size=1" ∷ []) ≡ None
+unfolding clap_on_literals command_line
+makes_of_no_seed = refl
+
+-- ---- what a Verilog text is made of
+
+reports : task_of (codes "hls" ∷ codes "report" ∷ []) ≡ Some Report
+unfolding clap_on_literals command_line
+reports = refl
+
+reports_of_a_word : task_of (codes "hls" ∷ codes "report" ∷ codes "first.c" ∷ []) ≡ None
+unfolding clap_on_literals command_line
+reports_of_a_word = refl

@@ -1,6 +1,6 @@
 -- The command line as a definition in clap's own data, and what its words ask for. Source: clap's builder, `Command`
 -- and `Arg`. A further command is a line of `commands` and one of `task_in`.
-use Rattle.std.specs.Prelude.{◌&&◌, ℕ, ◌^◌, Bool, true, false, pos, List, [], ◌∷◌, codes, Option, Some, None, if◌then◌else◌, nat_lt, nat_le, option_and_then, option_map, is_some}
+use Rattle.std.specs.Prelude.{◌&&◌, ℕ, ◌≤◌, ◌^◌, ⊤, Bool, true, false, pos, List, [], ◌∷◌, codes, Option, Some, None, if◌then◌else◌, nat_lt, nat_le, option_and_then, option_map, is_some}
 use Rattle.std.specs.Str.{bytes_eq}
 use Rattle.std.specs.Str.Parse.{digits_value, without_leading_plus}
 use Rattle.clap.specs.ValueTests.{is_numeral}
@@ -64,8 +64,22 @@ check_line = with_rule (new_app (codes "check")) (number_rule (codes "run") 1 10
 abbrev pub sim_line : App
 sim_line = with_rule (new_app (codes "sim")) (required (number_rule (codes "cycles") 0 4294967295))
 
+-- gen --seed s --threads t --size k, with `--steps n` or without
+abbrev pub gen_line : App
+gen_line =
+    with_rule
+    (with_rule
+    (with_rule (with_rule (new_app (codes "gen")) (required (number_rule (codes "seed") 0 4294967295)))
+    (required (number_rule (codes "threads") 1 63)))
+    (required (number_rule (codes "size") 1 1000)))
+    (number_rule (codes "steps") 0 4294967295)
+
+-- report
+abbrev pub report_line : App
+report_line = new_app (codes "report")
+
 abbrev pub commands : List App
-commands = build_line ∷ step_line ∷ run_line ∷ replay_line ∷ walk_line ∷ check_line ∷ sim_line ∷ []
+commands = build_line ∷ step_line ∷ run_line ∷ replay_line ∷ walk_line ∷ check_line ∷ sim_line ∷ gen_line ∷ report_line ∷ []
 
 -- the program without its commands, of which one has to be given
 abbrev pub program_line : App
@@ -135,6 +149,16 @@ check_in rows = check_of (is_some (one_of (codes "run") rows)) (number_in 1 1000
 abbrev pub sim_in : List Row → Option Task
 sim_in rows = option_map (λ n. task.Sim n) (number_in 0 4294967295 None (one_of (codes "cycles") rows))
 
+abbrev pub gen_in : List Row → Option Task
+gen_in rows =
+    option_and_then
+    (λ seed. option_and_then
+    (λ threads. option_and_then
+    (λ size. option_map (λ cycles. task.Gen seed threads size cycles) (number_in 0 4294967295 (Some 1000000) (one_of (codes "steps") rows)))
+    (number_in 1 1000 None (one_of (codes "size") rows)))
+    (number_in 1 63 None (one_of (codes "threads") rows)))
+    (number_in 0 4294967295 None (one_of (codes "seed") rows))
+
 -- the command of this name with the values given to its options
 abbrev pub task_in : Text → List Row → Option Task
 task_in name rows =
@@ -145,7 +169,14 @@ task_in name rows =
     else (if bytes_eq name (codes "walk") then walk_in rows
     else (if bytes_eq name (codes "check") then check_in rows
     else (if bytes_eq name (codes "sim") then sim_in rows
-    else None))))))
+    else (if bytes_eq name (codes "gen") then gen_in rows
+    else (if bytes_eq name (codes "report") then Some task.Report
+    else None))))))))
+
+-- a program that is made has 1 to 63 threads beside main, and at most 1,000 lines
+abbrev pub IsInRange : Task → Type 0
+IsInRange (task.Gen seed threads size cycles) = (1 ≤ threads) × (threads ≤ 63) × (size ≤ 1000)
+IsInRange other = ⊤
 
 -- x where clap finds no fault
 abbrev pub unless_fails : Kinds → Option Task → Option Task

@@ -3,8 +3,8 @@ ghost use Rattle.clap.specs.Words.{app_of, rule_of, rows_of, one_of, first_of, f
 ghost use Rattle.clap.specs.declared.builder.command.Command.TheViews.{out-Command as fields_of};
 ghost use Rattle.clap.specs.declared.error.kind.ErrorKind.TheVariants.{OutOfMemory};
 ghost use Rattle.hls_words.specs.Line.{build_line, command_line, number_in, number_of, number_rule, required};
-ghost use Rattle.hls_words.specs.Line.{check_in, check_line, flag_rule, is_set, run_in, run_line, sim_line, step_in, step_line, task_in, task_of};
-ghost use Rattle.hls_words.specs.Line.{walk_in, walk_line};
+ghost use Rattle.hls_words.specs.Line.{check_in, check_line, flag_rule, gen_in, gen_line, is_set, run_in, run_line, sim_line, step_in, step_line, task_in, task_of};
+ghost use Rattle.hls_words.specs.Line.{IsInRange, walk_in, walk_line};
 
 use crate::{Task, WordsError};
 use clap::builder::ValueParser;
@@ -27,6 +27,15 @@ const MOST_STEPS: u32 = 10_000_000;
 
 /// The most cycles of a dump.
 const MOST_DUMPED: u32 = 100_000;
+
+/// The most threads beside main of a program that is made.
+const MOST_THREADS: u32 = 63;
+
+/// The most lines of one.
+const MOST_LINES: u32 = 1_000;
+
+/// How many cycles it runs at most where the words do not say.
+const USUAL_CYCLES: u32 = 1_000_000;
 
 /// `--NAME n`, n from low to high.
 fn number_option<'a>(alloc: Global, name: &'a str, low: u32, high: u32) -> Arg<'a>
@@ -104,6 +113,16 @@ fn sim_command<'a>(alloc: Global) -> Result<Command<'a>, AllocError>
     Command::new(alloc, "sim").arg(cycles)
 }
 
+fn gen_command<'a>(alloc: Global) -> Result<Command<'a>, AllocError>
+    ensures line { IfOk result (λ c. app_of c ≡ gen_line) }
+    ensures local { IfOk result (λ c. (fields_of c).has_globals ≡ false) }
+{
+    let command = Command::new(alloc, "gen").arg(required_number(alloc, "seed", 0, u32::MAX))?;
+    let command = command.arg(required_number(alloc, "threads", 1, MOST_THREADS))?;
+    let command = command.arg(required_number(alloc, "size", 1, MOST_LINES))?;
+    command.arg(number_option(alloc, "steps", 0, u32::MAX))
+}
+
 /// Adds a command that has no global argument, where there was memory for it and for what it is added to.
 fn with_command<'a>(
     program: Result<Command<'a>, AllocError>,
@@ -126,7 +145,9 @@ fn whole_command<'a>(alloc: Global) -> Result<Command<'a>, AllocError>
     let program = with_command(program, Ok(Command::new(alloc, "replay")));
     let program = with_command(program, walk_command(alloc));
     let program = with_command(program, check_command(alloc));
-    with_command(program, sim_command(alloc))
+    let program = with_command(program, sim_command(alloc));
+    let program = with_command(program, gen_command(alloc));
+    with_command(program, Ok(Command::new(alloc, "report")))
 }
 
 fn is_given(matches: &ArgMatches<'_>, id: &str) -> bool
@@ -214,6 +235,21 @@ fn check_task(matches: &ArgMatches<'_>) -> Option<Task>
     Some(Task::CheckRun { steps })
 }
 
+fn gen_task(matches: &ArgMatches<'_>) -> Option<Task>
+    ensures { result ≡ gen_in (rows_of (found_of matches.now)) }
+{
+    let seed = number(matches, "seed", 0, u32::MAX, None)?;
+    let threads = number(matches, "threads", 1, MOST_THREADS, None)?;
+    let size = number(matches, "size", 1, MOST_LINES, None)?;
+    let cycles = number(matches, "steps", 0, u32::MAX, Some(USUAL_CYCLES))?;
+    Some(Task::Gen {
+        seed,
+        threads,
+        size,
+        cycles,
+    })
+}
+
 /// What the command of this name asks for with these values.
 fn task(alloc: Global, name: &str, matches: &ArgMatches<'_>) -> Result<Option<Task>, AllocError>
     ensures { IfOk result (λ r. r ≡ task_in name.now (rows_of (found_of matches.now))) }
@@ -232,6 +268,8 @@ fn task(alloc: Global, name: &str, matches: &ArgMatches<'_>) -> Result<Option<Ta
             Some(cycles) => Ok(Some(Task::Sim { cycles })),
             None => Ok(None),
         },
+        "gen" => Ok(gen_task(matches)),
+        "report" => Ok(Some(Task::Report)),
         _ => Ok(None),
     }
 }
@@ -267,6 +305,7 @@ fn refusal(error: &Error) -> WordsError
 pub fn parse(alloc: Global, words: &[String]) -> Result<Task, WordsError>
     ensures ok { IfOk result (λ t. task_of (map string_bytes words.now) ≡ Some t) }
     ensures usage { IsErrOf result WordsError.Usage → task_of (map string_bytes words.now) ≡ None }
+    ensures range { IfOk result IsInRange }
 {
     let Ok(command) = whole_command(alloc) else {
         return Err(WordsError::Mem);
