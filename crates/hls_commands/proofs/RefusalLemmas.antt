@@ -1,7 +1,7 @@
 use Rattle.std.proofs.Common.{◌≡◌, ℕ, ◌<◌, Bool, List, length, Option, Some, None, inr, subst, refl}
 use Rattle.std.specs.Prelude.{IsSome}
 use Rattle.hls_words.specs.declared.task.Task.{Task}
-use Rattle.hls_words.specs.declared.task.Task.TheVariants.{Build, Step, Run, Replay, Walk, Check, CheckRun}
+use Rattle.hls_words.specs.declared.task.Task.TheVariants.{Build, Step, Run, Replay, Walk, Check, CheckRun, Report}
 use Rattle.turns.specs.declared.Turn.{Turn}
 use Rattle.journal_text.specs.declared.entry.Entry.{Entry}
 use Rattle.c_accepted.specs.declared.refusal.Refusal.{Refusal}
@@ -71,7 +71,7 @@ stops_check_run most left rose stop.ReadFault is = is
 stops_check_run most left rose (stop.Refused r) is = is
 stops_check_run most left rose stop.Memory is = tt
 
--- what stops a build stops a step and a run
+-- what stops a build stops a step, a run and a report
 pub stops_step : (jobs most : ℕ) (vcd : Bool) (left : Option (List ℕ)) (rose : Type 0) (s : Stop) → StopsBy (Some (Build jobs)) left rose s → StopsBy (Some (Step most vcd)) left rose s
 stops_step jobs most vcd left rose stop.ReadFault is = is
 stops_step jobs most vcd left rose (stop.Refused r) is = is
@@ -81,6 +81,11 @@ pub stops_run : (jobs most : ℕ) (listed : Bool) (left : Option (List ℕ)) (ro
 stops_run jobs most listed left rose stop.ReadFault is = is
 stops_run jobs most listed left rose (stop.Refused r) is = is
 stops_run jobs most listed left rose stop.Memory is = is
+
+pub stops_report : (jobs : ℕ) (left : Option (List ℕ)) (rose : Type 0) (s : Stop) → StopsBy (Some (Build jobs)) left rose s → StopsBy (Some Report) left rose s
+stops_report jobs left rose stop.ReadFault is = is
+stops_report jobs left rose (stop.Refused r) is = is
+stops_report jobs left rose stop.Memory is = is
 
 -- a command that stops owes its cause
 pub stop_owes : (task : Option Task) (left : Option (List ℕ)) (rose : Type 0) (d : Due) (s : Stop) → IsSome task → StopsBy task left rose s → (t : Status) → StopStatus s d t

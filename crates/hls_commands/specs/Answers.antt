@@ -1,7 +1,7 @@
 -- What a call owes for the task that its words ask for and the text that its source gives.
-use Rattle.std.specs.Prelude.{◌≡◌, ◌⊎◌, ℕ, ◌<◌, ◌≤◌, Bool, true, false, List, [], ◌++◌, length, drop, Option, Some, None, IfSome, IsSome, string_bytes}
+use Rattle.std.specs.Prelude.{◌≡◌, ◌⊎◌, ℕ, ◌+◌, ◌<◌, ◌≤◌, Bool, true, false, List, [], ◌++◌, length, drop, Option, Some, None, IfSome, IsSome, string_bytes}
 use Rattle.hls_words.specs.declared.task.Task.{Task}
-use Rattle.hls_words.specs.declared.task.Task.TheVariants.{Build, Step, Run, Replay, Walk, Check, CheckRun, Sim}
+use Rattle.hls_words.specs.declared.task.Task.TheVariants.{Build, Step, Run, Replay, Walk, Check, CheckRun, Sim, Gen, Report}
 use Rattle.turns.specs.declared.Turn.{Turn}
 use Rattle.turns.specs.Turns.{threads_of}
 use Rattle.c_program.specs.Tree.{Program}
@@ -17,6 +17,11 @@ use Rattle.netlist.specs.declared.netlist.Module.{Module}
 use Rattle.netlist.specs.declared.netlist.Netlist.{Netlist}
 use Rattle.netlist.specs.NetlistOf.{netlist_of}
 use Rattle.hls_compile.specs.Compiled.{IsCompiled}
+use Rattle.hls_compile.specs.Plans.{ArePlans}
+use Rattle.hardware_report.specs.Report.{report_of}
+use Rattle.generated_text.specs.Draws.{lines_of}
+use Rattle.generated_text.specs.Text.{text_of}
+use Rattle.thread_semantics.specs.Races.{IsGood}
 use Rattle.thread_semantics.specs.declared.cause.UndefinedCause.{UndefinedCause}
 use Rattle.check_command.specs.Told.{IsDisciplined, IsInDoubt}
 use Rattle.check_command.specs.TurnList.{list_line}
@@ -43,8 +48,8 @@ use Rattle.hls_status.specs.declared.status.UnknownCause.{UnknownCause}
 use Rattle.hls_status.specs.declared.status.UnknownCause.TheVariants as unknown
 use Rattle.hls_status.specs.declared.status.WalkEnd.{WalkEnd}
 use Rattle.hls_status.specs.declared.status.WalkEnd.TheVariants as walked
-use Rattle.hls_status.specs.Lines.{built_line, cycles_line, disciplined_line, doubt_line, good_line, loop_line, memory_line, not_net_line, race_line, read_fault_line, refusal_line}
-use Rattle.hls_status.specs.Lines.{undefined_step_line, unknown_line, usage_line, walk_line}
+use Rattle.hls_status.specs.Lines.{built_line, cycles_line, disciplined_line, doubt_line, generated_line, good_line, loop_line, memory_line, not_net_line, race_line, read_fault_line}
+use Rattle.hls_status.specs.Lines.{refusal_line, reported_line, undefined_step_line, unknown_line, usage_line, walk_line}
 
 -- what a call owes: its status, the Verilog, the journal, the bytes for out and the lines for err
 pub record Due : Type 0 where
@@ -94,9 +99,10 @@ pub record GaveVerilog (left : Option (List ℕ)) (text : List ℕ) : Type 0 whe
   pub gave : Gave left text
   pub short : length text ≤ most_simulated
 
--- the source gave this C text to a task: all that it has, or what follows the journal; a simulation takes none
+-- the source gave this C text to a task: all that it has, or what follows the journal; a simulation takes none, nor does a program made from a number
 abbrev pub GaveTo : Option Task → Option (List ℕ) → List ℕ → Type 0
 GaveTo (Some (Sim most)) left text = ⊥
+GaveTo (Some (Gen seed threads size most)) left text = ⊥
 GaveTo (Some Replay) left text = (entries : List Entry) × (bad : Option ℕ) × GaveJournal left entries bad text
 GaveTo other left text = Gave left text
 
@@ -108,8 +114,14 @@ IsReplayRefused left r =
 -- the text that the source gave to the task has this refusal
 abbrev pub IsRefusedFor : Option Task → Option (List ℕ) → Refusal → Type 0
 IsRefusedFor (Some (Sim most)) left r = ⊥
+IsRefusedFor (Some (Gen seed threads size most)) left r = ⊥
 IsRefusedFor (Some Replay) left r = IsReplayRefused left r
 IsRefusedFor other left r = IsRefusedBy left r
+
+-- a read failed, as the count of faults shows; a program made from a number reads nothing
+abbrev pub IsReadFault : Option Task → Type 0 → Type 0
+IsReadFault (Some (Gen seed threads size most)) rose = ⊥
+IsReadFault other rose = rose
 
 -- ---- what each command owes
 
@@ -124,6 +136,24 @@ pub record IsBuilt (left : Option (List ℕ)) (d : Due) : Type 0 where
   pub unlisted : d.journal ≡ []
   pub out : d.out ≡ d.text
   pub err : d.err ≡ built_line (thread_count program) weight (length d.text)
+
+-- what the Verilog of this net, by which thread functions of the program run by their plans, is made of
+abbrev pub IsReportOf : Program → Netlist → List ℕ → Type 0
+IsReportOf P n report = (plans : _) × ArePlans P n plans × (report ≡ report_of P n plans)
+
+-- the text is accepted as a program of this weight, and what its good Verilog is made of goes to out
+pub record IsReported (left : Option (List ℕ)) (d : Due) : Type 0 where
+  pub text : List ℕ
+  pub program : Program
+  pub weight : ℕ
+  pub net : Netlist
+  pub written : List ℕ
+  pub gave : Gave left text
+  pub compiled : IsCompiled text program weight net written
+  pub reported : IsReportOf program net d.out
+  pub unwritten : d.text ≡ []
+  pub unlisted : d.journal ≡ []
+  pub err : d.err ≡ reported_line (length d.out)
 
 -- main returned, or the walk ended before
 abbrev pub status_of : Ends → Status
@@ -171,6 +201,23 @@ run_status false cycles = status.Cycles cycles
 
 abbrev pub IsStepped : ℕ → Bool → Option (List ℕ) → Due → Status → Type 0
 IsStepped most vcd left d s = (cycles : ℕ) × (done : Bool) × IsRun most vcd left d cycles done × (s ≡ run_status done cycles)
+
+-- the text of this seed, with so many threads beside main and so many lines, is accepted as a program, which is good; of the net that its good
+-- Verilog reads as, so many cycles ran under the choices of `top_rr`, the fewest after which done is shown, or else so many as were asked for; and
+-- what was written goes to out
+pub record IsGeneratedRun (seed threads size most : ℕ) (d : Due) (cycles : ℕ) (done : Bool) : Type 0 where
+  pub program : Program
+  pub weight : ℕ
+  pub net : Netlist
+  pub compiled : IsCompiled (text_of threads (lines_of seed size)) program weight net d.text
+  pub good : IsGood program
+  pub counted : thread_count program ≡ threads + 1
+  pub unlisted : d.journal ≡ []
+  pub ran : IsRound net.modules (thread_count program) most cycles done d.out
+  pub err : d.err ≡ generated_line done (length (text_of threads (lines_of seed size))) (length d.text) cycles
+
+abbrev pub IsGenerated : ℕ → ℕ → ℕ → ℕ → Due → Status → Type 0
+IsGenerated seed threads size most d s = (cycles : ℕ) × (done : Bool) × IsGeneratedRun seed threads size most d cycles done × (s ≡ run_status done cycles)
 
 -- the text is accepted as a program; of the net that its good Verilog reads as, a run made this journal of at most so many entries, which
 -- are legal and full; what its choices print goes to out, and this is the verdict on the state that they lead to
@@ -390,6 +437,8 @@ Succeeds (Some (Walk turns)) left d = IsWalked turns left d status.Ok
 Succeeds (Some Check) left d = IsFoundDisciplined left d
 Succeeds (Some (CheckRun most)) left d = IsFoundGood left d
 Succeeds (Some (Sim most)) left d = (cycles : ℕ) × IsSimulated most left d cycles true
+Succeeds (Some (Gen seed threads size most)) left d = (cycles : ℕ) × IsGeneratedRun seed threads size most d cycles true
+Succeeds (Some Report) left d = IsReported left d
 
 -- a walk ended so, before main returned
 abbrev pub Halts : Option Task → Option (List ℕ) → Due → Status → Type 0
@@ -400,6 +449,7 @@ Halts other left d s = ⊥
 abbrev pub RunsOut : Option Task → Option (List ℕ) → Due → ℕ → Type 0
 RunsOut (Some (Step most vcd)) left d cycles = IsRun most vcd left d cycles false
 RunsOut (Some (Sim most)) left d cycles = IsSimulated most left d cycles false
+RunsOut (Some (Gen seed threads size most)) left d cycles = IsGeneratedRun seed threads size most d cycles false
 RunsOut other left d cycles = ⊥
 
 abbrev pub HasRunOut : Option Task → Option (List ℕ) → ℕ → Type 0
@@ -416,7 +466,7 @@ abbrev pub OwesAt : Option Task → Option (List ℕ) → Type 0 → Due → Sta
 OwesAt task left rose d status.Ok = Succeeds task left d
 OwesAt task left rose d (status.Refused r) = IsSome task × IsRefusedFor task left r × IsPlain d (refusal_line r)
 OwesAt task left rose d status.Usage = (task ≡ None) × IsPlain d usage_line
-OwesAt task left rose d status.ReadFault = IsSome task × rose × IsPlain d read_fault_line
+OwesAt task left rose d status.ReadFault = IsSome task × IsReadFault task rose × IsPlain d read_fault_line
 OwesAt task left rose d (status.WriteFault out err) = ⊥
 OwesAt task left rose d status.Memory = IsPlain d memory_line
 OwesAt task left rose d status.Entries = IsJudged task left d verdicts.Entries

@@ -1,5 +1,12 @@
 -- How the code holds what it owes, and the parts of a command.
-use Rattle.std.specs.Prelude.{◌≡◌, ◌⊎◌, ℕ, true, false, List, [], string_bytes, Option, ⊤}
+use Rattle.std.specs.Prelude.{◌≡◌, ◌⊎◌, ℕ, ◌+◌, true, false, List, [], length, string_bytes, Option, ⊤}
+use Rattle.generated_text.specs.Draws.{lines_of}
+use Rattle.generated_text.specs.Text.{text_of}
+use Rattle.c_program.specs.Tree.{Program}
+use Rattle.c_program.specs.Weight.{thread_count}
+use Rattle.thread_semantics.specs.Races.{IsGood}
+use Rattle.netlist.specs.declared.netlist.Netlist.{Netlist}
+use Rattle.hls_compile.specs.Compiled.{IsCompiled}
 use Rattle.hls_words.specs.declared.task.Task.{Task}
 use Rattle.c_profile.specs.declared.text.ProfileError.{ProfileError}
 use Rattle.c_profile.specs.declared.text.ProfileError.TheVariants as profile_error
@@ -24,7 +31,7 @@ use Rattle.check_command.specs.declared.run.RunTold.{RunTold}
 use Rattle.check_command.specs.declared.run.RunTold.TheVariants as run
 use Rattle.check_command.specs.TurnList.{list_line}
 use Rattle.hls_commands.specs.Answers.{Due, Gave, HasBadEntry, HasLoop, IsFoundDisciplined, IsFoundGood, IsFoundInDoubt, IsFoundRacing, IsFoundUndefined, IsFoundUnknown, IsListed}
-use Rattle.hls_commands.specs.Answers.{IsNotNet, IsPlain, IsRefusedFor, IsReplayed, IsSimulated, cause_of, verdict_status}
+use Rattle.hls_commands.specs.Answers.{IsNotNet, IsPlain, IsReadFault, IsRefusedFor, IsReplayed, IsSimulated, cause_of, verdict_status}
 use Rattle.hls_status.specs.Lines.{cycles_line, disciplined_line, doubt_line, good_line, loop_line, memory_line, not_net_line, race_line, read_fault_line, refusal_line}
 use Rattle.hls_status.specs.Lines.{undefined_step_line, unknown_line}
 
@@ -53,7 +60,7 @@ due_of a = record {
 
 -- a command that stops early has a cause
 abbrev pub StopsBy : Option Task → Option (List ℕ) → Type 0 → Stop → Type 0
-StopsBy task left rose stop.ReadFault = rose
+StopsBy task left rose stop.ReadFault = IsReadFault task rose
 StopsBy task left rose (stop.Refused r) = IsRefusedFor task left r
 StopsBy task left rose stop.Memory = ⊤
 
@@ -122,6 +129,15 @@ RunOwes left d (status.Race first second name) = IsFoundRacing left d first seco
 RunOwes left d (status.UndefinedStep offset cause) = IsFoundUndefined left d offset cause
 RunOwes left d (status.Unknown steps cause) = IsFoundUnknown left d steps cause
 RunOwes left d s = ⊥
+
+-- ---- programs made from a number
+
+-- the text of a seed has so many bytes and compiles to this, and its program is good
+pub record IsMade (seed threads size c_bytes : ℕ) (P : Program) (weight : ℕ) (n : Netlist) (written : List ℕ) : Type 0 where
+  pub long : c_bytes ≡ length (text_of threads (lines_of seed size))
+  pub compiled : IsCompiled (text_of threads (lines_of seed size)) P weight n written
+  pub good : IsGood P
+  pub counted : thread_count P ≡ threads + 1
 
 -- ---- Verilog texts
 

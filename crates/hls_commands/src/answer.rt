@@ -12,7 +12,7 @@ pub enum Out {
     Nothing,
     /// The Verilog text.
     Text,
-    /// What the program printed.
+    /// What the program printed, or what is told of it.
     Printed(Bytes),
 }
 

@@ -1,7 +1,7 @@
 // What each command owes.
 ghost use Rattle.std.specs.Prelude.{◌≡◌, ◌≤◌, None, Some, map, string_bytes, IfOk, IfErr};
 ghost use Rattle.hls_io.specs.Causes.{Rose};
-ghost use Rattle.hls_words.specs.Line.{task_of};
+ghost use Rattle.hls_words.specs.Line.{IsInRange, task_of};
 ghost use Rattle.c_program.specs.Plain.{program_of};
 ghost use Rattle.c_program.specs.Weight.{thread_count};
 ghost use Rattle.c_accepted.specs.Profile.{IsAccepted};
@@ -9,10 +9,13 @@ ghost use Rattle.hls_commands.specs.Answers.{Gave, IsBuilt, IsPlain, IsStepped, 
 ghost use Rattle.hls_commands.specs.Inside.{AnswersStop, StopsBy, due_of, line_bytes, refused, stop_of};
 ghost use Rattle.hls_commands.specs.declared.commands.Stop.TheVariants.{Memory};
 ghost use Rattle.hls_compile.specs.Compiled.{IsCompiled};
+ghost use Rattle.hls_compile.specs.Plans.{ArePlans};
 ghost use Rattle.cycle_sim.specs.declared.sim.OpenError.TheVariants as causes;
 
 use crate::answer::{Answer, Line, Out};
 use crate::checks::{check, check_run};
+use crate::generated::generate;
+use crate::reports::report_hardware;
 use crate::runs::{replay_journal, run_workers};
 use crate::sims::simulate;
 use c_interpreter::walk::{WalkEnd as Ends, walk};
@@ -105,6 +108,7 @@ pub fn compiled<R: Threads + Sync, S: Source>(
     jobs: u32,
 ) -> Result<Compiled, Stop>
     ensures ok { IfOk result (λ c. (text : _) × Gave (S.left source.old) text × IsCompiled text (program_of c.program) c.weight c.net c.text) }
+    ensures plans { IfOk result (λ c. ArePlans (program_of c.program) c.net c.plans) }
     ensures stop { IfErr result (StopsBy (Some (Task.Build jobs)) (S.left source.old) (Rose (S.faults source.old) (S.faults source.new))) }
     ensures later { S.faults source.old ≤ S.faults source.new }
 {
@@ -217,7 +221,7 @@ fn memory_alone(error: OpenError) -> AllocError
 }
 
 /// Runs a net, for what it writes or for its dump. Each that a text is compiled to has a simulator.
-fn ran_as(alloc: Global, built: &Compiled, cycles: u32, vcd: bool) -> Result<Ran, AllocError>
+pub fn ran_as(alloc: Global, built: &Compiled, cycles: u32, vcd: bool) -> Result<Ran, AllocError>
     requires { (text : _) × IsCompiled text (program_of built.now.program) built.now.weight built.now.net built.now.text }
     ensures { IfOk result (λ r. RunsAs vcd built.now.net.modules (thread_count (program_of built.now.program)) cycles r.cycles r.is_done r.printed) }
 {
@@ -289,7 +293,7 @@ fn stopped(alloc: Global, stop: Stop) -> Answer
     }
 }
 
-/// All that is owed for a task, before a byte is written.
+/// All that is owed for a task whose numbers are in range, before a byte is written.
 #[tactic(auto, using(crate::proofs::OwedAnswers::owed_steps))]
 pub fn run_task<R: Threads + Wait + Sync, S: Source, G: Gate + Sync>(
     rt: &R,
@@ -298,6 +302,7 @@ pub fn run_task<R: Threads + Wait + Sync, S: Source, G: Gate + Sync>(
     source: &mut S,
     gate: &G,
 ) -> Answer
+    requires { IsInRange task }
     ensures owes { Owes (Some task) (S.left source.old) (Rose (S.faults source.old) (S.faults source.new)) (due_of result) }
     ensures later { S.faults source.old ≤ S.faults source.new }
 {
@@ -310,6 +315,13 @@ pub fn run_task<R: Threads + Wait + Sync, S: Source, G: Gate + Sync>(
         Task::Check => check(alloc, source),
         Task::CheckRun { steps } => check_run(alloc, source, steps),
         Task::Sim { cycles } => simulate(alloc, source, cycles),
+        Task::Gen {
+            seed,
+            threads,
+            size,
+            cycles,
+        } => generate(rt, alloc, seed, threads, size, cycles),
+        Task::Report => report_hardware(rt, alloc, source),
     };
     match done {
         Ok(answer) => answer,

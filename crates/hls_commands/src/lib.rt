@@ -4,6 +4,8 @@
 pub mod answer;
 pub mod checks;
 pub mod commands;
+pub mod generated;
+pub mod reports;
 pub mod runs;
 pub mod sims;
 

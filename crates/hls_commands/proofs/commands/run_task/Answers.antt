@@ -1,20 +1,22 @@
 use Rattle.std.proofs.Common.{◌≡◌, List, Result, Ok, IfOk, Some, subst, sym, ◌∙◌}
 use Rattle.turns.specs.declared.Turn.{Turn}
 use Rattle.hls_words.specs.declared.task.Task.{Task}
-use Rattle.hls_words.specs.declared.task.Task.TheVariants.{Build}
+use Rattle.hls_words.specs.declared.task.Task.TheVariants.{Build, Report}
+use Rattle.hls_words.specs.Line.{IsInRange}
 use Rattle.hls_io.specs.Causes.{Rose}
 use Rattle.journal_laws.specs.declared.verdict.Verdict.{Verdict}
 use Rattle.hls_status.specs.declared.status.Status.{Status}
 use Rattle.hls_status.specs.declared.status.Status.TheVariants as status
 use Rattle.hls_commands.specs.declared.answer.Answer.{Answer}
 use Rattle.hls_commands.specs.declared.commands.Stop.{Stop}
-use Rattle.hls_commands.specs.Answers.{IsBuilt, IsRunBy, IsStepped, IsWalked, OwesAt, verdict_status}
+use Rattle.hls_commands.specs.Answers.{IsBuilt, IsGenerated, IsReported, IsRunBy, IsStepped, IsWalked, OwesAt, verdict_status}
 use Rattle.hls_commands.specs.Inside.{CheckOwes, IsReplayOrBad, RunOwes, SimOwes, due_of}
 use Rattle.hls_commands.proofs.RunLemmas.{stepped_owes, run_owes, replay_owes, walked_owes}
 use Rattle.hls_commands.proofs.SimLemmas.{sim_owes}
 use Rattle.hls_commands.proofs.CheckLemmas.{check_owes, check_run_owes}
+use Rattle.hls_commands.proofs.GeneratedLemmas.{generated_owes}
 use Rattle.hls_commands.proofs.commands.run_task.Goals as goal
-use Rattle.hls_commands.proofs.commands.run_task.Goals.{in-Build, in-Step, in-Run, in-Replay, in-Walk, in-Check, in-CheckRun, in-Sim}
+use Rattle.hls_commands.proofs.commands.run_task.Goals.{in-Build, in-Step, in-Run, in-Replay, in-Walk, in-Check, in-CheckRun, in-Sim, in-Gen, in-Report}
 
 -- what a command that answers has come to
 at_ok : (Is : Answer → Type 0) (r : Result Answer Stop) (a : Answer) → r ≡ Ok a → IfOk r Is → Is a
@@ -46,4 +48,19 @@ returns-in-Ok-clause-owes g c =
           (at_ok (λ (x : Answer). RunOwes left (due_of x) x.status) w.check_run-done.result a (sym w.done-is ∙ c.in-Ok.is) w.check_run-done.ensures.ok))
       | in-Sim w ↦ owed _ w.in-Sim.is (sim_owes w.in-Sim.cycles left rose (due_of a) a.status
           (at_ok (λ (x : Answer). SimOwes w.in-Sim.cycles left (due_of x) x.status) w.simulate-done.result a (sym w.done-is ∙ c.in-Ok.is) w.simulate-done.ensures.ok))
+      | in-Gen w ↦ owed _ w.in-Gen.is (generated_owes w.in-Gen.seed w.in-Gen.threads w.in-Gen.size w.in-Gen.cycles left rose (due_of a) a.status
+          (at_ok (λ (x : Answer). IsGenerated w.in-Gen.seed w.in-Gen.threads w.in-Gen.size w.in-Gen.cycles (due_of x) x.status) w.generate-done.result a
+          (sym w.done-is ∙ c.in-Ok.is) w.generate-done.ensures.ok))
+      | in-Report w ↦ let is = at_ok (λ (x : Answer). (x.status ≡ status.Ok) × IsReported left (due_of x)) w.report_hardware-done.result a (sym w.done-is ∙ c.in-Ok.is)
+          w.report_hardware-done.ensures.ok in
+          owed Report w.in-Report.is (subst (λ (s : Status). OwesAt (Some Report) left rose (due_of a) s) (sym is.0) is.1)
     ]
+
+pub generate-done-requires-clause-some : goal.generate-done-requires-clause-some
+generate-done-requires-clause-some g c κs within = (subst IsInRange c.in-Gen.is c.requires).0
+
+pub generate-done-requires-clause-most : goal.generate-done-requires-clause-most
+generate-done-requires-clause-most g c κs within = (subst IsInRange c.in-Gen.is c.requires).1
+
+pub generate-done-requires-clause-few : goal.generate-done-requires-clause-few
+generate-done-requires-clause-few g c κs within = (subst IsInRange c.in-Gen.is c.requires).2
