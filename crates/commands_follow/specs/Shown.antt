@@ -1,4 +1,4 @@
--- What `step`, `run` and `replay` show of a good program.
+-- What `step`, `run` and `replay` show of a good program, and `gen` of the one that it makes.
 use Rattle.std.specs.Prelude.{◌≡◌, ◌↔◌, ℕ, Bool, true, false, List, Option}
 use Rattle.c_program.specs.Tree.{Program}
 use Rattle.thread_semantics.specs.State.{State}
@@ -6,7 +6,7 @@ use Rattle.thread_semantics.specs.Step.{Steps, after}
 use Rattle.thread_semantics.specs.Races.{IsGood}
 use Rattle.journal_laws.specs.declared.verdict.Verdict.{Verdict}
 use Rattle.journal_follows.specs.Follows.{HasInterleaving}
-use Rattle.hls_commands.specs.Answers.{Due, IsRun, IsRunBy, IsReplayed}
+use Rattle.hls_commands.specs.Answers.{Due, IsGeneratedRun, IsRun, IsRunBy, IsReplayed}
 
 -- the program has an interleaving that printed this, and is ended exactly where said
 pub record HasPrinted (P : Program) (out : List ℕ) (done : Bool) : Type 0 where
@@ -28,3 +28,8 @@ RunsShow = (most : ℕ) (listed : Bool) (left : Option (List ℕ)) (d : Due) (v 
 -- what `replay` answers
 abbrev pub ReplaysShow : Type 0
 ReplaysShow = (left : Option (List ℕ)) (d : Due) (v : Verdict) → (r : IsReplayed left d v) → IsGood r.program → HasInterleaving r.program d.out v
+
+-- what `gen` answers, of a program that is good by itself
+abbrev pub GeneratedShow : Type 0
+GeneratedShow =
+    (seed threads size most : ℕ) (d : Due) (cycles : ℕ) (done : Bool) → (r : IsGeneratedRun seed threads size most d cycles done) → HasPrinted r.program d.out done

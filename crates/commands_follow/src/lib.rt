@@ -1,7 +1,7 @@
-//! What the commands that run hardware say of a good program: `step`, `run` and `replay` print what one of its interleavings prints.
+//! What the commands that run hardware say of a good program: `step`, `run`, `replay` and `gen` print what one of its interleavings prints.
 #![tactic(auto)]
 
-ghost use Rattle.commands_follow.specs.Shown.{ReplaysShow, RunsShow, StepsShow};
+ghost use Rattle.commands_follow.specs.Shown.{GeneratedShow, ReplaysShow, RunsShow, StepsShow};
 
 /// Where the program is good, what these commands answered is the output of one interleaving.
 pub fn commands_follow()
@@ -11,4 +11,6 @@ pub fn commands_follow()
     ensures runs { RunsShow }
     // `replay`: the same.
     ensures replays { ReplaysShow }
+    // `gen`: as `step`, of a program that is good.
+    ensures generated { GeneratedShow }
 {}

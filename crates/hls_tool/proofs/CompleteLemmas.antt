@@ -1,7 +1,7 @@
 -- A task ends, for a text of the profile, with what it asks for or for want of memory, where no stream fails.
 use Rattle.std.proofs.Common.{◌≡◌, ℕ, ◌≤◌, Bool, List, length, Option, Some, None, sym, subst, ⊎_elim, arith}
 use Rattle.hls_words.specs.declared.task.Task.{Task}
-use Rattle.hls_words.specs.declared.task.Task.TheVariants.{Build, Step, Run, Replay, Walk, Check, CheckRun, Sim}
+use Rattle.hls_words.specs.declared.task.Task.TheVariants.{Build, Step, Run, Replay, Walk, Check, CheckRun, Sim, Gen, Report}
 use Rattle.turns.specs.declared.Turn.{Turn}
 use Rattle.c_program.specs.Tree.{Program}
 use Rattle.c_accepted.specs.declared.refusal.Refusal.{Refusal}
@@ -152,6 +152,25 @@ module _ (text : List ℕ) (P : Program) (w : ℕ) (accepted : IsAccepted text P
   owes_check_run most rose d (status.UndefinedStep offset cause) h calm = tt
   owes_check_run most rose d (status.Unknown steps cause) h calm = tt
 
+  owes_report : (rose : Type 0) (d : Due) (s : Status) → OwesAt (Some Report) (Some text) rose d s → (rose → ⊥) → Completes Report s
+  owes_report rose d status.Ok h calm = tt
+  owes_report rose d (status.Refused r) h calm = absurd (never_refused r h.1)
+  owes_report rose d status.Usage h calm = absurd (let e : Some Report ≡ None = h.0 in cc)
+  owes_report rose d status.ReadFault h calm = absurd (calm h.1)
+  owes_report rose d (status.WriteFault n m) h calm = absurd h
+  owes_report rose d status.Memory h calm = tt
+  owes_report rose d status.Entries h calm = absurd h
+  owes_report rose d status.Stuck h calm = absurd h
+  owes_report rose d (status.BadEntry index) h calm = absurd h
+  owes_report rose d (status.Walked end) h calm = absurd h
+  owes_report rose d (status.Cycles cycles) h calm = absurd h
+  owes_report rose d (status.NotNet offset) h calm = absurd h.0
+  owes_report rose d (status.Loop signal) h calm = absurd h.0
+  owes_report rose d (status.Doubt offset name) h calm = absurd h.0
+  owes_report rose d (status.Race first second name) h calm = absurd h
+  owes_report rose d (status.UndefinedStep offset cause) h calm = absurd h
+  owes_report rose d (status.Unknown steps cause) h calm = absurd h
+
   -- ---- for a text behind a journal
 
   module _ (whole : List ℕ) (entries : List Entry) (bad : Option ℕ) (gave : GaveJournal (Some whole) entries bad text) where
@@ -195,7 +214,10 @@ owes_complete whole text P w accepted Check rose d s gave h calm =
     owes_check text P w accepted rose d s (subst (λ (x : List ℕ). OwesAt (Some Check) (Some x) rose d s) (sym gave) h) calm
 owes_complete whole text P w accepted (CheckRun most) rose d s gave h calm =
     owes_check_run text P w accepted most rose d s (subst (λ (x : List ℕ). OwesAt (Some (CheckRun most)) (Some x) rose d s) (sym gave) h) calm
+owes_complete whole text P w accepted Report rose d s gave h calm =
+    owes_report text P w accepted rose d s (subst (λ (x : List ℕ). OwesAt (Some Report) (Some x) rose d s) (sym gave) h) calm
 owes_complete whole text P w accepted (Sim most) rose d s gave h calm = absurd gave
+owes_complete whole text P w accepted (Gen seed threads size most) rose d s gave h calm = absurd gave
 
 -- ---- how it goes out
 

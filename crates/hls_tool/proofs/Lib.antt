@@ -4,6 +4,7 @@ pub mod CompleteLemmas
 pub mod WalkLemmas
 pub mod CheckLemmas
 pub mod RunLemmas
+pub mod GeneratedLemmas
 pub mod TextLemmas
 pub mod SimLemmas
 pub mod StepLemmas

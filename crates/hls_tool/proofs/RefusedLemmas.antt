@@ -2,7 +2,7 @@
 use Rattle.std.proofs.Common.{◌≡◌, ℕ, ◌<◌, ◌≤◌, true, false, List, length, Option, Some, None, sym, subst, ◌∙◌, ⊎_elim, arith}
 use Rattle.std.specs.Prelude.{⊤}
 use Rattle.hls_words.specs.declared.task.Task.{Task}
-use Rattle.hls_words.specs.declared.task.Task.TheVariants.{Build, Step, Run, Replay, Walk, Check, CheckRun, Sim}
+use Rattle.hls_words.specs.declared.task.Task.TheVariants.{Build, Step, Run, Replay, Walk, Check, CheckRun, Sim, Gen, Report}
 use Rattle.c_program.specs.Tree.{Program}
 use Rattle.c_accepted.specs.declared.refusal.Refusal.{Refusal}
 use Rattle.c_accepted.specs.declared.refusal.Refusal.TheVariants as refusal
@@ -23,6 +23,7 @@ use Rattle.hls_tool.proofs.TextLemmas.{one_text}
 abbrev TakesWhole : Option Task → Type 0
 TakesWhole (Some Replay) = ⊥
 TakesWhole (Some (Sim most)) = ⊥
+TakesWhole (Some (Gen seed threads size most)) = ⊥
 TakesWhole other = ⊤
 
 module _ (text : List ℕ) (r : Refusal) (refused : IsRefused text r) where
@@ -162,8 +163,26 @@ module _ (text : List ℕ) (r : Refusal) (refused : IsRefused text r) where
   others (Some (CheckRun most)) rose d (status.Race first second name) takes h = is_not_accepted h.text h.program h.weight h.gave h.accepted
   others (Some (CheckRun most)) rose d (status.UndefinedStep offset cause) takes h = is_not_accepted h.text h.program h.weight h.gave h.accepted
   others (Some (CheckRun most)) rose d (status.Unknown steps cause) takes h = is_not_accepted h.text h.program h.weight h.gave h.accepted
+  others (Some Report) rose d status.Ok takes h = is_not_accepted h.text h.program h.weight h.gave h.compiled.accepted
+  others (Some Report) rose d (status.Refused s) takes h = is_refused_by s h.1
+  others (Some Report) rose d status.Usage takes h = tt
+  others (Some Report) rose d status.ReadFault takes h = tt
+  others (Some Report) rose d (status.WriteFault n m) takes h = tt
+  others (Some Report) rose d status.Memory takes h = tt
+  others (Some Report) rose d status.Entries takes h = h
+  others (Some Report) rose d status.Stuck takes h = h
+  others (Some Report) rose d (status.BadEntry index) takes h = h
+  others (Some Report) rose d (status.Walked end) takes h = h
+  others (Some Report) rose d (status.Cycles cycles) takes h = h
+  others (Some Report) rose d (status.NotNet offset) takes h = h.0
+  others (Some Report) rose d (status.Loop signal) takes h = h.0
+  others (Some Report) rose d (status.Doubt offset name) takes h = h.0
+  others (Some Report) rose d (status.Race first second name) takes h = h
+  others (Some Report) rose d (status.UndefinedStep offset cause) takes h = h
+  others (Some Report) rose d (status.Unknown steps cause) takes h = h
   others (Some Replay) rose d s takes h = absurd takes
   others (Some (Sim most)) rose d s takes h = absurd takes
+  others (Some (Gen seed threads size most)) rose d s takes h = absurd takes
 
 -- ---- a replay
 
@@ -234,7 +253,9 @@ owes_refusal whole r (Some (Run most listed)) rose d s is h =
 owes_refusal whole r (Some (Walk turns)) rose d s is h = others whole r (refused_text whole r is) (Some (Walk turns)) rose d s tt h
 owes_refusal whole r (Some Check) rose d s is h = others whole r (refused_text whole r is) (Some Check) rose d s tt h
 owes_refusal whole r (Some (CheckRun most)) rose d s is h = others whole r (refused_text whole r is) (Some (CheckRun most)) rose d s tt h
+owes_refusal whole r (Some Report) rose d s is h = others whole r (refused_text whole r is) (Some Report) rose d s tt h
 owes_refusal whole r (Some (Sim most)) rose d s is h = absurd is
+owes_refusal whole r (Some (Gen seed threads size most)) rose d s is h = absurd is
 owes_refusal whole r (Some Replay) rose d s is h =
     ⊎_elim (λ long. too_long_together whole r long.0 long.1 rose d s h) (λ other. refused_behind whole other.1.0 other.1.1 other.0 other.1.2 r other.2 rose d s h) is
 

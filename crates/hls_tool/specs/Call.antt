@@ -1,7 +1,7 @@
 -- What a call of the tool says of its answer.
 use Rattle.std.specs.Prelude.{◌≡◌, ◌⊎◌, ℕ, ◌<◌, ◌≤◌, Bool, List, length, Option, Some, ⊤, string_bytes}
 use Rattle.hls_words.specs.declared.task.Task.{Task}
-use Rattle.hls_words.specs.declared.task.Task.TheVariants.{Build, Step, Run, Replay, Walk, Check, CheckRun, Sim}
+use Rattle.hls_words.specs.declared.task.Task.TheVariants.{Build, Step, Run, Replay, Walk, Check, CheckRun, Sim, Report}
 use Rattle.verilog_tree.specs.declared.tree.Net.{Net}
 use Rattle.netlist.specs.NetlistOf.{netlist_of}
 use Rattle.verilog_reader.specs.Faults.{IsRead}
@@ -75,6 +75,7 @@ Completes (CheckRun most) status.Ok = ⊤
 Completes (CheckRun most) (status.Race first second name) = ⊤
 Completes (CheckRun most) (status.UndefinedStep offset cause) = ⊤
 Completes (CheckRun most) (status.Unknown steps cause) = ⊤
+Completes Report status.Ok = ⊤
 Completes t s = ⊥
 
 -- the status of this end of a walk, but for a fault of the source or of a sink, and want of memory
@@ -109,6 +110,16 @@ TellsRun P status.ReadFault = ⊤
 TellsRun P (status.WriteFault n m) = ⊤
 TellsRun P status.Memory = ⊤
 TellsRun P s = ⊥
+
+-- ---- programs made from a number
+
+-- how a task that makes a program from a number ends, but for a fault of a sink and want of memory: it reads nothing, and what it makes is never refused
+abbrev pub TellsGeneration : Status → Type 0
+TellsGeneration status.Ok = ⊤
+TellsGeneration (status.Cycles cycles) = ⊤
+TellsGeneration (status.WriteFault n m) = ⊤
+TellsGeneration status.Memory = ⊤
+TellsGeneration s = ⊥
 
 -- ---- Verilog texts
 

@@ -1,8 +1,9 @@
 ghost use Rattle.std.specs.Prelude.{◌≡◌, ◌⊎◌, ◌≤◌, None, Some, false, length, map, string_bytes};
 ghost use Rattle.hls_io.specs.Causes.{Rose};
-ghost use Rattle.hls_words.specs.Line.{task_of};
-ghost use Rattle.hls_words.specs.declared.task.Task.TheVariants.{Check, CheckRun, Walk};
-ghost use Rattle.hls_tool.specs.Call.{Answered, AnswersAs, AsksFor, AsksToSimulate, Completes, IsWriteFault, TellsDiscipline, TellsEnd, TellsRefusal, TellsRun, TellsSimulation};
+ghost use Rattle.hls_words.specs.Line.{IsInRange, task_of};
+ghost use Rattle.hls_words.specs.declared.task.Task.TheVariants.{Check, CheckRun, Gen, Walk};
+ghost use Rattle.hls_tool.specs.Call.{Answered, AnswersAs, AsksFor, AsksToSimulate, Completes, IsWriteFault, TellsDiscipline, TellsEnd, TellsGeneration};
+ghost use Rattle.hls_tool.specs.Call.{TellsRefusal, TellsRun, TellsSimulation};
 ghost use Rattle.turns.specs.Turns.{threads_of};
 ghost use Rattle.journal_laws.specs.declared.verdict.Verdict.TheVariants.{Entries, Stuck};
 ghost use Rattle.c_interpreter.specs.Walk.{IsWalk};
@@ -58,6 +59,8 @@ pub fn hls<R: Threads + Wait + Sync, S: Source, O: Sink, E: Sink, G: Gate + Sync
     ensures checks { (P : _) → AsksFor Check (task_of (map string_bytes words.now)) (S.left source.old) P → TellsDiscipline P result.status }
     ensures checks_run { (most : _) (P : _) → AsksFor (CheckRun most) (task_of (map string_bytes words.now)) (S.left source.old) P
         → TellsRun P result.status }
+    ensures generates { (seed : _) (threads : _) (size : _) (most : _) → task_of (map string_bytes words.now) ≡ Some (Gen seed threads size most)
+        → TellsGeneration result.status }
     ensures simulates { (most : _) (text : _) → AsksToSimulate most (task_of (map string_bytes words.now)) (S.left source.old) text → TellsSimulation text result.status }
     ensures as_step { (most : _) (c_text : _) (d : _) (s : _) → IsStepped most false (Some c_text) d s → length d.text ≤ most_simulated
         → AsksToSimulate most (task_of (map string_bytes words.now)) (S.left source.old) d.text
@@ -72,7 +75,7 @@ pub fn hls<R: Threads + Wait + Sync, S: Source, O: Sink, E: Sink, G: Gate + Sync
     deliver(answer, out, err)
 }
 
-/// Does what a task asks: all that [`hls`] does once it has read its words.
+/// Does what a task asks whose numbers are in range: all that [`hls`] does once it has read its words.
 pub fn perform<R: Threads + Wait + Sync, S: Source, O: Sink, E: Sink, G: Gate + Sync>(
     rt: &R,
     alloc: Global,
@@ -82,6 +85,7 @@ pub fn perform<R: Threads + Wait + Sync, S: Source, O: Sink, E: Sink, G: Gate + 
     err: &mut E,
     gate: &G,
 ) -> Outcome
+    requires { IsInRange task }
     ensures answered { Answered (Some task) (S.left source.old)
         (Rose (S.faults source.old) (S.faults source.new))
         (passage (O.held out.old) (O.held out.new) (O.faults out.old) (O.faults out.new))

@@ -1,5 +1,8 @@
 // Calls of the tool.
 
+ghost use Rattle.std.specs.Prelude.{IfOk};
+ghost use Rattle.hls_tool.specs.Line.{IsInRange};
+
 use crate::meeting::Meeting;
 use hls_io::{MemSink, MemSource};
 use hls_tool::{Outcome, Status, Task, perform};
@@ -36,6 +39,9 @@ pub enum Asked {
     /// A run of so many steps at most.
     CheckRun { steps: u32 },
     Sim { cycles: u32 },
+    /// The program of the number 0, of two threads beside main and of one line, for so many cycles at most.
+    Gen { cycles: u32 },
+    Report,
 }
 
 /// The most bytes that each call of a stream moves, and the numbers of the calls that fail, from 1.
@@ -70,26 +76,34 @@ fn turns_of_main(alloc: Global, steps: u32) -> Result<Items<Turn>, AllocError> {
     Ok(turns)
 }
 
-fn task_of(alloc: Global, asked: Asked) -> Result<Task, AllocError> {
-    let task = match asked {
-        Asked::Build => Task::Build { jobs: 1 },
-        Asked::Step { cycles } => Task::Step { cycles, vcd: false },
-        Asked::Dump { cycles } => Task::Step { cycles, vcd: true },
-        Asked::Run => Task::Run {
+fn task_of(alloc: Global, asked: Asked) -> Result<Task, AllocError>
+    ensures { IfOk result IsInRange }
+{
+    match asked {
+        Asked::Build => Ok(Task::Build { jobs: 1 }),
+        Asked::Step { cycles } => Ok(Task::Step { cycles, vcd: false }),
+        Asked::Dump { cycles } => Ok(Task::Step { cycles, vcd: true }),
+        Asked::Run => Ok(Task::Run {
             entries: ENTRIES,
             journal: false,
-        },
-        Asked::Journal { entries } => Task::Run {
+        }),
+        Asked::Journal { entries } => Ok(Task::Run {
             entries,
             journal: true,
-        },
-        Asked::Replay => Task::Replay,
-        Asked::Walk { steps } => return Ok(Task::Walk(turns_of_main(alloc, steps)?)),
-        Asked::Check => Task::Check,
-        Asked::CheckRun { steps } => Task::CheckRun { steps },
-        Asked::Sim { cycles } => Task::Sim { cycles },
-    };
-    Ok(task)
+        }),
+        Asked::Replay => Ok(Task::Replay),
+        Asked::Walk { steps } => Ok(Task::Walk(turns_of_main(alloc, steps)?)),
+        Asked::Check => Ok(Task::Check),
+        Asked::CheckRun { steps } => Ok(Task::CheckRun { steps }),
+        Asked::Sim { cycles } => Ok(Task::Sim { cycles }),
+        Asked::Gen { cycles } => Ok(Task::Gen {
+            seed: 0,
+            threads: 2,
+            size: 1,
+            cycles,
+        }),
+        Asked::Report => Ok(Task::Report),
+    }
 }
 
 /// What a call on the text answers over such streams, where the workers of a run meet at the gate.

@@ -1,11 +1,11 @@
 // A call of each command.
 
-use crate::call::{Asked, Row, each};
-use crate::programs::{COUNTING, MAIN};
+use crate::call::{Asked, Row, SURE, each, is_right};
+use crate::programs::{COUNTING, MAIN, tripled, tripled_report};
 use crate::sims::CLIMBING;
 use std::test::Fail;
 
-const COMMANDS: [Row; 13] = [
+const COMMANDS: [Row; 15] = [
     (
         MAIN,
         Asked::Build,
@@ -85,6 +85,20 @@ const COMMANDS: [Row; 13] = [
         "",
         "hls: done, 2 cycles\n",
     ),
+    (
+        "",
+        Asked::Gen { cycles: 1_000_000 },
+        0,
+        "4\n7\n11\n",
+        "hls: generated, done, 660 bytes of C, ",
+    ),
+    (
+        "",
+        Asked::Gen { cycles: 0 },
+        9,
+        "",
+        "hls: generated, not done, 660 bytes of C, ",
+    ),
 ];
 
 fn command_rows() -> &'static [Row] {
@@ -94,5 +108,14 @@ fn command_rows() -> &'static [Row] {
 #[test]
 fn answers_each_command(rt: HostRuntime) -> Result<(), Fail> {
     each(&rt, rt.alloc(), command_rows())?;
+    Ok(())
+}
+
+#[test]
+fn reports_what_a_text_is_made_of(rt: HostRuntime) -> Result<(), Fail> {
+    let (alloc, text, report) = (rt.alloc(), tripled().as_bytes(), tripled_report());
+    let line = "hls: reported, 1892 bytes\n";
+    let is_right = is_right(&rt, alloc, text, Asked::Report, &SURE, 0, report, line)?;
+    assert!(rt; is_right);
     Ok(())
 }

@@ -5,6 +5,7 @@ use Rattle.hls_tool.proofs.DeliveryLemmas.{may_be_owed}
 use Rattle.hls_tool.proofs.WalkLemmas.{tells_end}
 use Rattle.hls_tool.proofs.CheckLemmas.{checks}
 use Rattle.hls_tool.proofs.RunLemmas.{checks_run, tells_race, tells_undefined, tells_unknown}
+use Rattle.hls_tool.proofs.GeneratedLemmas.{generates, tells_read_fault}
 use Rattle.hls_tool.proofs.SimLemmas.{simulates, tells_doubt, tells_loop, tells_not_net}
 use Rattle.hls_tool.proofs.StepLemmas.{as_step}
 use Rattle.hls_tool.proofs.call.hls.Goals as goal
@@ -47,6 +48,12 @@ returns-clause-unknown g c = λ steps cause e. tells_unknown _ _ _ _ _ _ (return
 
 pub returns-clause-checks_run : goal.returns-clause-checks_run
 returns-clause-checks_run g c = λ most P asked. checks_run _ _ _ _ _ _ most P (returns-clause-answered g c) asked
+
+pub returns-clause-read_fault : goal.returns-clause-read_fault
+returns-clause-read_fault g c = λ e. tells_read_fault _ _ _ _ _ _ (returns-clause-answered g c) e
+
+pub returns-clause-generates : goal.returns-clause-generates
+returns-clause-generates g c = λ seed threads size most asks. generates _ _ _ _ _ _ seed threads size most (returns-clause-answered g c) asks
 
 pub returns-clause-checks : goal.returns-clause-checks
 returns-clause-checks g c = λ P asked. checks _ _ _ _ _ _ P (returns-clause-answered g c) asked
