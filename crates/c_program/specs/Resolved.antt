@@ -1,9 +1,9 @@
 -- What name resolution gives, and what the meaning and the lowering of a program rest on.
-use Rattle.std.specs.Prelude.{◌≡◌, ◌≢◌, ℕ, ◌<◌, ◌≤◌, Bool, true, false, ◌&&◌, ◌||◌, nat_eq, nat_le, List, [], ◌∷◌, ◌++◌, length, map}
-use Rattle.std.specs.Prelude.{count_by, Option, Some, None, slice_get, IsTrue, Contains, ⊤}
+use Rattle.std.specs.Prelude.{◌≡◌, ◌≢◌, ℕ, ◌<◌, ◌≤◌, ◌+◌, Bool, true, false, ◌&&◌, ◌||◌, nat_eq, nat_le, List, [], ◌∷◌, ◌++◌, length, map}
+use Rattle.std.specs.Prelude.{count_by, is_some, ℤ, pos, Option, Some, None, slice_get, IsTrue, Contains, ⊤}
 use Rattle.std.specs.List.{AllByRecursion, IsDistinct}
 use Rattle.std.specs.Cmp.Lexicographic.{pointwise}
-use Rattle.hls_ints.specs.Types.{IntegerType, HasType, promoted, int_type, long_int}
+use Rattle.hls_ints.specs.Types.{IntegerType, HasType, promoted, int_type, long_int, unsigned_long}
 use Rattle.c_program.specs.declared.tree.Storage.{Storage}
 use Rattle.c_program.specs.declared.tree.Storage.TheVariants.{Automatic, Static}
 use Rattle.c_program.specs.declared.tree.BinaryOperator.{BinaryOperator}
@@ -14,9 +14,10 @@ use Rattle.c_program.specs.declared.tree.ReturnType.TheVariants.{Void, Integer, 
 use Rattle.c_program.specs.declared.tree.ThreadObject.{ThreadObject}
 use Rattle.c_program.specs.declared.tree.MutexObject.{MutexObject}
 use Rattle.c_program.specs.declared.tree.BarrierObject.{BarrierObject}
-use Rattle.c_program.specs.Tree.{Expression, Place, Condition, RightSide, ObjectPlace, ThreadCall, Piece, Statement, Function, GlobalVariable, Program}
+use Rattle.c_program.specs.Tree.{Expression, Place, ObjectPlace, ThreadCall, Piece, Statement, Function, GlobalVariable, Program}
 use Rattle.c_program.specs.Types.{type_of, working_type}
 use Rattle.c_program.specs.Calls.{IsAcyclic}
+use Rattle.c_program.specs.Weight.{statement_weight}
 
 -- a declared object: the type of its elements, and their number
 abbrev pub global_object : Option GlobalVariable → Option LocalVariable
@@ -31,6 +32,18 @@ declared P f Static variable = global_object (slice_get P.globals variable)
 abbrev pub IsObject : Program → Function → Storage → ℕ → ℕ → IntegerType → Type 0
 IsObject P f storage variable length ty = declared P f storage variable ≡ Some (record { ty = ty; length = length })
 
+abbrev pub scalar : IntegerType → LocalVariable
+scalar ty = record { ty = ty; length = 1 }
+
+-- a local that keeps values, each as a long
+pub record IsSlot (f : Function) (slot : ℕ) : Type 0 where
+  pub behind : f.declared_locals ≤ slot
+  pub local : slice_get f.locals slot ≡ Some (scalar long_int)
+
+abbrev pub IsSlotIfAny : Function → Option ℕ → Type 0
+IsSlotIfAny f None = ⊤
+IsSlotIfAny f (Some slot) = IsSlot f slot
+
 -- each variable is declared as it says, each constant is of its type, each operator works in the type that its
 -- operands give
 abbrev pub IsExpression : Program → Function → Expression → Type 0
@@ -38,10 +51,13 @@ IsExpression P f (Expression.Constant ty number) = HasType ty number
 IsExpression P f (Expression.Variable storage variable ty) = IsObject P f storage variable 1 ty
 IsExpression P f (Expression.Element storage variable length ty index) =
     IsObject P f storage variable length ty × IsExpression P f index
+IsExpression P f (Expression.Row outer outer_length inner inner_length) =
+    IsExpression P f outer × IsExpression P f inner × HasType unsigned_long (pos inner_length)
 IsExpression P f (Expression.Unary operator ty operand) = (ty ≡ promoted (type_of operand)) × IsExpression P f operand
 IsExpression P f (Expression.Binary operator ty left right) =
     (ty ≡ working_type operator (type_of left) (type_of right)) × IsExpression P f left × IsExpression P f right
 IsExpression P f (Expression.Cast ty operand) = IsExpression P f operand
+IsExpression P f (Expression.Kept slot ty) = IsSlot f slot
 
 abbrev pub AreExpressions : Program → Function → List Expression → Type 0
 AreExpressions P f list = AllByRecursion (IsExpression P f) list
@@ -54,12 +70,6 @@ IsPlace P f (Place.Element storage variable length ty index) =
 abbrev pub place_type : Place → IntegerType
 place_type (Place.Scalar storage variable ty) = ty
 place_type (Place.Element storage variable length ty index) = ty
-
-abbrev pub IsCondition : Program → Function → Condition → Type 0
-IsCondition P f (Condition.Operand offset operand) = IsExpression P f operand
-IsCondition P f (Condition.Both first second) = IsCondition P f first × IsCondition P f second
-IsCondition P f (Condition.Either first second) = IsCondition P f first × IsCondition P f second
-IsCondition P f (Condition.Opposite inner) = IsCondition P f inner
 
 abbrev pub is_integer : ReturnType → Bool
 is_integer Void = false
@@ -80,24 +90,20 @@ pub record IsCall (P : Program) (f : Function) (callee : ℕ) (arguments : List 
   pub count : length arguments ≡ code.parameters
   pub passed : AreExpressions P f arguments
 
--- a call whose value is used, of a function that returns one
-pub record IsValueCall (P : Program) (f : Function) (callee : ℕ) (arguments : List Expression) : Type 0 where
+-- a call whose value is kept, of a function that returns one, or dropped
+pub record IsKeptCall (P : Program) (f : Function) (into : Option ℕ) (callee : ℕ) (arguments : List Expression) : Type 0 where
   pub call : IsCall P f callee arguments
-  pub gives : is_integer call.code.returns ≡ true
+  pub slot : IsSlotIfAny f into
+  pub gives : is_some into ≡ true → is_integer call.code.returns ≡ true
 
-abbrev pub IsRightSide : Program → Function → RightSide → Type 0
-IsRightSide P f (RightSide.Value expression) = IsExpression P f expression
-IsRightSide P f (RightSide.Call callee arguments) = IsValueCall P f callee arguments
-
--- a void function returns no value, a start routine one that is no call's, every other function a value
-abbrev pub IsReturn : Program → Function → ReturnType → Option RightSide → Type 0
+-- a void function returns no value, every other function a value
+abbrev pub IsReturn : Program → Function → ReturnType → Option Expression → Type 0
 IsReturn P f Void None = ⊤
 IsReturn P f Void (Some right) = ⊥
 IsReturn P f (Integer ty) None = ⊥
-IsReturn P f (Integer ty) (Some right) = IsRightSide P f right
+IsReturn P f (Integer ty) (Some right) = IsExpression P f right
 IsReturn P f Pointer None = ⊥
-IsReturn P f Pointer (Some (RightSide.Value expression)) = IsExpression P f expression
-IsReturn P f Pointer (Some (RightSide.Call callee arguments)) = ⊥
+IsReturn P f Pointer (Some right) = IsExpression P f right
 
 -- a place among objects that have these numbers of elements
 abbrev pub IsObjectPlace : Program → Function → (ℕ → Option ℕ) → ObjectPlace → Type 0
@@ -182,27 +188,88 @@ pub record IsUpdate (P : Program) (f : Function) (place : Place) (operator : Bin
   pub target : IsPlace P f place
   pub operand : IsExpression P f right
 
--- a statement of the function, in a loop or not
-abbrev pub IsStatement : Program → Function → Bool → Statement → Type 0
-IsStatement P f in_loop Statement.Done = ⊤
-IsStatement P f in_loop (Statement.Sequence first rest) = IsStatement P f in_loop first × IsStatement P f in_loop rest
-IsStatement P f in_loop Statement.Empty = ⊤
-IsStatement P f in_loop (Statement.Block body) = IsStatement P f in_loop body
-IsStatement P f in_loop (Statement.Declare offset local operators) = local < length f.locals
-IsStatement P f in_loop (Statement.Assign offset place right) = IsPlace P f place × IsRightSide P f right
-IsStatement P f in_loop (Statement.Update offset place operator ty right) = IsUpdate P f place operator ty right
-IsStatement P f in_loop (Statement.If condition consequent alternative) =
-    IsCondition P f condition × IsStatement P f in_loop consequent × IsStatement P f in_loop alternative
-IsStatement P f in_loop (Statement.While condition body) = IsCondition P f condition × IsStatement P f true body
-IsStatement P f in_loop (Statement.DoWhile body condition) = IsStatement P f true body × IsCondition P f condition
-IsStatement P f in_loop (Statement.For first condition last body) =
-    IsStatement P f false first × IsCondition P f condition × IsStatement P f false last × IsStatement P f true body
-IsStatement P f in_loop Statement.Break = IsTrue in_loop
-IsStatement P f in_loop Statement.Continue = IsTrue in_loop
-IsStatement P f in_loop (Statement.Return offset right) = IsReturn P f f.returns right
-IsStatement P f in_loop (Statement.Call offset callee arguments) = IsCall P f callee arguments
-IsStatement P f in_loop (Statement.Print offset format arguments) = IsPrint P f format arguments
-IsStatement P f in_loop (Statement.Thread offset call) = IsThreadCall P f call
+-- && or ||
+abbrev pub IsJoined : Statement → Type 0
+IsJoined (Statement.Both first second) = ⊤
+IsJoined (Statement.Either first second) = ⊤
+IsJoined statement = ⊥
+
+-- forms that are not lowered yet: no text makes one
+abbrev pub IsBuiltYet : Type 0
+IsBuiltYet = ⊥
+
+-- what stands before the step of an operand, and a condition
+abbrev mutual
+  pub IsCut : Program → Function → Statement → Type 0
+  IsCut P f Statement.Done = ⊤
+  IsCut P f (Statement.Sequence first rest) = IsCut P f first × IsCut P f rest
+  IsCut P f (Statement.Call offset (Some slot) callee arguments) = IsKeptCall P f (Some slot) callee arguments
+  IsCut P f (Statement.Keep offset slot ty operand) = IsSlot f slot × IsExpression P f operand × IsBuiltYet
+  IsCut P f (Statement.Truth slot condition) = IsSlot f slot × IsJoined condition × IsCondition P f condition × IsBuiltYet
+  IsCut P f (Statement.If condition consequent alternative) =
+      IsCondition P f condition × IsCut P f consequent × IsCut P f alternative × IsBuiltYet
+  IsCut P f statement = ⊥
+
+  pub IsCondition : Program → Function → Statement → Type 0
+  IsCondition P f (Statement.Sequence first rest) = IsCut P f first × IsCondition P f rest × IsBuiltYet
+  IsCondition P f (Statement.Test offset operand) = IsExpression P f operand
+  IsCondition P f (Statement.Both first second) = IsCondition P f first × IsCondition P f second
+  IsCondition P f (Statement.Either first second) = IsCondition P f first × IsCondition P f second
+  IsCondition P f (Statement.Opposite inner) = IsCondition P f inner
+  IsCondition P f statement = ⊥
+
+-- what stands round a statement: the type of the switch whose label it may be, and whether break and continue may stand there
+pub record Around : Type 0 where
+  pub labels : Option IntegerType
+  pub leaves : Bool
+  pub turns : Bool
+
+abbrev pub nowhere : Around
+nowhere = record { labels = None; leaves = false; turns = false }
+
+abbrev pub in_loop : Around
+in_loop = record { labels = None; leaves = true; turns = true }
+
+abbrev pub in_switch : IntegerType → Around → Around
+in_switch ty a = record { labels = Some ty; leaves = true; turns = a.turns }
+
+abbrev pub within : Around → Around
+within a = record a { labels = None }
+
+abbrev pub IsLabel : Option IntegerType → Option ℤ → Type 0
+IsLabel None value = ⊥
+IsLabel (Some ty) None = ⊤
+IsLabel (Some ty) (Some value) = HasType ty value
+
+abbrev pub IsStatement : Program → Function → Around → Statement → Type 0
+IsStatement P f a Statement.Done = ⊤
+IsStatement P f a (Statement.Sequence first rest) = IsStatement P f a first × IsStatement P f a rest
+IsStatement P f a Statement.Empty = ⊤
+IsStatement P f a (Statement.Block body) = IsStatement P f (within a) body
+IsStatement P f a (Statement.Declare offset local operators) = local < length f.locals
+IsStatement P f a (Statement.Assign offset place right) = IsPlace P f place × IsExpression P f right
+IsStatement P f a (Statement.Update offset place operator ty right) = IsUpdate P f place operator ty right
+IsStatement P f a (Statement.Call offset into callee arguments) = IsKeptCall P f into callee arguments
+IsStatement P f a (Statement.Keep offset slot ty operand) = IsCut P f (Statement.Keep offset slot ty operand)
+IsStatement P f a (Statement.Truth slot condition) = IsCut P f (Statement.Truth slot condition)
+IsStatement P f a (Statement.Test offset operand) = ⊥
+IsStatement P f a (Statement.Both first second) = ⊥
+IsStatement P f a (Statement.Either first second) = ⊥
+IsStatement P f a (Statement.Opposite inner) = ⊥
+IsStatement P f a (Statement.If condition consequent alternative) =
+    IsCondition P f condition × IsStatement P f (within a) consequent × IsStatement P f (within a) alternative
+IsStatement P f a (Statement.While condition body) = IsCondition P f condition × IsStatement P f in_loop body
+IsStatement P f a (Statement.DoWhile body condition) = IsStatement P f in_loop body × IsCondition P f condition
+IsStatement P f a (Statement.For first condition last body) =
+    IsStatement P f nowhere first × IsCondition P f condition × IsStatement P f nowhere last × IsStatement P f in_loop body
+IsStatement P f a (Statement.Switch offset ty operand body) =
+    (ty ≡ promoted (type_of operand)) × IsExpression P f operand × IsStatement P f (in_switch ty a) body × IsBuiltYet
+IsStatement P f a (Statement.Label value operators) = IsLabel a.labels value × IsBuiltYet
+IsStatement P f a Statement.Break = IsTrue a.leaves
+IsStatement P f a Statement.Continue = IsTrue a.turns
+IsStatement P f a (Statement.Return offset right) = IsReturn P f f.returns right
+IsStatement P f a (Statement.Print offset format arguments) = IsPrint P f format arguments
+IsStatement P f a (Statement.Thread offset call) = IsThreadCall P f call
 
 -- a letter or _, then letters, digits and _ (6.4.2)
 abbrev pub is_letter : ℕ → Bool
@@ -215,15 +282,16 @@ abbrev pub IsName : List ℕ → Type 0
 IsName [] = ⊥
 IsName (first ∷ rest) = IsTrue (is_letter first) × AllByRecursion (λ byte. IsTrue (is_letter_or_digit byte)) rest
 
-abbrev pub scalar : IntegerType → LocalVariable
-scalar ty = record { ty = ty; length = 1 }
-
 pub record IsFunction (P : Program) (f : Function) : Type 0 where
   pub name : IsName f.name
-  pub parameters : f.parameters ≤ length f.locals
+  pub parameters : f.parameters ≤ f.declared_locals
+  pub declared_ : f.declared_locals ≤ length f.locals
+  pub slots : (k : ℕ) (l : LocalVariable) → f.declared_locals ≤ k → slice_get f.locals k ≡ Some l → l ≡ scalar long_int
+  -- there are no more locals that keep values than what there is to keep (a printf has at most 4 values)
+  pub few : length f.locals ≤ f.declared_locals + (statement_weight f.body + 3)
   pub scalars : (k : ℕ) (l : LocalVariable) → k < f.parameters → slice_get f.locals k ≡ Some l → l.length ≡ 1
   pub lengths : AllByRecursion (λ (l : LocalVariable). 0 < l.length) f.locals
-  pub body : IsStatement P f false f.body
+  pub body : IsStatement P f nowhere f.body
 
 pub record IsGlobal (g : GlobalVariable) : Type 0 where
   pub name : IsName g.name
@@ -261,6 +329,7 @@ creates_of (Statement.If condition consequent alternative) = creates_of conseque
 creates_of (Statement.While condition body) = creates_of body
 creates_of (Statement.DoWhile body condition) = creates_of body
 creates_of (Statement.For first condition last body) = creates_of first ++ (creates_of last ++ creates_of body)
+creates_of (Statement.Switch offset ty operand body) = creates_of body
 creates_of (Statement.Thread offset (ThreadCall.Create thread routine argument)) = (object_of thread, routine) ∷ []
 creates_of statement = []
 
