@@ -119,9 +119,10 @@ fn print_count(statement: &Statement) -> u32
     match statement {
         Statement::Print(_, _, _) => 1,
         Statement::Sequence(first, rest) => plus(print_count(first), print_count(rest)),
-        Statement::Block(body) | Statement::While(_, body) | Statement::DoWhile(body, _) => {
-            print_count(body)
-        }
+        Statement::Block(body)
+        | Statement::While(_, body)
+        | Statement::DoWhile(body, _)
+        | Statement::Switch(_, _, _, body) => print_count(body),
         Statement::If(_, consequent, alternative) => {
             plus(print_count(consequent), print_count(alternative))
         }
