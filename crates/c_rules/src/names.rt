@@ -187,6 +187,8 @@ pub struct Scope<'t> {
     pub local_names: LocalNames<'t>,
     /// How many loops of the function the place stands in.
     pub loops: usize,
+    /// The number of the first local of the function behind those that it declares; from there on locals keep values.
+    pub kept_from: u32,
 }
 
 impl<'t> Scope<'t> {
@@ -204,6 +206,7 @@ impl<'t> Scope<'t> {
             locals: Items::new(alloc),
             local_names: LocalNames::new(alloc),
             loops: 0,
+            kept_from: 0,
         }
     }
 
@@ -303,6 +306,7 @@ impl Drop for Scope<'_> {
             locals: _,
             local_names: _,
             loops: _,
+            kept_from: _,
         } = self;
     }
 }
