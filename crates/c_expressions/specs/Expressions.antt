@@ -21,7 +21,7 @@ use Rattle.c_program.specs.declared.tree.UnaryOperator.{UnaryOperator as Resolve
 use Rattle.c_program.specs.declared.tree.UnaryOperator.TheVariants as ru
 use Rattle.c_program.specs.declared.tree.BinaryOperator.{BinaryOperator as ResolvedBinary}
 use Rattle.c_program.specs.declared.tree.BinaryOperator.TheVariants as rb
-use Rattle.c_program.specs.Tree.{Expression, Condition}
+use Rattle.c_program.specs.Tree.{Expression, Statement}
 use Rattle.c_program.specs.Types.{type_of, working_type}
 use Rattle.c_rules.specs.declared.fault.Rule.{Rule}
 use Rattle.c_rules.specs.declared.fault.Rule.TheVariants as rule
@@ -153,13 +153,13 @@ argument_value = Expression.Variable Automatic 0 long_int
 -- an expression: its value, what it is as a condition, and its name, if it is one alone
 pub record Meant : Type 0 where
   pub value : Finds Expression
-  pub condition : Finds Condition
+  pub condition : Finds Statement
   pub name : Option (List ℕ)
 
 -- its form: what it is as a condition depends on the place of its first byte
 pub record Formed : Type 0 where
   pub value : Finds Expression
-  pub condition : ℕ → Finds Condition
+  pub condition : ℕ → Finds Statement
   pub name : Option (List ℕ)
 
 -- a name and its index
@@ -198,12 +198,12 @@ abbrev pub is_not : UnaryOperator → Bool
 is_not u.Not = true
 is_not operator = false
 
-abbrev pub joined : BinaryOperator → Condition → Condition → Condition
-joined b.LogicalOr first second = Condition.Either first second
-joined operator first second = Condition.Both first second
+abbrev pub joined : BinaryOperator → Statement → Statement → Statement
+joined b.LogicalOr first second = Statement.Either first second
+joined operator first second = Statement.Both first second
 
-abbrev pub opposite_of : Condition → Condition
-opposite_of c = Condition.Opposite c
+abbrev pub opposite_of : Statement → Statement
+opposite_of c = Statement.Opposite c
 
 module _ (s : Scope) where
   abbrev pub name_value : Name → Option Expression → Finds Expression
@@ -247,20 +247,20 @@ module _ (s : Scope) where
 
   -- ---- conditions (6.8.4, 6.8.5): operands joined by short circuits and ! from the top
 
-  abbrev pub operand_condition : Finds Expression → ℕ → Finds Condition
+  abbrev pub operand_condition : Finds Expression → ℕ → Finds Statement
   operand_condition value at = do
     x ← value
-    pure (Condition.Operand (place_in_tree at) x)
+    pure (Statement.Test (place_in_tree at) x)
 
-  abbrev pub term_condition : Condition → Operand → Finds Condition
+  abbrev pub term_condition : Statement → Operand → Finds Statement
   term_condition first t = do
     second ← t.operand.condition
     pure (joined t.operator first second)
 
-  unfoldable pub terms_condition : Condition → List Operand → Finds Condition
+  unfoldable pub terms_condition : Statement → List Operand → Finds Statement
   terms_condition first terms = through term_condition first terms
 
-  abbrev pub opposite : Finds Condition → Finds Condition
+  abbrev pub opposite : Finds Statement → Finds Statement
   opposite inner = do
     c ← inner
     pure (opposite_of c)
@@ -282,7 +282,7 @@ module _ (s : Scope) where
     y ← x.value
     pure (unary operator y)
 
-  abbrev pub unary_condition : UnaryOperator → Meant → ℕ → Finds Condition
+  abbrev pub unary_condition : UnaryOperator → Meant → ℕ → Finds Statement
   unary_condition operator x at =
       if is_not operator then opposite x.condition else operand_condition (unary_value operator x) at
 
@@ -297,7 +297,7 @@ module _ (s : Scope) where
     x ← first.value
     terms_value x terms
 
-  abbrev pub binary_condition : Meant → List Operand → ℕ → Finds Condition
+  abbrev pub binary_condition : Meant → List Operand → ℕ → Finds Statement
   binary_condition first terms at =
       if are_short_circuits terms then first.condition >>= (λ c. terms_condition c terms)
       else operand_condition (binary_value first terms) at
@@ -378,11 +378,11 @@ module _ (s : Scope) where
   abbrev pub value : ExpressionTree → Finds Expression
   value e = (meant e).value
 
-  abbrev pub condition : ExpressionTree → Finds Condition
+  abbrev pub condition : ExpressionTree → Finds Statement
   condition e = (meant e).condition
 
   -- an operand with its offset
-  abbrev pub operand : ExpressionTree → Finds Condition
+  abbrev pub operand : ExpressionTree → Finds Statement
   operand e = operand_condition (value e) (out-Expression e).offset
 
   abbrev pub index : PlaceTree → Finds (Option Expression)

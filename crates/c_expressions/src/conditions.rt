@@ -2,7 +2,7 @@
 
 ghost use Rattle.std.specs.Prelude.{◌≡◌, map, IfOk};
 ghost use Rattle.std.specs.List.{list_all};
-ghost use Rattle.c_program.specs.Plain.{condition_of};
+ghost use Rattle.c_program.specs.Plain.{boxed_statement_of};
 ghost use Rattle.c_tree.specs.declared.expression.Term.{out-Term};
 ghost use Rattle.c_rules.specs.Walks.{Walks};
 ghost use Rattle.c_expressions.specs.Expressions as spec;
@@ -33,16 +33,14 @@ fn are_short_circuits(terms: &[Term]) -> bool
 fn joined(
     alloc: Global,
     operator: BinaryOperator,
-    first: resolved::Condition,
-    second: resolved::Condition,
-) -> Result<resolved::Condition, AllocError>
-    ensures { IfOk result (λ c. condition_of c ≡ spec.joined operator (condition_of first) (condition_of second)) }
+    first: Box<resolved::Statement>,
+    second: Box<resolved::Statement>,
+) -> Result<Box<resolved::Statement>, AllocError>
+    ensures { IfOk result (λ c. boxed_statement_of c ≡ spec.joined operator (boxed_statement_of first) (boxed_statement_of second)) }
 {
-    let first = Box::new(alloc, first)?;
-    let second = Box::new(alloc, second)?;
     match operator {
-        BinaryOperator::LogicalOr => Ok(resolved::Condition::Either(first, second)),
-        _ => Ok(resolved::Condition::Both(first, second)),
+        BinaryOperator::LogicalOr => resolved::Statement::Either(first, second).boxed(alloc),
+        _ => resolved::Statement::Both(first, second).boxed(alloc),
     }
 }
 
@@ -54,9 +52,9 @@ fn terms(
     scope: &Scope<'_>,
     found: &mut Findings,
     terms: &[Term],
-    first: resolved::Condition,
-) -> Result<resolved::Condition, AllocError>
-    ensures { Walks condition_of (spec.terms_condition scope.now (condition_of first) (map (spec.term scope.now) terms.now) found.old) result found.new }
+    first: Box<resolved::Statement>,
+) -> Result<Box<resolved::Statement>, AllocError>
+    ensures { Walks boxed_statement_of (spec.terms_condition scope.now (boxed_statement_of first) (map (spec.term scope.now) terms.now) found.old) result found.new }
 {
     let mut whole = first;
     for term in terms {
@@ -71,11 +69,11 @@ fn operand(
     scope: &Scope<'_>,
     found: &mut Findings,
     e: &Expression,
-) -> Result<resolved::Condition, AllocError>
-    ensures { Walks condition_of (spec.operand scope.now e.now found.old) result found.new }
+) -> Result<Box<resolved::Statement>, AllocError>
+    ensures { Walks boxed_statement_of (spec.operand scope.now e.now found.old) result found.new }
 {
     let value = Box::new(alloc, expression(alloc, scope, found, e)?)?;
-    Ok(resolved::Condition::Operand(place(e.offset), value))
+    resolved::Statement::Test(place(e.offset), value).boxed(alloc)
 }
 
 /// What an expression is as a condition.
@@ -85,8 +83,8 @@ pub fn condition(
     scope: &Scope<'_>,
     found: &mut Findings,
     e: &Expression,
-) -> Result<resolved::Condition, AllocError>
-    ensures { Walks condition_of (spec.condition scope.now e.now found.old) result found.new }
+) -> Result<Box<resolved::Statement>, AllocError>
+    ensures { Walks boxed_statement_of (spec.condition scope.now e.now found.old) result found.new }
 {
     match &e.form {
         Form::Unary(operator, inner) => {
@@ -94,7 +92,7 @@ pub fn condition(
                 return operand(alloc, scope, found, e);
             }
             let inner = condition(alloc, scope, found, inner.get())?;
-            Ok(resolved::Condition::Opposite(Box::new(alloc, inner)?))
+            resolved::Statement::Opposite(inner).boxed(alloc)
         }
         Form::Binary(first, more) => {
             if !are_short_circuits(more.as_slice()) {
