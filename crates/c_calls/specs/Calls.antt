@@ -1,11 +1,12 @@
--- Calls of functions of the text, of printf and of POSIX threads, as statements and as right sides (C99 6.5.2.2).
-use Rattle.std.specs.Prelude.{ℕ, Bool, true, false, ◌&&◌, not, nat_eq, nat_le, List, [], ◌∷◌, length, count_by, Option, Some, None}
+-- Calls of functions of the text, of printf and of POSIX threads, as statements and as values (C99 6.5.2.2).
+use Rattle.std.specs.Prelude.{ℕ, Bool, true, false, ◌&&◌, not, nat_eq, nat_le, List, [], ◌∷◌, length, count_by, slice_get, Option, Some, None}
+use Rattle.hls_ints.specs.Types.{IntegerType, int_type}
 use Rattle.c_tree.specs.declared.expression.Form.{out-Form}
 use Rattle.c_tree.specs.declared.expression.Expression.{Expression as ExpressionTree, out-Expression}
 use Rattle.c_tree.specs.declared.expression.Call.{Call as CallTree, out-Call}
 use Rattle.c_tree.specs.declared.expression.Argument.{Argument as ArgumentTree, out-Argument}
 use Rattle.c_tree.specs.declared.expression.Argument.TheOpen.{Argument-F, Form-F}
-use Rattle.c_program.specs.Tree.{Expression, ObjectPlace, ThreadCall, RightSide, Piece, Statement}
+use Rattle.c_program.specs.Tree.{Expression, ObjectPlace, ThreadCall, Piece, Statement}
 use Rattle.c_program.specs.Resolved.{is_conversion, object_of}
 use Rattle.c_rules.specs.declared.fault.Rule.TheVariants as rule
 use Rattle.c_rules.specs.declared.library.LibraryFunction.{LibraryFunction}
@@ -15,12 +16,17 @@ use Rattle.c_rules.specs.declared.names.ObjectKind.TheVariants.{Thread, Mutex, B
 use Rattle.c_rules.specs.declared.names.Meaning.TheVariants as meaning
 use Rattle.c_rules.specs.declared.names.Known.{Known}
 use Rattle.c_rules.specs.declared.names.Known.TheVariants as known
+use Rattle.c_rules.specs.declared.names.Header.{Header}
 use Rattle.c_rules.specs.declared.names.Scope.{Scope}
+use Rattle.c_rules.specs.declared.specifiers.BaseType.{BaseType}
+use Rattle.c_rules.specs.declared.specifiers.BaseType.TheVariants as base
 use Rattle.c_rules.specs.Formats.{pieces_in}
 use Rattle.c_rules.specs.Names.{look_up}
+use Rattle.c_rules.specs.Specifiers.{c_type}
 use Rattle.c_rules.specs.Walks.{Finds, pure, finds, finds_if, creates, ◌>>=◌, ◌>>◌}
 use Rattle.c_expressions.specs.Callees.{function_name, library_name}
 use Rattle.c_expressions.specs.Expressions.{value, argument, arguments}
+use Rattle.c_calls.specs.Cuts.{Cut, uncut, kept_call}
 use Rattle.c_calls.specs.Arguments.{FormLayer, ArgumentLayer, argument_offset, null, is_unknown, is_usable}
 use Rattle.c_calls.specs.Arguments.{value_argument, value_arguments, null_argument, pointer_argument, address_argument, thread_argument, routine_argument}
 
@@ -105,11 +111,20 @@ created at thread x (Some r) = do
 
 abbrev pub called : ℕ → Option ℕ → List Expression → Statement
 called at None values = Statement.Empty
-called at (Some function) values = Statement.Call at function values
+called at (Some function) values = Statement.Call at None function values
 
-abbrev pub right_called : Option ℕ → List Expression → RightSide
-right_called None values = RightSide.Value null
-right_called (Some function) values = RightSide.Call function values
+-- the type of the value of a function
+abbrev pub integer_in : BaseType → IntegerType
+integer_in (base.Integer ty) = c_type ty
+integer_in other = int_type
+
+abbrev pub value_type : Option Header → IntegerType
+value_type None = int_type
+value_type (Some h) = integer_in h.returns.base
+
+abbrev pub called_value : ℕ → ℕ → IntegerType → Option ℕ → List Expression → Cut
+called_value at slot ty None values = uncut null
+called_value at slot ty (Some function) values = kept_call at slot function values ty
 
 -- the number of the header of the function that a name stands for
 abbrev pub number_of : Known → Option ℕ
@@ -155,7 +170,7 @@ module _ (s : Scope) where
   unfoldable pub exit : ℕ → ArgumentTree → Finds Statement
   exit at x = do
     v ← pointer_argument s x
-    pure (Statement.Return at (Some (RightSide.Value v)))
+    pure (Statement.Return at (Some v))
 
   abbrev pub exit_of : ℕ → List ArgumentTree → Option ArgumentTree → Finds Statement
   exit_of at list (Some x) = exit at x
@@ -267,7 +282,7 @@ module _ (s : Scope) where
   unfoldable pub call : ℕ → CallTree → Finds Statement
   call at c = call_of (look_up s (out-Call c).name.bytes) at (out-Call c).name.offset (out-Call c).arguments
 
-  -- ---- right sides
+  -- ---- values that may be calls
 
   -- a function of the text by the number of its header, and its call
   abbrev pub with_call : CallTree → Option ℕ → Option (ℕ × CallTree)
@@ -281,20 +296,21 @@ module _ (s : Scope) where
   abbrev pub function_called : ExpressionTree → Option (ℕ × CallTree)
   function_called e = call_in (out-Form (out-Expression e).form)
 
-  unfoldable pub right_call : ℕ → CallTree → Finds RightSide
-  right_call number c = do
+  unfoldable pub right_call : ℕ → ℕ → ℕ → CallTree → Finds Cut
+  right_call at slot number c = do
     r ← function_call number true (out-Call c).name.offset (out-Call c).arguments
-    pure (right_called r.0 r.1)
+    pure (called_value at slot (value_type (slice_get s.headers number)) r.0 r.1)
 
-  unfoldable pub right_value : ExpressionTree → Finds RightSide
+  unfoldable pub right_value : ExpressionTree → Finds Cut
   right_value e = do
     x ← value s e
-    pure (RightSide.Value x)
+    pure (uncut x)
 
-  abbrev pub right_from : ExpressionTree → Option (ℕ × CallTree) → Finds RightSide
-  right_from e (Some q) = right_call q.0 q.1
-  right_from e None = right_value e
+  abbrev pub right_from : ℕ → ℕ → ExpressionTree → Option (ℕ × CallTree) → Finds Cut
+  right_from at slot e (Some q) = right_call at slot q.0 q.1
+  right_from at slot e None = right_value e
 
-  -- the whole of a right side may be the call of a function of the text
-  unfoldable pub right_side : ExpressionTree → Finds RightSide
-  right_side e = right_from e (function_called e)
+  -- the value of a right side, of an initialiser or of a return, the whole of which may be the call of a function of the text: it
+  -- is entered at the place of the step to which it belongs, and the local keeps what it returns
+  unfoldable pub right_side : ℕ → ℕ → ExpressionTree → Finds Cut
+  right_side at slot e = right_from at slot e (function_called e)

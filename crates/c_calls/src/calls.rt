@@ -1,10 +1,12 @@
-// Calls of functions of the text, of printf and of POSIX threads, as statements and as right sides (C99 6.5.2.2).
+// Calls of functions of the text, of printf and of POSIX threads, as statements and as values (C99 6.5.2.2).
 
-ghost use Rattle.std.specs.Prelude.{◌≡◌, option_map, IfOk};
-ghost use Rattle.c_program.specs.Plain.{expressions_of, object_place_of, pieces_of, boxed_statement_of, thread_call_of, right_side_of};
+ghost use Rattle.std.specs.Prelude.{◌≡◌, option_map, slice_get, IfOk};
+ghost use Rattle.c_program.specs.Plain.{expression_of, expressions_of, object_place_of, pieces_of, boxed_statement_of, thread_call_of};
 ghost use Rattle.c_program.specs.Tree.{Statement};
 ghost use Rattle.c_program.specs.Resolved.{object_of};
 ghost use Rattle.c_rules.specs.Walks.{Walks};
+ghost use Rattle.c_calls.specs.Cuts.{cut_of};
+ghost use Rattle.c_calls.specs.Cuts as cuts;
 ghost use Rattle.c_calls.specs.Calls as spec;
 
 use crate::arguments::{
@@ -21,7 +23,9 @@ use c_rules::findings::Findings;
 use c_rules::format::{conversions, pieces};
 use c_rules::library::LibraryFunction;
 use c_rules::names::{Known, Meaning, ObjectKind, Scope};
+use c_rules::specifiers::BaseType;
 use c_tree::{Argument, Call, Expression, Form};
+use hls_ints::CType;
 use std::alloc::{AllocError, Global};
 
 /// The kind of object that a call with one object has.
@@ -166,8 +170,7 @@ fn exit_call(
         return looked_call(alloc, scope, found, arguments);
     };
     let value = Box::new(alloc, pointer_argument(alloc, scope, found, value)?)?;
-    let right = resolved::RightSide::Value(value);
-    resolved::Statement::Return(at, Some(right)).boxed(alloc)
+    resolved::Statement::Return(at, Some(value)).boxed(alloc)
 }
 
 /// `pthread_mutex_init`
@@ -327,7 +330,9 @@ pub fn call(
                 alloc, scope, found, number, false, offset, arguments,
             )?;
             match definition {
-                Some(function) => resolved::Statement::Call(at, function, values).boxed(alloc),
+                Some(function) => {
+                    resolved::Statement::Call(at, None, function, values).boxed(alloc)
+                }
                 None => resolved::Statement::Empty.boxed(alloc),
             }
         }
@@ -352,35 +357,98 @@ fn function_called<'e>(scope: &Scope<'_>, e: &'e Expression) -> Option<(usize, &
     }
 }
 
-/// A value that may be the value of a call: the right side of an assignment, an initialiser or the operand of a return.
-#[tactic(auto, unfolding(crate::specs::Calls::right_side, crate::specs::Calls::right_value, crate::specs::Calls::right_call))]
+/// A value with its cuts.
+#[derive(Drop)]
+pub struct Cut {
+    /// What is evaluated before the value, in order; a local keeps the value of each.
+    pub before: Vec<Box<resolved::Statement>>,
+    /// What is left of the value.
+    pub rest: Box<resolved::Expression>,
+}
+
+/// A value without cuts.
+fn uncut(alloc: Global, value: resolved::Expression) -> Result<Cut, AllocError>
+    ensures { IfOk result (λ c. cut_of c ≡ cuts.uncut (expression_of value)) }
+{
+    let rest = Box::new(alloc, value)?;
+    Ok(Cut {
+        before: Vec::new(alloc),
+        rest,
+    })
+}
+
+/// The value of a call at the place, which the local keeps.
+fn kept_call(
+    alloc: Global,
+    at: u32,
+    slot: u32,
+    function: u32,
+    values: Vec<resolved::Expression>,
+    ty: CType,
+) -> Result<Cut, AllocError>
+    ensures { IfOk result (λ c. cut_of c ≡ cuts.kept_call at slot function (expressions_of values.items) ty) }
+{
+    let call = resolved::Statement::Call(at, Some(slot), function, values).boxed(alloc)?;
+    let mut before = Vec::new(alloc);
+    before.push(call)?;
+    let rest = Box::new(alloc, resolved::Expression::Kept(slot, ty))?;
+    Ok(Cut { before, rest })
+}
+
+/// The type of the value of the function whose header has the number.
+fn value_type(scope: &Scope<'_>, number: usize) -> CType
+    ensures { result ≡ spec.value_type (slice_get scope.now.headers number) }
+{
+    match scope.headers.get(number) {
+        Some(header) => match header.returns.base {
+            BaseType::Integer(ty) => ty.c_type(),
+            _ => CType::INT,
+        },
+        None => CType::INT,
+    }
+}
+
+/// The value of a call of a function of the text, by the number of its header: the function is entered at the place, and the
+/// local keeps what it returns.
+#[tactic(auto, unfolding(crate::specs::Calls::right_call))]
+fn right_call(
+    alloc: Global,
+    scope: &Scope<'_>,
+    found: &mut Findings,
+    at: u32,
+    slot: u32,
+    number: usize,
+    call: &Call,
+) -> Result<Cut, AllocError>
+    ensures { Walks cut_of (spec.right_call scope.now at slot number call.now found.old) result found.new }
+{
+    let offset = call.name.offset;
+    let arguments = call.arguments.as_slice();
+    let (definition, values) = function_call(alloc, scope, found, number, true, offset, arguments)?;
+    match definition {
+        Some(function) => kept_call(alloc, at, slot, function, values, value_type(scope, number)),
+        None => uncut(alloc, null()),
+    }
+}
+
+/// A value that may be the value of a call: the right side of an assignment, an initialiser or the operand of a return. The
+/// call is entered at the place of the step to which the value belongs, and the local keeps what it returns.
+#[tactic(auto, unfolding(crate::specs::Calls::right_side, crate::specs::Calls::right_value))]
 pub fn right_side(
     alloc: Global,
     scope: &Scope<'_>,
     found: &mut Findings,
+    at: u32,
+    slot: u32,
     e: &Expression,
-) -> Result<resolved::RightSide, AllocError>
-    ensures { Walks right_side_of (spec.right_side scope.now e.now found.old) result found.new }
+) -> Result<Cut, AllocError>
+    ensures { Walks cut_of (spec.right_side scope.now at slot e.now found.old) result found.new }
 {
     match function_called(scope, e) {
-        Some((number, call)) => {
-            let (definition, values) = function_call(
-                alloc,
-                scope,
-                found,
-                number,
-                true,
-                call.name.offset,
-                call.arguments.as_slice(),
-            )?;
-            match definition {
-                Some(function) => Ok(resolved::RightSide::Call(function, values)),
-                None => Ok(resolved::RightSide::Value(Box::new(alloc, null())?)),
-            }
-        }
+        Some((number, call)) => right_call(alloc, scope, found, at, slot, number, call),
         None => {
-            let value = Box::new(alloc, expression(alloc, scope, found, e)?)?;
-            Ok(resolved::RightSide::Value(value))
+            let value = expression(alloc, scope, found, e)?;
+            uncut(alloc, value)
         }
     }
 }
