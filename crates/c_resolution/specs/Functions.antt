@@ -1,5 +1,5 @@
 -- Functions: definitions and prototypes (C99 6.9.1, 6.7.5.3).
-use Rattle.std.specs.Prelude.{ℕ, Bool, true, false, ◌&&◌, ◌||◌, not, nat_eq, is_some, is_none, if◌then◌else◌}
+use Rattle.std.specs.Prelude.{ℕ, Bool, true, false, ◌&&◌, ◌||◌, not, nat_eq, is_some, is_none, max, if◌then◌else◌}
 use Rattle.std.specs.Prelude.{List, [], ◌∷◌, ◌++◌, length, map, slice_get, Option, Some, None, codes}
 use Rattle.std.specs.List.{list_all, zip}
 use Rattle.std.specs.Str.{bytes_eq}
@@ -26,12 +26,15 @@ use Rattle.c_rules.specs.declared.names.Gives.TheVariants as gives
 use Rattle.c_rules.specs.declared.names.Meaning.{Meaning}
 use Rattle.c_rules.specs.declared.names.Meaning.TheVariants as meaning
 use Rattle.c_rules.specs.declared.names.Scope.{Scope}
+use Rattle.c_rules.specs.Constants.{plus}
 use Rattle.c_rules.specs.Levels.{named_in, inserted}
 use Rattle.c_rules.specs.Library.{function_named}
 use Rattle.c_rules.specs.Names.{is_int, is_start_routine, opened, closed}
 use Rattle.c_rules.specs.Specifiers.{c_type, is_void, plain, spelled_by}
 use Rattle.c_rules.specs.Walks.{Finds, pure, finds, finds_if, visited, place_in_tree, ◌>>=◌, ◌>>◌}
 use Rattle.c_resolution.specs.States.{Goes, finding, scoping}
+use Rattle.c_resolution.specs.Declarators.{block_declarators}
+use Rattle.c_resolution.specs.Slots.{slots_end, with_slots}
 use Rattle.c_resolution.specs.Locals.{new_local, refused_local, declare}
 use Rattle.c_resolution.specs.Statements.{items}
 use Rattle.c_resolution.specs.Globals.{text}
@@ -189,9 +192,13 @@ same_number (Some m) n = nat_eq m n
 abbrev pub is_second : FunctionTree → Header → ℕ → Bool
 is_second f h count = is_some f.body && not (same_number h.definition (place_in_tree count))
 
--- the body is that of the function of that number
-abbrev pub entered : ℕ → Scope → Scope
-entered number s = record s { function = Some number; loops = 0 }
+-- the number of the first local behind the parameters, of which there are so many, and the declarators of the body
+abbrev pub kept_from : ℕ → Block → ℕ
+kept_from count body = plus (place_in_tree count) (block_declarators body)
+
+-- the body is that of the function of that number, and locals from there on keep values
+abbrev pub entered : ℕ → ℕ → Scope → Scope
+entered number from s = record s { function = Some number; loops = 0; kept_from = from }
 
 abbrev pub left : Scope → Scope
 left s = record s { function = None }
@@ -202,13 +209,14 @@ with_gives g s = record s { gives = g }
 abbrev pub without_locals : Scope → Scope
 without_locals s = record s { locals = []; local_names = [] }
 
--- the definition, whose parameters are the first of its locals
+-- the definition, whose parameters are the first of its locals, and whose last locals keep the values of its body
 abbrev pub defined : FunctionTree → ReturnType → Block → ℕ → Statement → List LocalVariable → List (List ℕ) → Function
 defined f returns body count b locals names = record {
   name = text f.name.bytes;
   returns = returns;
   parameters = place_in_tree count;
-  locals = locals;
+  declared_locals = kept_from count body;
+  locals = with_slots (max (kept_from count body) (slots_end b)) locals;
   local_names = map text names;
   body = b;
   end = place_in_tree (out-Block body).close;
@@ -219,7 +227,7 @@ finished f returns body count b x = tabling (with_function (defined f returns bo
 
 unfoldable pub definition : FunctionTree → ReturnType → Block → Declares (Unit {0})
 definition f returns body x = (do
-  going (scoping (entered (place_in_tree (length x.tables.functions))))
+  going (scoping (entered (place_in_tree (length x.tables.functions)) (kept_from (length x.scope.locals) body)))
   b ← going (items body)
   going (scoping left)
   finished f returns body (length x.scope.locals) b) x

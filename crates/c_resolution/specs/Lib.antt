@@ -1,12 +1,15 @@
 pub mod Answers
 pub mod CallRules
+pub mod Declarators
 pub mod Files
 pub mod Functions
 pub mod Globals
 pub mod Locals
 pub mod Resolving
 pub mod Routines
+pub mod Sequences
 pub mod Simple
+pub mod Slots
 pub mod States
 pub mod Statements
 pub mod Texts

@@ -6,7 +6,7 @@ use Rattle.c_tree.specs.declared.declaration.Declaration.{Declaration}
 use Rattle.c_tree.specs.declared.declaration.Declarator.{Declarator}
 use Rattle.c_program.specs.declared.tree.Storage.TheVariants.{Automatic}
 use Rattle.c_program.specs.declared.tree.LocalVariable.{LocalVariable}
-use Rattle.c_program.specs.Tree.{Place, RightSide, Statement}
+use Rattle.c_program.specs.Tree.{Place, Statement}
 use Rattle.c_rules.specs.declared.fault.Rule.TheVariants as rule
 use Rattle.c_rules.specs.declared.specifiers.BasicType.{BasicType}
 use Rattle.c_rules.specs.declared.specifiers.BaseType.{BaseType}
@@ -23,7 +23,9 @@ use Rattle.c_rules.specs.Names.{is_taken, declaring}
 use Rattle.c_rules.specs.Specifiers.{c_type, plain, spelled_by}
 use Rattle.c_rules.specs.Walks.{Finds, pure, finds, finds_if, through, place_in_tree, ◌>>=◌, ◌>>◌}
 use Rattle.c_calls.specs.Expressions.{value}
+use Rattle.c_calls.specs.Cuts.{Cut}
 use Rattle.c_calls.specs.Calls.{right_side}
+use Rattle.c_resolution.specs.Sequences.{behind_cuts}
 use Rattle.c_resolution.specs.States.{Goes, finding, scoping}
 
 -- ---- lengths of arrays (6.7.5.2): constant expressions of at least 1
@@ -124,9 +126,9 @@ abbrev pub scalar_in : Meaning → Option Variable
 scalar_in (meaning.Variable v) = scalar_by v.length v
 scalar_in other = None
 
-unfoldable pub initialised_by : Option Variable → ℕ → RightSide → Finds Statement
+unfoldable pub initialised_by : Option Variable → ℕ → Cut → Finds Statement
 initialised_by (Some v) at right =
-    pure (Statement.Assign (place_in_tree at) (Place.Scalar v.storage v.number (c_type v.ty)) right)
+    pure (behind_cuts right.before (Statement.Assign (place_in_tree at) (Place.Scalar v.storage v.number (c_type v.ty)) right.rest))
 initialised_by None at right = do
   finds rule.Kind at
   pure Statement.Empty
@@ -134,7 +136,7 @@ initialised_by None at right = do
 -- with one: only a scalar may have it
 unfoldable pub initialised : Name → Meaning → ExpressionTree → Scope → Finds Statement
 initialised name m e s = do
-  right ← right_side s e
+  right ← right_side s (place_in_tree name.offset) s.kept_from e
   initialised_by (scalar_in m) name.offset right
 
 abbrev pub declared_step : Declarator → Meaning → Option ExpressionTree → Scope → Finds Statement

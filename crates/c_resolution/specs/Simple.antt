@@ -1,5 +1,5 @@
 -- Statements without statements in them (C99 6.8.3, 6.8.6, 6.5.16).
-use Rattle.std.specs.Prelude.{ℕ, nat_eq, Bool, true, false, not, if◌then◌else◌, Option, Some, None, pos}
+use Rattle.std.specs.Prelude.{ℕ, nat_eq, Bool, true, false, not, if◌then◌else◌, List, [], Option, Some, None, pos}
 use Rattle.hls_ints.specs.Types.{int_type}
 use Rattle.c_token.specs.declared.constant.Constant.{Constant}
 use Rattle.c_token.specs.declared.constant.Constant.TheVariants as constant
@@ -19,7 +19,7 @@ use Rattle.c_tree.specs.declared.statement.Returned.{Returned}
 use Rattle.c_tree.specs.declared.statement.Returned.TheVariants as returned_as
 use Rattle.c_program.specs.declared.tree.BinaryOperator.{BinaryOperator as ResolvedBinary}
 use Rattle.c_program.specs.declared.tree.BinaryOperator.TheVariants.{Add, Subtract}
-use Rattle.c_program.specs.Tree.{Expression, Place, RightSide, Statement}
+use Rattle.c_program.specs.Tree.{Expression, Place, Statement}
 use Rattle.c_program.specs.Types.{type_of, working_type}
 use Rattle.c_program.specs.Resolved.{is_comparison, place_type}
 use Rattle.c_rules.specs.declared.fault.Rule.TheVariants as rule
@@ -31,6 +31,7 @@ use Rattle.c_calls.specs.Expressions.{binary_operator, value}
 use Rattle.c_calls.specs.Arguments.{FormLayer, pointer_value}
 use Rattle.c_calls.specs.Calls.{call, right_side}
 use Rattle.c_calls.specs.Targets.{target}
+use Rattle.c_resolution.specs.Sequences.{behind_cuts}
 
 -- ---- assignments
 
@@ -87,8 +88,8 @@ module _ (s : Scope) where
   unfoldable pub assigned : ℕ → PlaceTree → ExpressionTree → Finds Statement
   assigned at place e = do
     p ← target s place
-    right ← right_side s e
-    pure (Statement.Assign (place_in_tree at) p right)
+    right ← right_side s (place_in_tree at) s.kept_from e
+    pure (behind_cuts right.before (Statement.Assign (place_in_tree at) p right.rest))
 
   unfoldable pub compound : ℕ → PlaceTree → BinaryOperator → ExpressionTree → Finds Statement
   compound at place operator e = do
@@ -115,20 +116,24 @@ module _ (s : Scope) where
 
   -- ---- what a return gives back
 
-  abbrev pub right_of : Returned → Finds (Option RightSide)
-  right_of returned_as.Nothing = pure None
-  right_of (returned_as.Value e) = do
-    right ← right_side s e
-    pure (Some right)
-  right_of (returned_as.Pointer p) = do
+  -- the cuts of what is given back, and what is left of it
+  abbrev pub Given : Type 0
+  Given = List Statement × Option Expression
+
+  abbrev pub given_back : ℕ → Returned → Finds Given
+  given_back at returned_as.Nothing = pure ([], None)
+  given_back at (returned_as.Value e) = do
+    right ← right_side s at s.kept_from e
+    pure (right.before, Some right.rest)
+  given_back at (returned_as.Pointer p) = do
     x ← pointer_value s p
-    pure (Some (RightSide.Value x))
+    pure ([], Some x)
 
   unfoldable pub returned : Returned → ℕ → Finds Statement
   returned x at = do
     finds_if (not (may_return s.gives x)) rule.Kind at
-    right ← right_of x
-    pure (Statement.Return (place_in_tree at) right)
+    given ← given_back (place_in_tree at) x
+    pure (behind_cuts given.0 (Statement.Return (place_in_tree at) given.1))
 
   -- a break or a continue outside of a loop
   unfoldable pub check_jump : ℕ → Finds (Unit {0})

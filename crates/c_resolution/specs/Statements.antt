@@ -1,5 +1,5 @@
 -- Statements and blocks (C99 6.8).
-use Rattle.std.specs.Prelude.{ℕ, zero, suc, nat_le, Bool, if◌then◌else◌, ◌+◌, ◌-◌, List, [], ◌∷◌, ◌++◌, length, fold, Option, Some, None, min, pos}
+use Rattle.std.specs.Prelude.{ℕ, ◌+◌, ◌-◌, List, [], ◌∷◌, ◌++◌, Option, Some, None, min, pos}
 use Rattle.hls_ints.specs.Types.{int_type}
 use Rattle.c_tree.specs.declared.expression.Expression.{Expression as ExpressionTree}
 use Rattle.c_tree.specs.declared.declaration.Declaration.{Declaration}
@@ -11,80 +11,33 @@ use Rattle.c_tree.specs.declared.statement.BlockItem.{BlockItem}
 use Rattle.c_tree.specs.declared.statement.BlockItem.TheOpen.{Block-F, BlockItem-F, Statement-F}
 use Rattle.c_tree.specs.declared.statement.BlockItem.TheFolds.{fold-Block, fold-BlockItem, fold-Statement}
 use Rattle.c_tree.specs.declared.statement.Statement.{Statement as StatementTree}
-use Rattle.c_program.specs.Tree.{Expression, Condition, Statement}
+use Rattle.c_program.specs.Tree.{Expression, Statement}
 use Rattle.c_rules.specs.declared.names.Scope.{Scope}
 use Rattle.c_rules.specs.Names.{opened, closed}
 use Rattle.c_rules.specs.Walks.{Finds, pure, through, ◌>>=◌, ◌>>◌}
 use Rattle.c_calls.specs.Expressions.{condition}
+use Rattle.c_resolution.specs.Sequences.{sequence}
 use Rattle.c_resolution.specs.Simple.{simple, returned, check_jump}
 use Rattle.c_resolution.specs.Locals.{declaration}
 use Rattle.c_resolution.specs.States.{Goes, finding, scoping}
-
--- ---- statements one after another
-
-abbrev pub neighbours : Statement → Statement → Statement
-neighbours first next = Statement.Sequence first next
-
--- some statements with one that waits for its neighbour
-abbrev pub Joined : Type 0
-Joined = List Statement × Option Statement
-
-abbrev pub joined_to : List Statement → Option Statement → Statement → Joined
-joined_to done None next = (done, Some next)
-joined_to done (Some first) next = (done ++ neighbours first next ∷ [], None)
-
-abbrev pub with_next : Joined → Statement → Joined
-with_next j next = joined_to j.0 j.1 next
-
-abbrev pub with_last : List Statement → Option Statement → List Statement
-with_last done None = done
-with_last done (Some last) = done ++ last ∷ []
-
-abbrev pub all_joined : Joined → List Statement
-all_joined j = with_last j.0 j.1
-
--- each two neighbours joined
-abbrev pub paired : List Statement → List Statement
-paired list = all_joined (fold with_next ([], None) list)
-
--- the statement of a list of one, and none of an empty list
-abbrev pub only : List Statement → Statement
-only [] = Statement.Done
-only (first ∷ []) = first
-only (first ∷ next ∷ more) = only (next ∷ more)
-
-abbrev pub is_short : List Statement → Bool
-is_short list = nat_le (length list) 1
-
-abbrev pub halved : List Statement → List Statement
-halved list = if is_short list then list else paired list
-
-abbrev pub rounds : ℕ → List Statement → List Statement
-rounds zero list = list
-rounds (suc n) list = halved (rounds n list)
-
--- Neighbours are joined, and those joined, until one statement is left: so a program is not much deeper than its text
--- is nested, however many statements stand side by side. As many rounds as there are statements suffice.
-unfoldable pub sequence : List Statement → Statement
-sequence list = only (rounds (length list) list)
 
 -- ---- statements by their parts
 
 abbrev pub block_of : Statement → Statement
 block_of body = Statement.Block body
 
-abbrev pub if_of : Condition → Statement → Statement → Statement
+abbrev pub if_of : Statement → Statement → Statement → Statement
 if_of c a b = Statement.If c a b
 
-abbrev pub while_of : Condition → Statement → Statement
+abbrev pub while_of : Statement → Statement → Statement
 while_of c b = Statement.While c b
 
-abbrev pub do_while_of : Statement → Condition → Statement
+abbrev pub do_while_of : Statement → Statement → Statement
 do_while_of b c = Statement.DoWhile b c
 
 -- what a for has but its body
 abbrev pub Head : Type 0
-Head = Statement × Condition × Statement
+Head = Statement × Statement × Statement
 
 abbrev pub for_of : Head → Statement → Statement
 for_of head b = Statement.For head.0 head.1 head.2 b
@@ -117,10 +70,10 @@ for_start (start.Declaration d) = declared_start d
 for_start (start.Simple x) = finding (λ s. simple s x)
 
 -- a missing condition of a for is the constant 1
-abbrev pub int_one : Condition
-int_one = Condition.Operand 0 (Expression.Constant int_type (pos 1))
+abbrev pub int_one : Statement
+int_one = Statement.Test 0 (Expression.Constant int_type (pos 1))
 
-abbrev pub for_condition : Option ExpressionTree → Scope → Finds Condition
+abbrev pub for_condition : Option ExpressionTree → Scope → Finds Statement
 for_condition None s = pure int_one
 for_condition (Some test) s = condition s test
 
