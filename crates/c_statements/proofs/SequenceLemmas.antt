@@ -3,7 +3,7 @@ use Rattle.std.proofs.Common.{◌≡◌, refl, List, [], ◌∷◌, ◌++◌, ma
 use Rattle.std.specs.Prelude.{Box}
 use Rattle.c_program.specs.declared.tree.Statement.{Statement as StatementTree}
 use Rattle.c_program.specs.Plain.{boxed_statement_of}
-use Rattle.c_resolution.specs.Statements.{only}
+use Rattle.c_resolution.specs.Sequences.{only}
 
 pub only-last : {A : Type 0} (before : List (Box StatementTree A)) (last : Box StatementTree A) → only (map boxed_statement_of (before ++ last ∷ [])) ≡ boxed_statement_of last
 only-last [] last = refl

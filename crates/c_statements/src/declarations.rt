@@ -8,6 +8,7 @@ ghost use Rattle.c_resolution.specs.Locals as spec;
 
 use crate::lengths::optional_length;
 use crate::locals::{declare, local};
+use crate::sequences::behind_cuts;
 use c_calls::calls::right_side;
 use c_program::tree as resolved;
 use c_rules::constants::operator_count;
@@ -47,13 +48,15 @@ fn initialised(
 ) -> Result<Box<resolved::Statement>, AllocError>
     ensures { Walks boxed_statement_of (spec.initialised name.now meaning value.now scope.now found.old) result found.new }
 {
-    let right = right_side(alloc, scope, found, value)?;
+    let at = place(name.offset);
+    let right = right_side(alloc, scope, found, at, scope.kept_from, value)?;
     match meaning {
         Meaning::Variable(variable) if variable.length.is_none() => {
             let ty = variable.ty.c_type();
             let target = resolved::Place::Scalar(variable.storage, variable.number, ty);
             let target = Box::new(alloc, target)?;
-            resolved::Statement::Assign(place(name.offset), target, right).boxed(alloc)
+            let last = resolved::Statement::Assign(at, target, right.rest);
+            behind_cuts(alloc, right.before, last)
         }
         _ => {
             found.add(Rule::Kind, name.offset);

@@ -4,6 +4,7 @@
 #![tactic(auto)]
 
 pub mod declarations;
+pub mod declarators;
 pub mod lengths;
 pub mod locals;
 mod sequences;

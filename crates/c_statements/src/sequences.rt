@@ -1,8 +1,8 @@
 // Statements one after another.
 
 ghost use Rattle.std.specs.Prelude.{◌≡◌, map, IfOk};
-ghost use Rattle.c_program.specs.Plain.{boxed_statement_of};
-ghost use Rattle.c_resolution.specs.Statements as spec;
+ghost use Rattle.c_program.specs.Plain.{boxed_statement_of, statement_of};
+ghost use Rattle.c_resolution.specs.Sequences as spec;
 
 use c_program::tree as resolved;
 use std::alloc::{AllocError, Global};
@@ -87,7 +87,7 @@ fn only(
 
 /// The statements one after another. Neighbours are joined, and those joined, until one is left: so a program is not
 /// much deeper than its text is nested.
-#[tactic(auto, unfolding(c_resolution::specs::Statements::sequence))]
+#[tactic(auto, unfolding(c_resolution::specs::Sequences::sequence))]
 pub fn sequence(
     alloc: Global,
     steps: Vec<Box<resolved::Statement>>,
@@ -100,4 +100,21 @@ pub fn sequence(
         left = halved(alloc, left)?;
     }
     only(alloc, left)
+}
+
+/// A statement behind the cuts of its values, if there are any.
+pub fn behind_cuts(
+    alloc: Global,
+    before: Vec<Box<resolved::Statement>>,
+    last: resolved::Statement,
+) -> Result<Box<resolved::Statement>, AllocError>
+    ensures { IfOk result (λ s. boxed_statement_of s ≡ spec.behind_cuts (map boxed_statement_of before.items) (statement_of last)) }
+{
+    let last = last.boxed(alloc)?;
+    if before.is_empty() {
+        return Ok(last);
+    }
+    let mut steps = before;
+    steps.push(last)?;
+    sequence(alloc, steps)
 }

@@ -1,10 +1,11 @@
 // Statements without statements in them (C99 6.8.3, 6.8.6, 6.5.16).
 
-ghost use Rattle.std.specs.Prelude.{◌≡◌, IfOk, box_value};
+ghost use Rattle.std.specs.Prelude.{◌≡◌, map, option_map, IfOk, box_value};
 ghost use Rattle.c_program.specs.Plain.{boxed_statement_of, expression_of, place_of};
 ghost use Rattle.c_rules.specs.Walks.{Outcome, Walks};
 ghost use Rattle.c_resolution.specs.Simple as spec;
 
+use crate::sequences::behind_cuts;
 use c_calls::arguments::pointer_value;
 use c_calls::calls::{call, right_side};
 use c_expressions::expressions::{binary_operator, expression, working_type};
@@ -73,8 +74,10 @@ fn assign(
     let target = target(alloc, scope, found, assigned)?;
     match operator {
         AssignmentOperator::Set => {
-            let right = right_side(alloc, scope, found, value)?;
-            resolved::Statement::Assign(place(offset), target, right).boxed(alloc)
+            let at = place(offset);
+            let right = right_side(alloc, scope, found, at, scope.kept_from, value)?;
+            let last = resolved::Statement::Assign(at, target, right.rest);
+            behind_cuts(alloc, right.before, last)
         }
         AssignmentOperator::Compound(operator) => {
             let right = expression(alloc, scope, found, value)?;
@@ -154,6 +157,36 @@ fn may_return(gives: Gives, value: &Returned) -> bool
     }
 }
 
+/// The cuts of what is given back, and what is left of it; the return stands at the place.
+fn given_back(
+    alloc: Global,
+    scope: &Scope<'_>,
+    found: &mut Findings,
+    at: u32,
+    value: &Returned,
+) -> Result<
+    (
+        Vec<Box<resolved::Statement>>,
+        Option<Box<resolved::Expression>>,
+    ),
+    AllocError,
+>
+    ensures { Walks (λ r. (map boxed_statement_of r.0.items, option_map (λ e. expression_of (box_value e)) r.1))
+        (spec.given_back scope.now at value.now found.old) result found.new }
+{
+    match value {
+        Returned::Nothing => Ok((Vec::new(alloc), None)),
+        Returned::Value(e) => {
+            let right = right_side(alloc, scope, found, at, scope.kept_from, e.get())?;
+            Ok((right.before, Some(right.rest)))
+        }
+        Returned::Pointer(inner) => {
+            let value = pointer_value(alloc, scope, found, inner)?;
+            Ok((Vec::new(alloc), Some(Box::new(alloc, value)?)))
+        }
+    }
+}
+
 /// A return, whose word stands at the offset.
 #[tactic(auto, unfolding(c_resolution::specs::Simple::returned))]
 pub fn returned(
@@ -166,15 +199,9 @@ pub fn returned(
     ensures { Walks boxed_statement_of (spec.returned scope.now value.now offset found.old) result found.new }
 {
     found.add_if(!may_return(scope.gives, value), Rule::Kind, offset);
-    let right = match value {
-        Returned::Nothing => None,
-        Returned::Value(e) => Some(right_side(alloc, scope, found, e.get())?),
-        Returned::Pointer(inner) => {
-            let value = pointer_value(alloc, scope, found, inner)?;
-            Some(resolved::RightSide::Value(Box::new(alloc, value)?))
-        }
-    };
-    resolved::Statement::Return(place(offset), right).boxed(alloc)
+    let at = place(offset);
+    let (before, right) = given_back(alloc, scope, found, at, value)?;
+    behind_cuts(alloc, before, resolved::Statement::Return(at, right))
 }
 
 /// A `break` or a `continue`, whose word stands at the offset.

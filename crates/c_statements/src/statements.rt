@@ -1,7 +1,7 @@
 // Statements and blocks (C99 6.8).
 
 ghost use Rattle.std.specs.Prelude.{map, option_map};
-ghost use Rattle.c_program.specs.Plain.{boxed_statement_of, condition_of};
+ghost use Rattle.c_program.specs.Plain.{boxed_statement_of};
 ghost use Rattle.c_rules.specs.Walks.{Walks};
 ghost use Rattle.c_resolution.specs.States.{state};
 ghost use Rattle.c_resolution.specs.Statements as spec;
@@ -50,12 +50,12 @@ fn for_head<'t>(
 ) -> Result<
     (
         Box<resolved::Statement>,
-        resolved::Condition,
+        Box<resolved::Statement>,
         Box<resolved::Statement>,
     ),
     AllocError,
 >
-    ensures { Walks (λ h. (boxed_statement_of h.0, condition_of h.1, boxed_statement_of h.2))
+    ensures { Walks (λ h. (boxed_statement_of h.0, boxed_statement_of h.1, boxed_statement_of h.2))
         (spec.for_head start.now test.now step.now (state scope.old found.old)) result (state scope.new found.new) }
 {
     let first = for_start(alloc, scope, found, start)?;
@@ -63,7 +63,7 @@ fn for_head<'t>(
         Some(test) => condition(alloc, scope, found, test.get())?,
         None => {
             let one = resolved::Expression::Constant(CType::INT, 1);
-            resolved::Condition::Operand(0, Box::new(alloc, one)?)
+            resolved::Statement::Test(0, Box::new(alloc, one)?).boxed(alloc)?
         }
     };
     let last = match step {

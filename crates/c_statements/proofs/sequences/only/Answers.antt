@@ -1,6 +1,6 @@
 use Rattle.std.proofs.Common.{sym, ap, ◌∙◌, map}
 use Rattle.c_program.specs.Plain.{boxed_statement_of}
-use Rattle.c_resolution.specs.Statements.{only}
+use Rattle.c_resolution.specs.Sequences.{only}
 use Rattle.c_statements.proofs.SequenceLemmas.{only-last}
 use Rattle.c_statements.proofs.sequences.only.Goals as goal
 

@@ -1,6 +1,6 @@
 use Rattle.std.proofs.Common.{◌≡◌, map}
 use Rattle.c_program.specs.Plain.{boxed_statement_of}
-use Rattle.c_resolution.specs.Statements.{rounds}
+use Rattle.c_resolution.specs.Sequences.{rounds}
 use Rattle.c_statements.proofs.sequences.sequence.Given as goal
 
 abbrev pub invariant-loop-round : goal.invariant-loop-round
