@@ -12,6 +12,7 @@ ghost use Rattle.c_resolution.specs.Functions as spec;
 ghost use Rattle.c_resolution.specs.Globals as globals;
 
 use crate::globals::text;
+use crate::slots::{add_slots, slots_end};
 use crate::tables::Tables;
 use c_program::tree as resolved;
 use c_rules::fault::Rule;
@@ -19,6 +20,7 @@ use c_rules::findings::{Findings, place};
 use c_rules::library::LibraryFunction;
 use c_rules::names::{DeclaredType, Gives, Header, Meaning, Scope};
 use c_rules::specifiers::{BaseType, BasicType, Spelled, is_void, spelled_by};
+use c_statements::declarators::block_declarators;
 use c_statements::locals::{declare, new_local, plain_type, refused_local};
 use c_statements::statements::items;
 use c_tree::{Block, Function, Name, Parameter};
@@ -258,6 +260,7 @@ fn defined(
     name: String,
     returns: resolved::ReturnType,
     parameters: u32,
+    declared_locals: u32,
     locals: Vec<resolved::LocalVariable>,
     local_names: Vec<String>,
     body: Box<resolved::Statement>,
@@ -267,6 +270,7 @@ fn defined(
       name = string_bytes name;
       returns = returns;
       parameters = parameters;
+      declared_locals = declared_locals;
       locals = locals.items;
       local_names = map string_bytes local_names.items;
       body = boxed_statement_of body;
@@ -277,6 +281,7 @@ fn defined(
         name,
         returns,
         parameters,
+        declared_locals,
         locals,
         local_names,
         body: Box::into_inner(body),
@@ -284,7 +289,7 @@ fn defined(
     }
 }
 
-/// Adds a function to the program. So many of its locals are its parameters.
+/// Adds a function to the program. So many of its locals are its parameters, and so many are declared.
 fn add_definition(
     alloc: Global,
     scope: &Scope<'_>,
@@ -293,19 +298,23 @@ fn add_definition(
     returns: resolved::ReturnType,
     block: &Block,
     count: usize,
+    kept_from: u32,
     body: Box<resolved::Statement>,
 ) -> Result<(), AllocError>
+    requires kept { kept_from ≡ spec.kept_from count block.now }
     ensures { OnOk result (tables_of tables.new
         ≡ with_function (spec.defined function.now returns block.now count (boxed_statement_of body) scope.now.locals scope.now.local_names)
         (tables_of tables.old)) }
 {
     let name = text(alloc, function.name.bytes.as_slice())?;
-    let locals = scope.locals.as_slice().to_vec(alloc)?;
+    let mut locals = scope.locals.as_slice().to_vec(alloc)?;
+    add_slots(&mut locals, u64::from(kept_from).max(slots_end(&body)))?;
     let local_names = texts(alloc, scope.local_names.as_slice())?;
     let added = defined(
         name,
         returns,
         place(count),
+        kept_from,
         locals,
         local_names,
         body,
@@ -334,9 +343,13 @@ fn body_of<'t>(
     let count = scope.locals.len();
     scope.function = Some(place(tables.functions.len()));
     scope.loops = 0;
+    let kept_from = place(count).saturating_add(block_declarators(block));
+    scope.kept_from = kept_from;
     let body = items(alloc, scope, found, block)?;
     scope.function = None;
-    add_definition(alloc, scope, tables, function, returns, block, count, body)
+    add_definition(
+        alloc, scope, tables, function, returns, block, count, kept_from, body,
+    )
 }
 
 /// The next function has no locals yet.

@@ -4,4 +4,5 @@
 
 pub mod functions;
 pub mod globals;
+mod slots;
 pub mod tables;
