@@ -1,5 +1,5 @@
--- The leaves of blocks are among what their tokens are, and a block declares no more locals than it has tokens.
-use Rattle.std.proofs.Common.{ℕ, zero, suc, Bool, true, false, length, Option, None, arith}
+-- The leaves of blocks are among what their tokens are, and a block has no more declarators than tokens.
+use Rattle.std.proofs.Common.{ℕ, zero, suc, Bool, true, false, length, Option, None, le_trans, arith}
 use Rattle.std.specs.Prelude.{◌+◌}
 use Rattle.c_token.specs.declared.keyword.Keyword.TheVariants as k
 use Rattle.c_token.specs.declared.punctuator.Punctuator.TheVariants as p
@@ -18,16 +18,9 @@ use Rattle.c_resolved_program.proofs.ValidSentences.{Gives, gives_as, gives_none
 use Rattle.c_resolved_program.proofs.Tokens.{IsValidToken}
 use Rattle.c_resolved_program.proofs.ExpressionGrammar.{IsExpression}
 use Rattle.c_resolved_program.proofs.ExpressionLeaves.{Good, sign_gives, cast_gives, expr_gives}
-use Rattle.c_resolved_program.proofs.LocalCounts.{grows_more, grows_pure, grows_finding}
-use Rattle.c_resolved_program.proofs.StatementCounts.{declared_start_grows}
 use Rattle.c_resolved_program.proofs.SimpleLeaves.{IsSimple, simple_gives, returned_gives, declaration_gives}
-use Rattle.c_resolved_program.proofs.StatementLeaves.{IsStatement, IsItem, IsBlock, IsStart, AreItems, IsElse, item_grows, block_is, declaration_item, statement_item}
+use Rattle.c_resolved_program.proofs.StatementLeaves.{IsStatement, IsItem, IsBlock, IsStart, AreItems, IsElse, none_most, place_most, item_counts, block_is, declaration_item, statement_item}
 use Rattle.c_resolved_program.proofs.StatementLeaves.{empty_is, simple_is, break_is, continue_is, return_is, block_statement_is, if_is, while_is, do_is, for_is}
-use Rattle.c_program.specs.Tree.{Statement as Step}
-use Rattle.c_rules.specs.Walks as walk
-use Rattle.c_resolution.specs.Simple as simply
-use Rattle.c_resolution.specs.States.{finding}
-use Rattle.c_resolution.specs.Statements as y
 use Rattle.c_resolved_program.proofs.Walks.{IfAny}
 
 module _ (cast expr : Phrase Expression) (of_cast : Good IsExpression cast) (of_expr : Good IsExpression expr) where
@@ -78,19 +71,19 @@ module _ (cast expr : Phrase Expression) (of_cast : Good IsExpression cast) (of_
   declared_start_gives : Gives IsValidToken IsStart (h.declared_start cast expr)
   declared_start_gives =
       gives_then IsValidToken _ _ (declaration_gives cast expr of_cast of_expr)
-      (λ m d is. gives_pure IsValidToken _ (is.0, grows_more (length d.declarators) (m + 0) (y.declared_start d) (omega (arith, is.1)) (declared_start_grows d)))
+      (λ m d is. gives_pure IsValidToken _ (is.0, le_trans (place_most (length d.declarators)) (omega (arith, is.1))))
 
   simple_start_gives : Gives IsValidToken IsStart (h.simple_start cast expr)
   simple_start_gives =
       gives_then IsValidToken _ _ (simple_gives cast expr of_cast of_expr)
       (λ m x is. gives_then IsValidToken _ _ (sign_gives (Mark p.Semicolon))
       (λ n _ _. gives_pure IsValidToken _
-      (is, grows_more 0 (m + (n + 0)) (finding (λ s. simply.simple s x)) (omega arith) (grows_finding (λ s. simply.simple s x)))))
+      (is, none_most (m + (n + 0)))))
 
   no_start_gives : Gives IsValidToken IsStart (h.no_start cast expr)
   no_start_gives =
       gives_then IsValidToken _ _ (sign_gives (Mark p.Semicolon))
-      (λ m _ _. gives_pure IsValidToken _ (tt, grows_more 0 (m + 0) (walk.pure Step.Done) (omega arith) (grows_pure Step.Done)))
+      (λ m _ _. gives_pure IsValidToken _ (tt, none_most (m + 0)))
 
   for_start_gives : Gives IsValidToken IsStart (h.for_start cast expr)
   for_start_gives = gives_either IsValidToken declared_start_gives (gives_either IsValidToken simple_start_gives no_start_gives)
@@ -119,7 +112,7 @@ module _ (cast expr : Phrase Expression) (of_cast : Good IsExpression cast) (of_
       (λ c test so. gives_then IsValidToken _ _ (sign_gives (Mark p.Semicolon))
       (λ d _ _. gives_then IsValidToken _ _ (gives_optional IsValidToken (λ _ o. IfAny IsSimple o) tt (λ _ v so. so) (simple_gives cast expr of_cast of_expr))
       (λ e step last. gives_then IsValidToken _ _ (sign_gives (Mark p.CloseRound))
-      (λ f _ _. gives_pure IsValidToken _ ((is.0, grows_more b (a + (b + (c + (d + (e + (f + 0)))))) (y.for_start first) (omega arith) is.1), so, last))))))))
+      (λ f _ _. gives_pure IsValidToken _ ((is.0, let few = is.1 in omega (arith, few)), so, last))))))))
 
   -- ---- statements with statements in them
 
@@ -130,7 +123,7 @@ module _ (cast expr : Phrase Expression) (of_cast : Good IsExpression cast) (of_
         (gives_then IsValidToken _ _ (declaration_gives cast expr of_cast of_expr)
         (λ m x is. gives_pure IsValidToken _ (declaration_item (m + 0) x (is.0, omega (arith, is.1)))))
         (gives_then IsValidToken _ _ of_statement
-        (λ m x is. gives_pure IsValidToken _ (statement_item (m + 0) x (is.0, grows_more m (m + 0) (y.statement x) (omega arith) is.1))))
+        (λ m x is. gives_pure IsValidToken _ (statement_item (m + 0) x (is.0, let few = is.1 in omega (arith, few)))))
 
     abbrev in_block : Phrase Block
     in_block = do
@@ -143,9 +136,9 @@ module _ (cast expr : Phrase Expression) (of_cast : Good IsExpression cast) (of_
     block_gives =
         gives_nested IsValidToken in_block (gives_then IsValidToken _ _ (sign_gives (Mark p.OpenCurly))
         (λ a _ _. gives_then IsValidToken _ _
-        (gives_many IsValidToken AreItems (tt, λ o. omega arith) (λ m n i list one more. ((one.0, more.0), item_grows m n i list one.1 more.1)) item_gives)
+        (gives_many IsValidToken AreItems (tt, λ k. omega arith) (λ m n i list one more. ((one.0, more.0), item_counts m n i list one.1 more.1)) item_gives)
         (λ b list all. gives_then IsValidToken _ _ (sign_gives (Mark p.CloseCurly))
-        (λ c close _. gives_pure IsValidToken _ (block_is (a + (b + (c + 0))) list close (all.0, λ o. (let n = all.1 o in omega (arith, n))))))))
+        (λ c close _. gives_pure IsValidToken _ (block_is (a + (b + (c + 0))) list close (all.0, λ k. (let n = all.1 k in omega (arith, n))))))))
 
     block_statement_gives : Gives IsValidToken IsStatement (h.block_statement cast expr statement)
     block_statement_gives = gives_then IsValidToken _ _ block_gives (λ m b is. gives_pure IsValidToken _ (block_statement_is (m + 0) m b (omega arith) is))
@@ -154,7 +147,7 @@ module _ (cast expr : Phrase Expression) (of_cast : Good IsExpression cast) (of_
     else_gives true =
         gives_optional IsValidToken IsElse tt (λ n v is. is)
         (gives_then IsValidToken _ _ (sign_gives (Word k.Else))
-        (λ m _ _. gives_as IsValidToken (λ n v is. (is.0, grows_more n (m + n) (y.statement v) (omega arith) is.1)) (gives_nested IsValidToken statement of_statement)))
+        (λ m _ _. gives_as IsValidToken (λ n v is. (is.0, let few = is.1 in omega (arith, few))) (gives_nested IsValidToken statement of_statement)))
     else_gives false = gives_pure IsValidToken None tt
 
     branch_gives : Gives IsValidToken IsStatement (h.branch cast expr statement)

@@ -1,8 +1,7 @@
 -- Each function of a program so far is in order, where each header of the whole text is one of the program.
-use Rattle.std.proofs.Common.{◌≡◌, refl, sym, subst, ◌∙◌, inl, inr, ℕ, ◌<◌, ◌≤◌, List, [], ◌∷◌, ◌++◌, map, length, Option, Some, None}
+use Rattle.std.proofs.Common.{◌≡◌, refl, sym, subst, ◌∙◌, inl, inr, ℕ, ◌<◌, List, [], ◌∷◌, ◌++◌, map, length, Option, Some, None}
 use Rattle.std.specs.Prelude.{◌^◌, slice_get}
 use Rattle.std.specs.List.{AllByRecursion}
-use Rattle.std.proofs.Math.Nat.{le_of_lt}
 use Rattle.lists.proofs.Places.{get_pushed, all_front}
 use Rattle.c_tree.specs.declared.statement.Block.{Block}
 use Rattle.c_tree.specs.declared.declaration.Function.{Function as FunctionTree}
@@ -45,7 +44,7 @@ module _ (whole : Findings) (P : Program) (given_routines : GivesRoutines whole 
     (scope : IsFileScope P x.scope) (parameters : h.parameters ≡ map y.parameter_type (y.written f)) (is : left (y.function_by f h x) ≡ z)
     (is_left : IsFunctionLeft whole f h x z) (part : IsPartOf whole z.found) (headers : AllByRecursion (IsHeader P) z.scope.headers)
     (valid : AreValid (of_any block_leaves f.body)) where
-  new_body : (body : Block) → f.body ≡ Some body → length x.tables.functions < 2 ^ 32 → length (defined_at f (y.return_type h) body (headed f h x)).locals ≤ 2 ^ 32 →
+  new_body : (body : Block) → f.body ≡ Some body → length x.tables.functions < 2 ^ 32 → (defined_at f (y.return_type h) body (headed f h x)).declared_locals < 0xffff_ffff →
       IsDefined whole P (length x.tables.functions) h (defined_at f (y.return_type h) body (headed f h x))
   new_body body has small locals =
       let count = length x.tables.functions in
@@ -61,7 +60,7 @@ module _ (whole : Findings) (P : Program) (given_routines : GivesRoutines whole 
       (function_defined whole P given_routines f h body x leaves locals behind.ready ended)
 
   pub bodies_keep : ((body : Block) → f.body ≡ Some body →
-      (length x.tables.functions < 2 ^ 32) × (length (defined_at f (y.return_type h) body (headed f h x)).locals < 2 ^ 32)) →
+      (length x.tables.functions < 2 ^ 32) × ((defined_at f (y.return_type h) body (headed f h x)).declared_locals < 0xffff_ffff)) →
       BodiesHold whole P x.tables.functions → BodiesHold whole P z.tables.functions
   bodies_keep small holds = by f.body refl
     where
@@ -73,4 +72,4 @@ module _ (whole : Findings) (P : Program) (given_routines : GivesRoutines whole 
           let tables = subst (λ o. IsTabled f h o x z) has is_left.tables in
           let fits = small body has in
           subst (λ (t : Tables). BodiesHold whole P t.functions) (sym tables)
-          (bodies_more whole P x.tables.functions (defined_at f (y.return_type h) body (headed f h x)) holds (h, new_body body has fits.0 (le_of_lt fits.1)))
+          (bodies_more whole P x.tables.functions (defined_at f (y.return_type h) body (headed f h x)) holds (h, new_body body has fits.0 fits.1))

@@ -1,9 +1,10 @@
--- What calls give, as statements and as right sides.
+-- What calls give, as statements and as values.
 use Rattle.std.proofs.Common.{◌≡◌, refl, sym, ap, subst, ◌∙◌, ℕ, ◌≤◌, Bool, true, false, List, [], ◌∷◌, map, length, Option, Some, None, eqb-true, leb-true, arith}
-use Rattle.std.specs.Prelude.{◌||◌, ◌&&◌, not, is_none, nat_eq, nat_le, slice_get, count_by, Contains, ⊤}
+use Rattle.std.specs.Prelude.{◌+◌, ◌||◌, ◌&&◌, not, is_none, nat_eq, nat_le, slice_get, count_by, Contains, ⊤}
 use Rattle.std.specs.List.{AllByRecursion}
-use Rattle.std.proofs.lemmas.Bool.{and_parts, not-false, or_parts, both_ways}
+use Rattle.std.proofs.lemmas.Bool.{and_parts, not-false, or_parts, both_ways, false≢true}
 use Rattle.std.proofs.lemmas.Option.{none-some}
+use Rattle.hls_ints.specs.Types.{IntegerType}
 use Rattle.lists.proofs.Places.{in_one, in_none}
 use Rattle.c_tree.specs.declared.expression.Argument.{Argument, out-Argument}
 use Rattle.c_tree.specs.declared.expression.Argument.TheOpen.{Argument-F, Form-F}
@@ -12,8 +13,8 @@ use Rattle.c_tree.specs.declared.expression.Expression.{Expression as Expression
 use Rattle.c_tree.specs.declared.expression.Call.{Call as CallTree, out-Call}
 use Rattle.c_program.specs.declared.tree.ThreadObject.{ThreadObject}
 use Rattle.c_program.specs.declared.tree.ReturnType.TheVariants as returns_as
-use Rattle.c_program.specs.Tree.{Expression, ObjectPlace, ThreadCall, RightSide, Piece, Statement, Function, Program}
-use Rattle.c_program.specs.Calls.{calls_of, calls_of_right}
+use Rattle.c_program.specs.Tree.{Expression, ObjectPlace, ThreadCall, Piece, Statement, Function, Program}
+use Rattle.c_program.specs.Calls.{calls_of}
 use Rattle.c_program.specs.Resolved as r
 use Rattle.c_rules.specs.declared.fault.Rule.TheVariants as rule
 use Rattle.c_rules.specs.declared.findings.Findings.{Findings}
@@ -34,10 +35,12 @@ use Rattle.c_rules.specs.Walks.{pure, finds, finds_if, creates, ◌>>=◌, ◌>>
 use Rattle.c_expressions.specs.Callees.{function_name, library_name}
 use Rattle.c_expressions.specs.Expressions.{value, argument, arguments}
 use Rattle.c_calls.specs.Arguments as a
+use Rattle.c_calls.specs.Cuts.{Cut, uncut}
 use Rattle.c_calls.specs.Calls as c
+use Rattle.c_resolution.specs.Slots.{slots_end}
 use Rattle.c_resolution.specs.Functions.{gives_by, is_unlisted, return_by}
 use Rattle.c_resolved_program.specs.Leaves.{AreValid, expression_leaves, argument_leaves, call_leaves}
-use Rattle.c_resolved_program.specs.Orders.{IsHeader, IsOrderly, IsGiven, IsPointerAt, IsFoundCall, IsFoundCreation, IsInOrder, GivesRoutines}
+use Rattle.c_resolved_program.specs.Orders.{IsHeader, IsOrderly, IsGiven, IsPointerAt, IsFoundCall, IsFoundCreation, HasSlots, around, IsInOrder, GivesRoutines}
 use Rattle.c_resolved_program.proofs.Walks.{Shows, shows_pure, shows_then, shows_as, shows_broken, shows_if, shows_creation, shows_visited, IfAny}
 use Rattle.c_resolved_program.proofs.Known.{Is, IsKnown, look_up_is}
 use Rattle.c_resolved_program.proofs.Callees.{IsCalled, IsCallOf, IsPlaced, function_name_shows, library_name_shows}
@@ -91,14 +94,21 @@ module _ (P : Program) (f : Function) (h : Header) (count : ℕ) (header : IsHea
         passed = all;
       }
 
-  pub is_value_call : (callee : ℕ) (values : List Expression) → h.definition ≡ Some callee → IsCalled h count true →
-      r.AreExpressions P f values → length values ≡ count → r.IsValueCall P f callee values
-  is_value_call callee values is called all counted =
+  -- a call whose value is not used
+  pub is_dropped_call : (callee : ℕ) (values : List Expression) → h.definition ≡ Some callee → IsCalled h count false →
+      r.AreExpressions P f values → length values ≡ count → r.IsKeptCall P f None callee values
+  is_dropped_call callee values is called all counted =
+      record { call = is_call false callee values is called all counted; slot = tt; gives = λ kept. absurd (false≢true kept) }
+
+  pub is_value_call : (slot callee : ℕ) (values : List Expression) → r.IsSlot f slot → h.definition ≡ Some callee → IsCalled h count true →
+      r.AreExpressions P f values → length values ≡ count → r.IsKeptCall P f (Some slot) callee values
+  is_value_call slot callee values own is called all counted =
       let d = header.definition callee is in
       let placed = or_parts h.is_main (is_start_routine h) called.placed in
       record {
         call = is_call true callee values is called all counted;
-        gives = ap r.is_integer d.returns ∙ integer_by (is_start_routine h) h.returns.base h.returns.is_pointer placed.1 called.valued header.listed;
+        slot = own;
+        gives = λ _. ap r.is_integer d.returns ∙ integer_by (is_start_routine h) h.returns.base h.returns.is_pointer placed.1 called.valued header.listed;
       }
 
 -- ---- lists of at most one
@@ -113,10 +123,11 @@ object_there P f (ObjectPlace.Single object) is = (1, is)
 object_there P f (ObjectPlace.Element object size index) is = (size, is.0)
 
 -- a statement without calls and creates
-pub plain_in : (whole : Findings) (P : Program) (number : ℕ) (f : Function) (in_loop : Bool) (x : Statement) → r.IsStatement P f in_loop x → calls_of x ≡ [] →
-    r.creates_of x ≡ [] → IsInOrder whole P number f in_loop x
-plain_in whole P number f in_loop x is calls creates = record {
-  is = is;
+pub plain_in : (whole : Findings) (P : Program) (number : ℕ) (f : Function) (in_loop : Bool) (x : Statement) → r.IsStatement P f (around in_loop) x → slots_end x ≡ 0 →
+    calls_of x ≡ [] → r.creates_of x ≡ [] → IsInOrder whole P number f in_loop x
+plain_in whole P number f in_loop x is none calls creates = record {
+  is = λ _. is;
+  few = omega (arith, none);
   calls = λ callee inside. absurd (in_none callee (subst (λ list. Contains list callee) calls inside));
   creates = λ thread routine inside. absurd (in_none (thread, routine) (subst (λ list. Contains list (thread, routine)) creates inside));
 }
@@ -128,11 +139,11 @@ module _ (whole : Findings) (P : Program) (number : ℕ) (f : Function) (s : Sco
   abbrev InOrder : Statement → Type 0
   InOrder x = IsInOrder whole P number f in_loop x
 
-  pub plain : (x : Statement) → r.IsStatement P f in_loop x → calls_of x ≡ [] → r.creates_of x ≡ [] → InOrder x
-  plain x is calls creates = plain_in whole P number f in_loop x is calls creates
+  pub plain : (x : Statement) → r.IsStatement P f (around in_loop) x → slots_end x ≡ 0 → calls_of x ≡ [] → r.creates_of x ≡ [] → InOrder x
+  plain x is none calls creates = plain_in whole P number f in_loop x is none calls creates
 
   pub empty : InOrder Statement.Empty
-  empty = plain Statement.Empty tt refl refl
+  empty = plain Statement.Empty tt refl refl refl
 
   abbrev AllValid : List Argument → Type 0
   AllValid list = AllByRecursion (λ x. AreValid (argument_leaves x)) list
@@ -154,7 +165,8 @@ module _ (whole : Findings) (P : Program) (number : ℕ) (f : Function) (s : Sco
   created_is at t v routine object is pointer found =
       let there = object_there P f t object in
       record {
-        is = (object, has_routine (slice_get P.threads (r.object_of t)) there.0 routine there.1 (λ o at. given_routines (r.object_of t) routine o found at), is);
+        is = λ _. (object, has_routine (slice_get P.threads (r.object_of t)) there.0 routine there.1 (λ o at. given_routines (r.object_of t) routine o found at), is);
+        few = omega arith;
         calls = λ callee inside. absurd (in_none callee inside);
         creates = λ thread given inside.
             subst (λ (x : ℕ × ℕ). IsPointerAt P x.1 × IsFoundCreation whole x.0 x.1) (in_one (r.object_of t, routine) (thread, given) inside) (pointer, found);
@@ -206,7 +218,8 @@ module _ (whole : Findings) (P : Program) (number : ℕ) (f : Function) (s : Sco
       (λ t. shows_then (a.null_argument s outcome) (λ _. pure (joined t))
       (shows_as (a.null_argument s outcome) (λ b. b.0) (λ _ _ is. is) (p.null_argument_shows whole P number f s outcome h1))
       (λ _. shows_pure (joined t) (λ b. record {
-        is = b.0.1;
+        is = λ _. b.0.1;
+        few = omega arith;
         calls = λ callee inside. absurd (in_none callee inside);
         creates = λ thread routine inside. absurd (in_none (thread, routine) inside);
       })))
@@ -231,12 +244,12 @@ module _ (whole : Findings) (P : Program) (number : ℕ) (f : Function) (s : Sco
   exit_shows : (at : ℕ) (x : Argument) → AreValid (argument_leaves x) → Shows whole Exiting InOrder (c.exit s at x)
   unfolding c.exit
   exit_shows at x h =
-      let left = λ (v : Expression). Statement.Return at (Some (RightSide.Value v)) in
+      let left = λ (v : Expression). Statement.Return at (Some v) in
       shows_then (a.pointer_argument s x) (λ v. pure (left v))
       (shows_as (a.pointer_argument s x) (λ b. b.0) (λ _ _ is. is) (p.pointer_argument_shows whole P number f s x h))
       (λ v. shows_pure (left v) (λ b.
       let pointer = (or_parts (is_none s.function) (not (gives_pointer s.gives)) b.0.1).1 in
-      plain (left v) (subst (λ returns. r.IsReturn P f returns (Some (RightSide.Value v))) (sym (pointer_given s.gives pointer b.0.0.gives)) b.1) refl refl))
+      plain (left v) (subst (λ returns. r.IsReturn P f returns (Some v)) (sym (pointer_given s.gives pointer b.0.0.gives)) b.1) refl refl refl))
 
   exit_of_shows : (at : ℕ) (list : List Argument) → AllValid list → Shows whole Exiting InOrder (c.exit_of s at list (c.one list))
   exit_of_shows at [] valid = shows_as (c.looked_call s []) (λ b. b.0) (λ _ _ is. is) (looked_call_shows [] valid)
@@ -254,7 +267,7 @@ module _ (whole : Findings) (P : Program) (number : ℕ) (f : Function) (s : Sco
       (p.address_argument_shows whole P number f s Mutex mutex h0)
       (λ m. shows_then (a.null_argument s attributes) (λ _. pure (made m))
       (shows_as (a.null_argument s attributes) (λ b. b.0) (λ _ _ is. is) (p.null_argument_shows whole P number f s attributes h1))
-      (λ _. shows_pure (made m) (λ b. plain (made m) b.0.1 refl refl)))
+      (λ _. shows_pure (made m) (λ b. plain (made m) b.0.1 refl refl refl)))
 
   mutex_init_of_shows : (at : ℕ) (list : List Argument) → AllValid list → Shows whole Now InOrder (c.mutex_init_of s at list (c.two list))
   mutex_init_of_shows at [] valid = looked_call_shows [] valid
@@ -274,7 +287,7 @@ module _ (whole : Findings) (P : Program) (number : ℕ) (f : Function) (s : Sco
       (shows_as (a.null_argument s attributes) (λ h. h.0) (λ _ _ is. is) (p.null_argument_shows whole P number f s attributes h1))
       (λ _. shows_then (a.value_argument s count) (λ n. pure (made b n))
       (shows_as (a.value_argument s count) (λ h. h.0.0) (λ _ _ is. is) (p.value_argument_shows whole P number f s count h2))
-      (λ n. shows_pure (made b n) (λ h. plain (made b n) (h.0.0.1, h.1) refl refl))))
+      (λ n. shows_pure (made b n) (λ h. plain (made b n) (h.0.0.1, h.1) refl refl refl))))
 
   barrier_init_of_shows : (at : ℕ) (list : List Argument) → AllValid list → Shows whole Now InOrder (c.barrier_init_of s at list (c.three list))
   barrier_init_of_shows at [] valid = looked_call_shows [] valid
@@ -294,11 +307,11 @@ module _ (whole : Findings) (P : Program) (number : ℕ) (f : Function) (s : Sco
 
   on_object_is : (function : LibraryFunction) (at : ℕ) (o : ObjectPlace) → IsOfObject function → IsObjectAt P f (c.object_kind function) o →
       InOrder (Statement.Thread at (c.on_object function o))
-  on_object_is library.MutexDestroy at o of is = plain (Statement.Thread at (ThreadCall.MutexDestroy o)) is refl refl
-  on_object_is library.MutexLock at o of is = plain (Statement.Thread at (ThreadCall.MutexLock o)) is refl refl
-  on_object_is library.MutexUnlock at o of is = plain (Statement.Thread at (ThreadCall.MutexUnlock o)) is refl refl
-  on_object_is library.BarrierDestroy at o of is = plain (Statement.Thread at (ThreadCall.BarrierDestroy o)) is refl refl
-  on_object_is library.BarrierWait at o of is = plain (Statement.Thread at (ThreadCall.BarrierWait o)) is refl refl
+  on_object_is library.MutexDestroy at o of is = plain (Statement.Thread at (ThreadCall.MutexDestroy o)) is refl refl refl
+  on_object_is library.MutexLock at o of is = plain (Statement.Thread at (ThreadCall.MutexLock o)) is refl refl refl
+  on_object_is library.MutexUnlock at o of is = plain (Statement.Thread at (ThreadCall.MutexUnlock o)) is refl refl refl
+  on_object_is library.BarrierDestroy at o of is = plain (Statement.Thread at (ThreadCall.BarrierDestroy o)) is refl refl refl
+  on_object_is library.BarrierWait at o of is = plain (Statement.Thread at (ThreadCall.BarrierWait o)) is refl refl refl
   on_object_is library.Print at o of is = absurd of
   on_object_is library.Create at o of is = absurd of
   on_object_is library.Join at o of is = absurd of
@@ -340,7 +353,7 @@ module _ (whole : Findings) (P : Program) (number : ℕ) (f : Function) (s : Sco
         count = eqb-true (count_by r.is_conversion pieces) count parts.0 ∙ sym counted;
         most = subst (λ n. n ≤ 4) (sym counted) (leb-true count 4 parts.1);
         passed = all;
-      }) refl refl
+      }) refl refl refl
 
   print_arguments_show : (at : ℕ) (first : Argument) (values : List Argument) → AreValid (argument_leaves first) → AllValid values →
       Shows whole Now InOrder (c.print_arguments s at first values)
@@ -419,7 +432,8 @@ module _ (whole : Findings) (P : Program) (number : ℕ) (f : Function) (s : Sco
   called_is at None count d values header is all counted = subst (λ d. InOrder (c.called at d values)) (sym is) empty
   called_is at (Some h) count None values header is all counted = empty
   called_is at (Some h) count (Some callee) values header is all counted = record {
-    is = is_call P f h count header false callee values (sym is.0) is.1 all counted;
+    is = λ _. is_dropped_call P f h count header callee values (sym is.0) is.1 all counted;
+    few = omega arith;
     calls = λ g inside. subst (λ n. IsFoundCall whole number n) (in_one callee g inside) is.2;
     creates = λ thread routine inside. absurd (in_none (thread, routine) inside);
   }
@@ -457,44 +471,55 @@ module _ (whole : Findings) (P : Program) (number : ℕ) (f : Function) (s : Sco
       let name = (out-Call x).name in
       call_of_shows (look_up s name.bytes) at name.offset (out-Call x).arguments (call_valid x valid) (look_up_is P number f s name.bytes)
 
-  -- ---- right sides
+  -- ---- values that may be calls
 
-  -- a right side, each call of which is found
-  abbrev pub IsRight : RightSide → Type 0
-  IsRight x = r.IsRightSide P f x × ((callee : ℕ) → Contains (calls_of_right x) callee → IsFoundCall whole number callee)
+  -- a value with its cuts: these are in order, and where the function has their locals, what is left is a value of the program
+  abbrev pub IsRight : Cut → Type 0
+  IsRight x = AllByRecursion InOrder x.before × (AllByRecursion (HasSlots f) x.before → r.IsExpression P f x.rest)
 
-  right_called_is : (h : Option Header) (count : ℕ) (d : Option ℕ) (values : List Expression) → IfAny (IsHeader P) h →
-      IsCallOf whole number h count true d → r.AreExpressions P f values → length values ≡ count → IsRight (c.right_called d values)
-  right_called_is None count d values header is all counted =
-      subst (λ d. IsRight (c.right_called d values)) (sym is) (p.null_is whole P number f s, λ callee inside. absurd (in_none callee inside))
-  right_called_is (Some h) count None values header is all counted = (p.null_is whole P number f s, λ callee inside. absurd (in_none callee inside))
-  right_called_is (Some h) count (Some callee) values header is all counted =
-      (is_value_call P f h count header callee values (sym is.0) is.1 all counted, λ g inside. subst (λ n. IsFoundCall whole number n) (in_one callee g inside) is.2)
+  uncut_is : (x : Expression) → r.IsExpression P f x → IsRight (uncut x)
+  uncut_is x is = (tt, λ _. is)
 
-  right_call_shows : (header : ℕ) (x : CallTree) → AreValid (call_leaves x) → Shows whole Now IsRight (c.right_call s header x)
+  slot_is : Now → s.kept_from + 1 ≤ length f.locals → r.IsSlot f s.kept_from
+  slot_is now fit = now.kept.slots s.kept_from (omega (arith, now.kept.first)) (omega (arith, fit))
+
+  called_value_is : (at : ℕ) (ty : IntegerType) (h : Option Header) (count : ℕ) (d : Option ℕ) (values : List Expression) → Now → IfAny (IsHeader P) h →
+      IsCallOf whole number h count true d → r.AreExpressions P f values → length values ≡ count → IsRight (c.called_value at s.kept_from ty d values)
+  called_value_is at ty None count d values now header is all counted =
+      subst (λ d. IsRight (c.called_value at s.kept_from ty d values)) (sym is) (uncut_is a.null (p.null_is whole P number f s))
+  called_value_is at ty (Some h) count None values now header is all counted = uncut_is a.null (p.null_is whole P number f s)
+  called_value_is at ty (Some h) count (Some callee) values now header is all counted = (
+    (
+      record {
+        is = λ fit. is_value_call P f h count header s.kept_from callee values (slot_is now fit) (sym is.0) is.1 all counted;
+        few = omega (arith, now.kept.first);
+        calls = λ g inside. subst (λ n. IsFoundCall whole number n) (in_one callee g inside) is.2;
+        creates = λ thread routine inside. absurd (in_none (thread, routine) inside);
+      },
+      tt,
+    ),
+    λ fits. slot_is now fits.0,
+  )
+
+  right_call_shows : (at header : ℕ) (x : CallTree) → AreValid (call_leaves x) → Shows whole Now IsRight (c.right_call s at s.kept_from header x)
   unfolding c.right_call
-  right_call_shows header x valid =
+  right_call_shows at header x valid =
       let list = (out-Call x).arguments in
       let name_at = (out-Call x).name.offset in
-      shows_then (c.function_call s header true name_at list) (λ q. pure (c.right_called q.0 q.1)) (function_call_shows header true name_at list (call_valid x valid))
-      (λ q. shows_pure (c.right_called q.0 q.1)
-      (λ b. right_called_is (slice_get s.headers header) (length list) q.0 q.1 (p.element_is (IsHeader P) s.headers header b.0.headers) b.1.0 b.1.1 b.1.2))
+      let ty = c.value_type (slice_get s.headers header) in
+      let made = λ (q : Option ℕ × List Expression). c.called_value at s.kept_from ty q.0 q.1 in
+      shows_then (c.function_call s header true name_at list) (λ q. pure (made q)) (function_call_shows header true name_at list (call_valid x valid))
+      (λ q. shows_pure (made q)
+      (λ b. called_value_is at ty (slice_get s.headers header) (length list) q.0 q.1 b.0 (p.element_is (IsHeader P) s.headers header b.0.headers) b.1.0 b.1.1 b.1.2))
 
-  -- the value of an expression
-  abbrev pub IsValueSide : RightSide → Type 0
-  IsValueSide (RightSide.Value x) = ⊤
-  IsValueSide (RightSide.Call callee list) = ⊥
-
-  right_value_shows : (e : ExpressionTree) → AreValid (expression_leaves e) → Shows whole Now (λ x. IsRight x × IsValueSide x) (c.right_value s e)
+  right_value_shows : (e : ExpressionTree) → AreValid (expression_leaves e) → Shows whole Now IsRight (c.right_value s e)
   unfolding c.right_value
-  right_value_shows e valid =
-      shows_then (value s e) (λ x. pure (RightSide.Value x)) (value_shows whole P number f s e valid)
-      (λ x. shows_pure (RightSide.Value x) (λ b. ((b.1, λ callee inside. absurd (in_none callee inside)), tt)))
+  right_value_shows e valid = shows_then (value s e) (λ x. pure (uncut x)) (value_shows whole P number f s e valid) (λ x. shows_pure (uncut x) (λ b. uncut_is x b.1))
 
-  right_from_shows : (e : ExpressionTree) (q : Option (ℕ × CallTree)) → AreValid (expression_leaves e) → IfAny (λ (q : ℕ × CallTree). AreValid (call_leaves q.1)) q →
-      Shows whole Now (λ x. IsRight x × (q ≡ None → IsValueSide x)) (c.right_from s e q)
-  right_from_shows e (Some q) valid called = shows_as (c.right_call s q.0 q.1) (λ b. b) (λ _ _ is. (is, λ none. absurd (none-some q (sym none)))) (right_call_shows q.0 q.1 called)
-  right_from_shows e None valid called = shows_as (c.right_value s e) (λ b. b) (λ _ _ is. (is.0, λ _. is.1)) (right_value_shows e valid)
+  right_from_shows : (at : ℕ) (e : ExpressionTree) (q : Option (ℕ × CallTree)) → AreValid (expression_leaves e) → IfAny (λ (q : ℕ × CallTree). AreValid (call_leaves q.1)) q →
+      Shows whole Now IsRight (c.right_from s at s.kept_from e q)
+  right_from_shows at e (Some q) valid called = right_call_shows at q.0 q.1 called
+  right_from_shows at e None valid called = right_value_shows e valid
 
   with_call_valid : (x : CallTree) (o : Option ℕ) → AreValid (call_leaves x) → IfAny (λ (q : ℕ × CallTree). AreValid (call_leaves q.1)) (c.with_call s x o)
   with_call_valid x None valid = tt
@@ -509,8 +534,7 @@ module _ (whole : Findings) (P : Program) (number : ℕ) (f : Function) (s : Sco
   call_in_valid (Form-F.Binary first terms) valid = tt
   call_in_valid (Form-F.Conditional first choices) valid = tt
 
-  pub right_side_shows : (e : ExpressionTree) → AreValid (expression_leaves e) →
-      Shows whole Now (λ x. IsRight x × (c.function_called s e ≡ None → IsValueSide x)) (c.right_side s e)
+  pub right_side_shows : (at : ℕ) (e : ExpressionTree) → AreValid (expression_leaves e) → Shows whole Now IsRight (c.right_side s at s.kept_from e)
   unfolding c.right_side
-  right_side_shows e valid =
-      right_from_shows e (c.function_called s e) valid (call_in_valid (out-Form (out-Expression e).form) (form_valid e valid))
+  right_side_shows at e valid =
+      right_from_shows at e (c.function_called s e) valid (call_in_valid (out-Form (out-Expression e).form) (form_valid e valid))

@@ -51,7 +51,7 @@ module _ (f : FunctionTree) (h : Header) (x : File) (holds : CreatesHold x) wher
   in_body body c inside =
       let count = length x.tables.functions in
       let code = defined_at f (y.return_type h) body (headed f h x) in
-      elim ((body_makes body).new (before_body count (left (y.head f h count (state x.scope x.found)))) c inside) [
+      elim ((body_makes body).new (before_body count body (left (y.head f h count (state x.scope x.found)))) c inside) [
         | inl before ↦ earlier_in x.tables.functions code c (in_head c before)
         | inr made ↦ last_in x.tables.functions code c made
       ]

@@ -1,6 +1,6 @@
 -- The creates that a part finds are those of the statements that it stands for.
 use Rattle.std.proofs.Common.{sym, ap, subst, inl, inr, ℕ, Bool, true, false, List, [], ◌∷◌, ◌++◌, map, length, Option, Some, None, arith}
-use Rattle.std.specs.Prelude.{◌⊎◌, not, is_none, is_some, option_map, Contains}
+use Rattle.std.specs.Prelude.{◌⊎◌, not, is_none, is_some, option_map, slice_get, Contains}
 use Rattle.std.specs.List.{AllByRecursion}
 use Rattle.std.proofs.lemmas.List.Elements.{Contains-append_cases}
 use Rattle.lists.proofs.Places.{in_one}
@@ -10,7 +10,7 @@ use Rattle.c_tree.specs.declared.expression.Expression.{Expression as Expression
 use Rattle.c_tree.specs.declared.expression.Place.{Place as PlaceTree, out-Place}
 use Rattle.c_tree.specs.declared.expression.Pointer.{Pointer as PointerTree, out-Pointer}
 use Rattle.c_tree.specs.declared.expression.Call.{Call as CallTree, out-Call}
-use Rattle.c_program.specs.Tree.{Expression, ObjectPlace, ThreadCall, RightSide, Statement}
+use Rattle.c_program.specs.Tree.{Expression, ObjectPlace, ThreadCall, Statement}
 use Rattle.c_program.specs.Resolved.{creates_of, object_of}
 use Rattle.c_rules.specs.declared.fault.Rule.TheVariants as rule
 use Rattle.c_rules.specs.declared.findings.Findings.{Findings}
@@ -31,6 +31,7 @@ use Rattle.c_expressions.specs.Callees.{function_name, library_name}
 use Rattle.c_expressions.specs.Expressions.{value, index, argument, arguments, variable_of}
 use Rattle.c_calls.specs.Arguments as a
 use Rattle.c_expressions.specs.Targets as t
+use Rattle.c_calls.specs.Cuts.{uncut}
 use Rattle.c_calls.specs.Calls as c
 use Rattle.c_resolved_program.specs.Orders.{left, given}
 use Rattle.c_resolved_program.proofs.Walks.{turn}
@@ -267,7 +268,7 @@ module _ (s : Scope) where
   exit_of : (at : ℕ) (list whole : List Argument) → MakesIt (c.exit_of s at whole (c.one list))
   unfolding c.exit
   exit_of at [] whole = looked_call whole
-  exit_of at (x ∷ []) whole = makes_nothing (a.pointer_argument s x) (λ v. Statement.Return at (Some (RightSide.Value v))) (quiet_pointer_argument s x)
+  exit_of at (x ∷ []) whole = makes_nothing (a.pointer_argument s x) (λ v. Statement.Return at (Some v)) (quiet_pointer_argument s x)
   exit_of at (x ∷ y ∷ more) whole = looked_call whole
 
   mutex_init_of : (at : ℕ) (list whole : List Argument) → MakesIt (c.mutex_init_of s at whole (c.two list))
@@ -366,14 +367,15 @@ module _ (s : Scope) where
   unfolding c.call
   call_makes at x = call_of (look_up s (out-Call x).name.bytes) at (out-Call x).name.offset (out-Call x).arguments
 
-  right_from : (e : ExpressionTree) (r : Option (ℕ × CallTree)) → IsQuiet (c.right_from s e r)
+  right_from : (at slot : ℕ) (e : ExpressionTree) (r : Option (ℕ × CallTree)) → IsQuiet (c.right_from s at slot e r)
   unfolding c.right_call c.right_value
-  right_from e (Some r) =
+  right_from at slot e (Some r) =
       let list = (out-Call r.1).arguments in
-      let at = (out-Call r.1).name.offset in
-      quiet_then (c.function_call s r.0 true at list) (λ x. pure (c.right_called x.0 x.1)) (quiet_function_call r.0 true at list) (λ x. quiet_pure (c.right_called x.0 x.1))
-  right_from e None = quiet_then (value s e) (λ x. pure (RightSide.Value x)) (quiet_value s e) (λ x. quiet_pure (RightSide.Value x))
+      let name_at = (out-Call r.1).name.offset in
+      let made = λ (x : Option ℕ × List Expression). c.called_value at slot (c.value_type (slice_get s.headers r.0)) x.0 x.1 in
+      quiet_then (c.function_call s r.0 true name_at list) (λ x. pure (made x)) (quiet_function_call r.0 true name_at list) (λ x. quiet_pure (made x))
+  right_from at slot e None = quiet_then (value s e) (λ x. pure (uncut x)) (quiet_value s e) (λ x. quiet_pure (uncut x))
 
-  pub quiet_right : (e : ExpressionTree) → IsQuiet (c.right_side s e)
+  pub quiet_right : (at slot : ℕ) (e : ExpressionTree) → IsQuiet (c.right_side s at slot e)
   unfolding c.right_side
-  quiet_right e = right_from e (c.function_called s e)
+  quiet_right at slot e = right_from at slot e (c.function_called s e)

@@ -37,7 +37,7 @@ use Rattle.c_resolved_program.proofs.SimpleLeaves.{any_part, each_part, one_name
 use Rattle.c_resolved_program.proofs.StatementLeaves.{IsStatement}
 use Rattle.c_resolved_program.proofs.BlockLeaves.{block_gives, statement_gives}
 use Rattle.c_resolved_program.proofs.FileCounts.{IsSmall, Does, small_more}
-use Rattle.c_resolved_program.proofs.FunctionCounts.{BodyGrows, function_does}
+use Rattle.c_resolved_program.proofs.FunctionCounts.{BodyDeclares, function_does}
 use Rattle.c_resolved_program.proofs.ObjectCounts.{objects_does}
 use Rattle.c_resolved_program.proofs.Walks.{IfAny}
 
@@ -120,7 +120,7 @@ abbrev pub IsUnit : ℕ → TranslationUnit → Type 0
 IsUnit n tree = HasValidLeaves tree × Adds n tree.declarations
 
 abbrev IsBody : ℕ → Option Block → Type 0
-IsBody n x = AreValid (of_any block_leaves x) × BodyGrows n x
+IsBody n x = AreValid (of_any block_leaves x) × BodyDeclares n x
 
 module _ (cast expr : Phrase Expression) (statement : Phrase Statement) (of_cast : Good IsExpression cast) (of_expr : Good IsExpression expr)
     (of_statement : Gives IsValidToken IsStatement statement) where
@@ -192,7 +192,7 @@ module _ (cast expr : Phrase Expression) (statement : Phrase Statement) (of_cast
   defined_gives : Gives IsValidToken IsBody (d.defined cast expr statement)
   defined_gives =
       gives_then IsValidToken _ _ (block_gives cast expr of_cast of_expr statement of_statement)
-      (λ m b is. gives_pure IsValidToken _ (is.0, λ x. (let i = is.1 x in omega (arith, i))))
+      (λ m b is. gives_pure IsValidToken _ (is.0, let few = is.1 in omega (arith, few)))
 
   prototype_gives : Gives IsValidToken IsBody (d.prototype cast expr statement)
   prototype_gives = gives_then IsValidToken _ _ (sign_gives (Mark p.Semicolon)) (λ m _ _. gives_pure IsValidToken _ (tt, tt))

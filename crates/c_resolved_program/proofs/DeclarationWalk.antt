@@ -1,9 +1,8 @@
 -- The declarations of a text one after another: what holds before the first holds behind the last, where each keeps it.
 use Rattle.std.proofs.Common.{◌≡◌, refl, sym, ap, subst, ◌∙◌, inl, inr, ℕ, ◌<◌, Bool, false, List, [], ◌∷◌}
 use Rattle.std.proofs.Common.{◌++◌, length, Option, Some, None, append_assoc, append-nil}
-use Rattle.std.specs.Prelude.{◌⊎◌, ◌^◌, fold, slice_get, unwrap_or}
+use Rattle.std.specs.Prelude.{◌⊎◌, fold, slice_get, unwrap_or}
 use Rattle.std.specs.List.{AllByRecursion}
-use Rattle.std.proofs.Math.Nat.{le_of_lt}
 use Rattle.lists.proofs.Places.{all_back, all_front}
 use Rattle.c_tree.specs.declared.statement.Block.{Block}
 use Rattle.c_tree.specs.declared.declaration.Function.{Function as FunctionTree}
@@ -113,8 +112,8 @@ function_fronts f h (Some body) x z is = subst (λ t. AreFronts x.tables t) (sym
 
 -- ---- the walk
 
-small_of : (o : Option Function) (code : Function) → o ≡ Some code → IfAny (λ (f : Function). length f.locals < 2 ^ 32) o → length code.locals < 2 ^ 32
-small_of o code is all = subst (λ (z : Option Function). IfAny (λ (f : Function). length f.locals < 2 ^ 32) z) is all
+small_of : (o : Option Function) (code : Function) → o ≡ Some code → IfAny (λ (f : Function). f.declared_locals < 0xffff_ffff) o → code.declared_locals < 0xffff_ffff
+small_of o code is all = subst (λ (z : Option Function). IfAny (λ (f : Function). f.declared_locals < 0xffff_ffff) z) is all
 
 module _ (X : File) (main : ℕ) (numbered : IsNumbered (program_at X main)) (given_routines : GivesRoutines X.found (program_at X main)) where
   abbrev P : Program
@@ -123,11 +122,11 @@ module _ (X : File) (main : ℕ) (numbered : IsNumbered (program_at X main)) (gi
   abbrev Front : Function → File → Type 0
   Front code x = IsFront (x.tables.functions ++ code ∷ []) X.tables.functions
 
-  pub code_small : (code : Function) (x : File) → Front code x → length code.locals < 2 ^ 32
+  pub code_small : (code : Function) (x : File) → Front code x → code.declared_locals < 0xffff_ffff
   code_small code x front =
       let k = length x.tables.functions in
       small_of (slice_get X.tables.functions k) code (next_in x.tables.functions code X.tables.functions front)
-      (element_is (λ (f : Function). length f.locals < 2 ^ 32) X.tables.functions k numbered.locals)
+      (element_is (λ (f : Function). f.declared_locals < 0xffff_ffff) X.tables.functions k numbered.locals)
 
   -- ---- a function
 
@@ -138,8 +137,8 @@ module _ (X : File) (main : ℕ) (numbered : IsNumbered (program_at X main)) (gi
       let h = y.header x.scope f in
       function_leaves_it X.found P given_routines f h x (left (y.function_by f h x)) refl valid.1
       (λ body has tables.
-      le_of_lt (code_small (defined_at f (y.return_type h) body (headed f h x)) x
-      (subst (λ (t : Tables). IsFront t.functions X.tables.functions) tables within.tables.functions))) within.found
+      code_small (defined_at f (y.return_type h) body (headed f h x)) x
+      (subst (λ (t : Tables). IsFront t.functions X.tables.functions) tables within.tables.functions)) within.found
 
   function_within : (f : FunctionTree) (x : File) → AreValid (function_leaves f) → IsWithin X (left (y.function f x)) → IsWithin X x
   function_within f x valid within =

@@ -7,8 +7,8 @@ use Rattle.std.proofs.lemmas.List.Elements.{Contains-append_cases}
 use Rattle.lists.proofs.Places.{in_one, in_none}
 use Rattle.c_program.specs.declared.tree.ReturnType.{ReturnType}
 use Rattle.c_program.specs.declared.tree.ReturnType.TheVariants as returns_as
-use Rattle.c_program.specs.Tree.{Expression, RightSide, Statement, Function, Program}
-use Rattle.c_program.specs.Calls.{calls_of, calls_of_right, calls_of_returned}
+use Rattle.c_program.specs.Tree.{Expression, Statement, Function, Program}
+use Rattle.c_program.specs.Calls.{calls_of}
 use Rattle.c_program.specs.Resolved as r
 use Rattle.c_rules.specs.declared.findings.Findings.{Findings}
 use Rattle.c_rules.specs.declared.names.DeclaredType.{DeclaredType}
@@ -39,37 +39,98 @@ module _ (P : Program) (f : Function) where
   call_inside : (callee : ℕ) (list : List Expression) → r.IsCall P f callee list → Inside (callee ∷ [])
   call_inside callee list is g inside = subst (λ n. n < length P.functions) (in_one callee g inside) (slice_get_within P.functions callee is.code is.found)
 
-  right_inside : (x : RightSide) → r.IsRightSide P f x → Inside (calls_of_right x)
-  right_inside (RightSide.Value e) is = none_inside
-  right_inside (RightSide.Call callee list) is = call_inside callee list is.call
+  kept_inside : (into : Option ℕ) (callee : ℕ) (list : List Expression) → r.IsKeptCall P f into callee list → Inside (callee ∷ [])
+  kept_inside into callee list is = call_inside callee list is.call
 
-  return_inside : (returns : ReturnType) (x : Option RightSide) → r.IsReturn P f returns x → Inside (calls_of_returned x)
-  return_inside returns None is = none_inside
-  return_inside returns (Some (RightSide.Value e)) is = none_inside
-  return_inside returns_as.Void (Some (RightSide.Call callee list)) is = absurd is
-  return_inside (returns_as.Integer ty) (Some (RightSide.Call callee list)) is = call_inside callee list is.call
-  return_inside returns_as.Pointer (Some (RightSide.Call callee list)) is = absurd is
+  -- what stands before a step, and a condition
+  mutual
+    cut_inside : (x : Statement) → r.IsCut P f x → Inside (calls_of x)
+    cut_inside Statement.Done is = none_inside
+    cut_inside (Statement.Sequence x z) is = both_inside (calls_of x) (calls_of z) (cut_inside x is.0) (cut_inside z is.1)
+    cut_inside (Statement.Call at (Some slot) callee list) is = kept_inside (Some slot) callee list is
+    cut_inside (Statement.Keep at slot ty e) is = none_inside
+    cut_inside (Statement.Truth slot c) is = condition_inside c is.2
+    cut_inside (Statement.If c x z) is =
+        both_inside (calls_of c) (calls_of x ++ calls_of z) (condition_inside c is.0) (both_inside (calls_of x) (calls_of z) (cut_inside x is.1) (cut_inside z is.2))
+    cut_inside Statement.Empty is = absurd is
+    cut_inside (Statement.Block x) is = absurd is
+    cut_inside (Statement.Declare at local operators) is = absurd is
+    cut_inside (Statement.Assign at p x) is = absurd is
+    cut_inside (Statement.Update at p operator ty x) is = absurd is
+    cut_inside (Statement.Call at None callee list) is = absurd is
+    cut_inside (Statement.Test at e) is = absurd is
+    cut_inside (Statement.Both x z) is = absurd is
+    cut_inside (Statement.Either x z) is = absurd is
+    cut_inside (Statement.Opposite x) is = absurd is
+    cut_inside (Statement.While c x) is = absurd is
+    cut_inside (Statement.DoWhile x c) is = absurd is
+    cut_inside (Statement.For x c z w) is = absurd is
+    cut_inside (Statement.Switch at ty e x) is = absurd is
+    cut_inside (Statement.Label v operators) is = absurd is
+    cut_inside Statement.Break is = absurd is
+    cut_inside Statement.Continue is = absurd is
+    cut_inside (Statement.Return at x) is = absurd is
+    cut_inside (Statement.Print at format list) is = absurd is
+    cut_inside (Statement.Thread at call) is = absurd is
 
-  pub statement_inside : (x : Statement) (b : Bool) → r.IsStatement P f b x → Inside (calls_of x)
-  statement_inside (Statement.Sequence x z) b is = both_inside (calls_of x) (calls_of z) (statement_inside x b is.0) (statement_inside z b is.1)
-  statement_inside (Statement.Block x) b is = statement_inside x b is
-  statement_inside (Statement.Assign at p x) b is = right_inside x is.1
-  statement_inside (Statement.If c x z) b is = both_inside (calls_of x) (calls_of z) (statement_inside x b is.1) (statement_inside z b is.2)
-  statement_inside (Statement.While c x) b is = statement_inside x true is.1
-  statement_inside (Statement.DoWhile x c) b is = statement_inside x true is.0
-  statement_inside (Statement.For x c z w) b is =
-      both_inside (calls_of x) (calls_of z ++ calls_of w) (statement_inside x false is.0)
-      (both_inside (calls_of z) (calls_of w) (statement_inside z false is.2) (statement_inside w true is.3))
-  statement_inside (Statement.Return at x) b is = return_inside f.returns x is
-  statement_inside (Statement.Call at callee list) b is = call_inside callee list is
-  statement_inside Statement.Done b is = none_inside
-  statement_inside Statement.Empty b is = none_inside
-  statement_inside (Statement.Declare at local operators) b is = none_inside
-  statement_inside (Statement.Update at p operator ty x) b is = none_inside
-  statement_inside Statement.Break b is = none_inside
-  statement_inside Statement.Continue b is = none_inside
-  statement_inside (Statement.Print at format list) b is = none_inside
-  statement_inside (Statement.Thread at call) b is = none_inside
+    condition_inside : (x : Statement) → r.IsCondition P f x → Inside (calls_of x)
+    condition_inside (Statement.Sequence x z) is = both_inside (calls_of x) (calls_of z) (cut_inside x is.0) (condition_inside z is.1)
+    condition_inside (Statement.Test at e) is = none_inside
+    condition_inside (Statement.Both x z) is = both_inside (calls_of x) (calls_of z) (condition_inside x is.0) (condition_inside z is.1)
+    condition_inside (Statement.Either x z) is = both_inside (calls_of x) (calls_of z) (condition_inside x is.0) (condition_inside z is.1)
+    condition_inside (Statement.Opposite x) is = condition_inside x is
+    condition_inside Statement.Done is = absurd is
+    condition_inside Statement.Empty is = absurd is
+    condition_inside (Statement.Block x) is = absurd is
+    condition_inside (Statement.Declare at local operators) is = absurd is
+    condition_inside (Statement.Assign at p x) is = absurd is
+    condition_inside (Statement.Update at p operator ty x) is = absurd is
+    condition_inside (Statement.Call at into callee list) is = absurd is
+    condition_inside (Statement.Keep at slot ty e) is = absurd is
+    condition_inside (Statement.Truth slot c) is = absurd is
+    condition_inside (Statement.If c x z) is = absurd is
+    condition_inside (Statement.While c x) is = absurd is
+    condition_inside (Statement.DoWhile x c) is = absurd is
+    condition_inside (Statement.For x c z w) is = absurd is
+    condition_inside (Statement.Switch at ty e x) is = absurd is
+    condition_inside (Statement.Label v operators) is = absurd is
+    condition_inside Statement.Break is = absurd is
+    condition_inside Statement.Continue is = absurd is
+    condition_inside (Statement.Return at x) is = absurd is
+    condition_inside (Statement.Print at format list) is = absurd is
+    condition_inside (Statement.Thread at call) is = absurd is
+
+  pub statement_inside : (x : Statement) (a : r.Around) → r.IsStatement P f a x → Inside (calls_of x)
+  statement_inside (Statement.Sequence x z) a is = both_inside (calls_of x) (calls_of z) (statement_inside x a is.0) (statement_inside z a is.1)
+  statement_inside (Statement.Block x) a is = statement_inside x (r.within a) is
+  statement_inside (Statement.Call at into callee list) a is = kept_inside into callee list is
+  statement_inside (Statement.Truth slot c) a is = condition_inside c is.2
+  statement_inside (Statement.If c x z) a is =
+      both_inside (calls_of c) (calls_of x ++ calls_of z) (condition_inside c is.0)
+      (both_inside (calls_of x) (calls_of z) (statement_inside x (r.within a) is.1) (statement_inside z (r.within a) is.2))
+  statement_inside (Statement.While c x) a is = both_inside (calls_of c) (calls_of x) (condition_inside c is.0) (statement_inside x r.in_loop is.1)
+  statement_inside (Statement.DoWhile x c) a is = both_inside (calls_of x) (calls_of c) (statement_inside x r.in_loop is.0) (condition_inside c is.1)
+  statement_inside (Statement.For x c z w) a is =
+      both_inside (calls_of x) (calls_of c ++ (calls_of z ++ calls_of w)) (statement_inside x r.nowhere is.0)
+      (both_inside (calls_of c) (calls_of z ++ calls_of w) (condition_inside c is.1)
+      (both_inside (calls_of z) (calls_of w) (statement_inside z r.nowhere is.2) (statement_inside w r.in_loop is.3)))
+  statement_inside (Statement.Switch at ty e x) a is = statement_inside x (r.in_switch ty a) is.2
+  statement_inside Statement.Done a is = none_inside
+  statement_inside Statement.Empty a is = none_inside
+  statement_inside (Statement.Declare at local operators) a is = none_inside
+  statement_inside (Statement.Assign at p x) a is = none_inside
+  statement_inside (Statement.Update at p operator ty x) a is = none_inside
+  statement_inside (Statement.Keep at slot ty e) a is = none_inside
+  statement_inside (Statement.Test at e) a is = absurd is
+  statement_inside (Statement.Both x z) a is = absurd is
+  statement_inside (Statement.Either x z) a is = absurd is
+  statement_inside (Statement.Opposite x) a is = absurd is
+  statement_inside (Statement.Label v operators) a is = none_inside
+  statement_inside Statement.Break a is = none_inside
+  statement_inside Statement.Continue a is = none_inside
+  statement_inside (Statement.Return at x) a is = none_inside
+  statement_inside (Statement.Print at format list) a is = none_inside
+  statement_inside (Statement.Thread at call) a is = none_inside
 
 -- ---- a definition
 
@@ -85,10 +146,19 @@ no_routine f returns_as.Pointer h = cc
 
 module _ {whole : Findings} {P : Program} {number : ℕ} {h : Header} {code : Function} (d : IsDefined whole P number h code) where
   pub function_is : r.IsName code.name → r.IsFunction P code
-  function_is name = record { name = name; parameters = d.front; scalars = d.scalars; lengths = d.lengths; body = d.body.is }
+  function_is name = record {
+    name = name;
+    parameters = d.front;
+    declared_ = d.declared_;
+    slots = d.slots;
+    few = d.few;
+    scalars = d.scalars;
+    lengths = d.lengths;
+    body = d.body.is d.fits;
+  }
 
   pub found_is : IsFound P.functions whole number code
-  found_is = record { calls = d.body.calls; inside = statement_inside P code code.body false d.body.is }
+  found_is = record { calls = d.body.calls; inside = statement_inside P code code.body r.nowhere (d.body.is d.fits) }
 
   -- a function that returns a pointer is a start routine
   pub start_is : r.IfStartRoutine code code.returns

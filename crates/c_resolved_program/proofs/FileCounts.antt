@@ -10,16 +10,16 @@ use Rattle.c_resolution.specs.Resolving.{after}
 use Rattle.c_resolved_program.proofs.LocalCounts.{Grows, locals_behind}
 use Rattle.c_resolved_program.proofs.Lists.{all_both}
 
--- so many at most, and each function has so many locals at most
+-- so many at most, and each function declares so many locals at most
 pub record IsTabled (m : ℕ) (t : Tables) : Type 0 where
   pub functions : length t.functions ≤ m
-  pub locals : AllByRecursion (λ (f : Function). length f.locals ≤ m) t.functions
+  pub locals : AllByRecursion (λ (f : Function). f.declared_locals ≤ m) t.functions
   pub globals : length t.globals ≤ m
   pub threads : length t.threads ≤ m
   pub mutexes : length t.mutexes ≤ m
   pub barriers : length t.barriers ≤ m
 
-all_more : (m n : ℕ) → m ≤ n → (list : List Function) → AllByRecursion (λ (f : Function). length f.locals ≤ m) list → AllByRecursion (λ (f : Function). length f.locals ≤ n) list
+all_more : (m n : ℕ) → m ≤ n → (list : List Function) → AllByRecursion (λ (f : Function). f.declared_locals ≤ m) list → AllByRecursion (λ (f : Function). f.declared_locals ≤ n) list
 all_more m n le [] all = tt
 all_more m n le (f ∷ list) all = (omega (arith, all.0, le), all_more m n le list all.1)
 
@@ -50,6 +50,10 @@ then_does m k m' k' (Outcome.Gives a x) q h hq = hq a x h
 pub does_then : {A B : Type 0} (m k m' k' m'' k'' : ℕ) (p : Declares A) (q : A → Declares B) → Does m k m' k' p → ((a : A) → Does m' k' m'' k'' (q a)) → Does m k m'' k'' (p >>= q)
 does_then m k m' k' m'' k'' p q hp hq x h = then_does m' k' m'' k'' (p x) q (hp x h) hq
 
+pub then_file : {A B : Type 0} (o : Outcome File A) (q : A → Declares B) (Before Behind : File → Type 0) → Before (after o) →
+    ((a : A) (x : File) → Before x → Behind (after (q a x))) → Behind (after (and_then o q))
+then_file (Outcome.Gives a x) q Before Behind h hq = hq a x h
+
 pub does_pure : {A : Type 0} (m k : ℕ) (a : A) → Does m k m k (pure a)
 does_pure m k a x h = h
 
@@ -77,9 +81,9 @@ does_each step (b ∷ rest) m k (Outcome.Gives a x) h small =
 pub one_longer : {A : Type 0} (m : ℕ) (xs : List A) (a : A) → length xs ≤ m → length (xs ++ a ∷ []) ≤ m + 1
 one_longer m xs a le = omega (arith, le, length-append xs (a ∷ []))
 
-pub with_function_tabled : (m n : ℕ) (f : Function) (t : Tables) → m + 1 ≤ n → length f.locals ≤ n → IsTabled m t → IsTabled n (with_function f t)
+pub with_function_tabled : (m n : ℕ) (f : Function) (t : Tables) → m + 1 ≤ n → f.declared_locals ≤ n → IsTabled m t → IsTabled n (with_function f t)
 with_function_tabled m n f t le small h =
-    let same = all_both (λ (g : Function). length g.locals ≤ n) t.functions (f ∷ []) (all_more m n (omega (arith, le)) t.functions h.locals) (small, tt) in
+    let same = all_both (λ (g : Function). g.declared_locals ≤ n) t.functions (f ∷ []) (all_more m n (omega (arith, le)) t.functions h.locals) (small, tt) in
     record {
       functions = (let i = one_longer m t.functions f h.functions in omega (arith, i, le));
       locals = same;

@@ -1,5 +1,5 @@
 -- What holds between two declarations at file scope, and that a function keeps it.
-use Rattle.std.proofs.Common.{◌≡◌, refl, sym, ap, subst, ◌∙◌, inl, inr, ℕ, zero, suc, ◌<◌, ◌≤◌, false, List, []}
+use Rattle.std.proofs.Common.{◌≡◌, refl, sym, ap, subst, ◌∙◌, inl, inr, ℕ, suc, ◌<◌, ◌≤◌, false, List, []}
 use Rattle.std.proofs.Common.{◌∷◌, ◌++◌, map, length, Option, Some, None, append-nil, arith}
 use Rattle.std.specs.Prelude.{◌⊎◌, ◌^◌, is_some, slice_get}
 use Rattle.std.proofs.lemmas.List.{length-map}
@@ -22,6 +22,7 @@ use Rattle.c_resolution.specs.Functions as y
 use Rattle.c_resolution.specs.Globals.{text}
 use Rattle.c_resolution.specs.Texts.{definitions}
 use Rattle.c_resolved_program.proofs.Locals.{number_is}
+use Rattle.c_resolved_program.proofs.Maxima.{below_of}
 use Rattle.c_resolved_program.proofs.Ready.{IsFileScope}
 use Rattle.c_resolved_program.proofs.Functions.{defined_at}
 use Rattle.c_resolved_program.proofs.Filed.{headed}
@@ -116,15 +117,14 @@ module _ (whole : Findings) (P : Program) (D : List (List ℕ × ℕ)) (done res
 
   -- the numbers of its functions and locals have 32 bits
   abbrev IsSmall : Block → Type 0
-  IsSmall body = (count < 2 ^ 32) × (length (code body).locals < 2 ^ 32)
+  IsSmall body = (count < 2 ^ 32) × ((code body).declared_locals < 0xffff_ffff)
 
   own_parameters : (body : Block) → f.body ≡ Some body → IsSmall body → (code body).parameters ≡ length h.parameters
   own_parameters body has small =
       let parameters : length (headed f h x).scope.locals ≡ length h.parameters =
       ap length (is_left.locals ∙ ap (λ l. l ++ is_left.more) (p.locals ∙ holds.scope.locals)) ∙ is_left.count ∙ sym (length-map (y.written f) y.parameter_type) in
-      let fits = is_left.fits body has in
-      let locals = small.1 in
-      number_is (length (headed f h x).scope.locals) (2 ^ 32) (omega arith) whole_word ∙ parameters
+      let few = below_of (length (headed f h x).scope.locals) (code body).declared_locals 0xffff_ffff (is_left.fits body has) small.1 in
+      number_is (length (headed f h x).scope.locals) (2 ^ 32) (omega (arith, few)) whole_word ∙ parameters
 
   abbrev names : List (List ℕ)
   names = body_names (done ++ external.Function f ∷ [])
@@ -214,7 +214,7 @@ module _ (whole : Findings) (P : Program) (D : List (List ℕ × ℕ)) (done res
                 ∙ sym (more ∙ ap (λ b. length (body_names done ++ names_of f b)) has ∙ length_more (body_names done) name),
           )
 
-  pub function_keeps : ((body : Block) → f.body ≡ Some body → (count < 2 ^ 32) × (length (code body).locals < 2 ^ 32)) → FileHolds P D (done ++ external.Function f ∷ []) z
+  pub function_keeps : ((body : Block) → f.body ≡ Some body → (count < 2 ^ 32) × ((code body).declared_locals < 0xffff_ffff)) → FileHolds P D (done ++ external.Function f ∷ []) z
   function_keeps small = record {
     scope = placed_scope whole P D f h x z p is_left.keeps.locals holds.scope;
     definitions = p.definitions ∙ holds.definitions;

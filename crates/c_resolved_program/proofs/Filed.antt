@@ -1,6 +1,5 @@
 -- A function at file scope: what it leaves, and that its definition is in order.
-use Rattle.std.proofs.Common.{◌≡◌, sym, ap, subst, ◌∙◌, ◌≤◌, length, Some}
-use Rattle.std.specs.Prelude.{◌^◌}
+use Rattle.std.proofs.Common.{◌≡◌, sym, ap, subst, ◌∙◌, ◌<◌, length, Some}
 use Rattle.c_tree.specs.declared.statement.Block.{Block}
 use Rattle.c_tree.specs.declared.declaration.Function.{Function as FunctionTree}
 use Rattle.c_program.specs.Tree.{Program}
@@ -43,19 +42,19 @@ pub function_defined : (whole : Findings) (P : Program) (given_routines : GivesR
     AreValid (block_leaves body) →
     let code = defined_at f (y.return_type h) body (headed f h x) in
     let count = length x.tables.functions in
-    length code.locals ≤ 2 ^ 32 → IsReady P (place_in_tree count) f h code (named f h count (state x.scope x.found)) →
+    code.declared_locals < 0xffff_ffff → IsReady P (place_in_tree count) f h code (named f h count (state x.scope x.found)) →
     IsPartOf whole (left (y.definition f (y.return_type h) body (headed f h x))).found → IsDefined whole P (place_in_tree count) h code
 function_defined whole P given_routines f h body x valid =
     let count = length x.tables.functions in
     let n = named f h count (state x.scope x.found) in
     let code_of = λ (s : State).
-    let o = items body (before_body count s) in
+    let o = items body (before_body count body s) in
     y.defined f (y.return_type h) body (length s.scope.locals) (given o) (left o).scope.locals (left o).scope.local_names in
     let e = head_is f h count (state x.scope x.found) in
     λ small ready part.
     let ended = subst (λ (z : File). IsPartOf whole z.found) (definition_is f (y.return_type h) body (headed f h x)) part in
     subst (λ (s : State). IsDefined whole P (place_in_tree count) h (code_of s)) (sym e)
     (definition_in_order whole P given_routines f h body count n valid
-    (subst (λ (s : State). length (code_of s).locals ≤ 2 ^ 32) e small)
+    (subst (λ (s : State). (code_of s).declared_locals < 0xffff_ffff) e small)
     (subst (λ (s : State). IsReady P (place_in_tree count) f h (code_of s) n) e ready)
-    (subst (λ (s : State). IsPartOf whole (left (items body (before_body count s))).found) e ended))
+    (subst (λ (s : State). IsPartOf whole (left (items body (before_body count body s))).found) e ended))

@@ -1,67 +1,83 @@
 -- What a function at file scope adds: one function at most, whose locals are its parameters and those of its body.
-use Rattle.std.proofs.Common.{refl, ℕ, ◌≤◌, length, Option, Some, None, arith}
+use Rattle.std.proofs.Common.{ℕ, ◌≤◌, length, Option, Some, None, le_trans, arith}
 use Rattle.std.specs.Prelude.{◌+◌, ⊤}
 use Rattle.c_tree.specs.declared.statement.Block.{Block}
 use Rattle.c_tree.specs.declared.declaration.Function.{Function as FunctionTree}
 use Rattle.c_program.specs.declared.tree.ReturnType.{ReturnType}
 use Rattle.c_program.specs.Tree.{Statement}
 use Rattle.c_rules.specs.declared.names.Header.{Header}
+use Rattle.c_rules.specs.Constants.{plus}
 use Rattle.c_rules.specs.Names.{closed}
-use Rattle.c_rules.specs.Walks.{place_in_tree, ◌>>=◌}
-use Rattle.c_resolution.specs.States.{scoping}
-use Rattle.c_resolution.specs.Files.{going}
+use Rattle.c_rules.specs.Walks.{Outcome, place_in_tree, ◌>>=◌}
+use Rattle.c_resolution.specs.States.{State, Goes, state, scoping}
+use Rattle.c_resolution.specs.Files.{File, Tables as FileTables, Declares, in_file, going}
 use Rattle.c_resolution.specs.Functions as y
+use Rattle.c_resolution.specs.Declarators.{block_declarators}
+use Rattle.c_resolution.specs.Resolving.{after}
 use Rattle.c_resolution.specs.Statements.{items}
-use Rattle.c_resolved_program.proofs.LocalCounts.{Grows, grows_scoping, closed_same}
+use Rattle.c_resolved_program.proofs.LocalCounts.{grows_scoping, closed_same}
 use Rattle.c_resolved_program.proofs.ParameterCounts.{head_grows}
-use Rattle.c_resolved_program.proofs.FileCounts.{Does, small_more, does_then, does_going, does_quiet, with_function_tabled}
+use Rattle.c_resolved_program.proofs.FileCounts.{IsTabled, IsSmall, Does, tabled_more, then_file, does_going, does_quiet, with_function_tabled}
 
-finished_does : (m k n : ℕ) (f : FunctionTree) (returns : ReturnType) (body : Block) (count : ℕ) (b : Statement) → m + 1 ≤ n → k ≤ n → Does m k n k (y.finished f returns body count b)
-finished_does m k n f returns body count b le le' x h =
-    record {
-      tables = with_function_tabled m n (y.defined f returns body count b x.scope.locals x.scope.local_names) x.tables le (omega (arith, le', h.locals)) h.tables;
-      locals = h.locals;
-    }
+-- a part that leaves so many declarations at most, however many locals it declares
+abbrev Tables : {A : Type 0} → ℕ → ℕ → Declares A → Type 0
+Tables m n w = (x : File) → IsTabled m x.tables → IsTabled n (after (w x)).tables
 
-definition_does : (m k j n : ℕ) (f : FunctionTree) (returns : ReturnType) (body : Block) → m + 1 ≤ n → k + j ≤ n → Grows j (items body) → Does m k n (k + j) (y.definition f returns body)
+tables_then : {A B : Type 0} (m n : ℕ) (p : Declares A) (q : A → Declares B) → Tables m m p → ((a : A) → Tables m n (q a)) → Tables m n (p >>= q)
+tables_then m n p q hp hq x h = then_file (p x) q (λ (z : File). IsTabled m z.tables) (λ (z : File). IsTabled n z.tables) (hp x h) hq
+
+in_file_tables : {A : Type 0} (m : ℕ) (t : FileTables) (o : Outcome State A) → IsTabled m t → IsTabled m (after (in_file t o)).tables
+in_file_tables m t (Outcome.Gives a s) h = h
+
+tables_going : {A : Type 0} (m : ℕ) (w : Goes A) → Tables m m (going w)
+tables_going m w x h = in_file_tables m x.tables (w (state x.scope x.found)) h
+
+least_sum : (count k n j : ℕ) → count ≤ k → n ≤ j → plus (place_in_tree count) n ≤ k + j
+least_sum count k n j h le = grind arith
+
+finished_tables : (m n : ℕ) (f : FunctionTree) (returns : ReturnType) (body : Block) (count : ℕ) (b : Statement) → m + 1 ≤ n → y.kept_from count body ≤ n →
+    Tables m n (y.finished f returns body count b)
+finished_tables m n f returns body count b le fits x h = with_function_tabled m n (y.defined f returns body count b x.scope.locals x.scope.local_names) x.tables le fits h
+
+definition_tables : (m k j n : ℕ) (f : FunctionTree) (returns : ReturnType) (body : Block) (x : File) → m + 1 ≤ n → k + j ≤ n → block_declarators body ≤ j → IsSmall m k x →
+    IsTabled n (after (y.definition f returns body x)).tables
 unfolding y.definition
-definition_does m k j n f returns body le le' grows x h =
+definition_tables m k j n f returns body x le le' few h =
     let count = length x.scope.locals in
     let out = λ (b : Statement). going (scoping y.left) >>= (λ _. y.finished f returns body count b) in
     let next = λ (_ : Unit {0}). going (items body) >>= out in
-    let enter = y.entered (place_in_tree (length x.tables.functions)) in
-    does_then m k m k n (k + j) (going (scoping enter)) next (does_quiet m k (scoping enter) (grows_scoping enter (λ s. refl)))
-    (λ _. does_then m k m (k + j) n (k + j) (going (items body)) out (does_going m k j (items body) grows)
-    (λ b. does_then m (k + j) m (k + j) n (k + j) (going (scoping y.left)) (λ _. y.finished f returns body count b)
-    (does_quiet m (k + j) (scoping y.left) (grows_scoping y.left (λ s. refl)))
-    (λ _. finished_does m (k + j) n f returns body count b le le'))) x h
+    let enter = y.entered (place_in_tree (length x.tables.functions)) (y.kept_from count body) in
+    let fits = least_sum count k (block_declarators body) j h.locals few in
+    tables_then m n (going (scoping enter)) next (tables_going m (scoping enter))
+    (λ _. tables_then m n (going (items body)) out (tables_going m (items body))
+    (λ b. tables_then m n (going (scoping y.left)) (λ _. y.finished f returns body count b) (tables_going m (scoping y.left))
+    (λ _. finished_tables m n f returns body count b le (le_trans fits le')))) x h.tables
 
 -- what a body declares at most
-abbrev pub BodyGrows : ℕ → Option Block → Type 0
-BodyGrows j None = ⊤
-BodyGrows j (Some body) = Grows j (items body)
+abbrev pub BodyDeclares : ℕ → Option Block → Type 0
+BodyDeclares j None = ⊤
+BodyDeclares j (Some body) = block_declarators body ≤ j
 
-body_does : (m k j n : ℕ) (f : FunctionTree) (returns : ReturnType) (body : Option Block) → m + 1 ≤ n → k + j ≤ n → BodyGrows j body → Does m k n (k + j) (y.body_of f returns body)
-body_does m k j n f returns None le le' grows x h = small_more m k n (k + j) x (omega (arith, le)) (omega arith) h
-body_does m k j n f returns (Some body) le le' grows x h = definition_does m k j n f returns body le le' grows x h
+body_tables : (m k j n : ℕ) (f : FunctionTree) (returns : ReturnType) (body : Option Block) (x : File) → m + 1 ≤ n → k + j ≤ n → BodyDeclares j body → IsSmall m k x →
+    IsTabled n (after (y.body_of f returns body x)).tables
+body_tables m k j n f returns None x le le' few h = tabled_more m n x.tables (omega (arith, le)) h.tables
+body_tables m k j n f returns (Some body) x le le' few h = definition_tables m k j n f returns body x le le' few h
 
-emptied_does : (m k : ℕ) → Does m k m 0 (going (scoping y.without_locals))
-emptied_does m k x h = record { tables = h.tables; locals = omega arith }
-
-function_by_does : (m j n : ℕ) (f : FunctionTree) (h : Header) → m + 1 ≤ n → length f.parameters + j ≤ n → BodyGrows j f.body → Does m 0 n 0 (y.function_by f h)
+function_by_does : (m j n : ℕ) (f : FunctionTree) (h : Header) → m + 1 ≤ n → length f.parameters + j ≤ n → BodyDeclares j f.body → Does m 0 n 0 (y.function_by f h)
 unfolding y.function_by
-function_by_does m j n f h le le' grows x small =
+function_by_does m j n f h le le' few x small =
     let k = length f.parameters in
     let out = λ (_ : Unit {0}). going (scoping closed) in
     let empty = λ (_ : Unit {0}). going (scoping y.without_locals) >>= out in
     let next = λ (_ : Unit {0}). y.body_of f (y.return_type h) f.body >>= empty in
     let head = y.head f h (length x.tables.functions) in
-    does_then m 0 m (0 + k) n 0 (going head) next (does_going m 0 k head (head_grows f h (length x.tables.functions)))
-    (λ _. does_then m (0 + k) n ((0 + k) + j) n 0 (y.body_of f (y.return_type h) f.body) empty
-    (body_does m (0 + k) j n f (y.return_type h) f.body le (omega (arith, le')) grows)
-    (λ _. does_then n ((0 + k) + j) n 0 n 0 (going (scoping y.without_locals)) out (emptied_does n ((0 + k) + j))
-    (λ _. does_quiet n 0 (scoping closed) (grows_scoping closed closed_same)))) x small
+    let Tabled : File → Type 0 = λ (z : File). IsTabled n z.tables in
+    then_file (going head x) next (IsSmall m (0 + k)) (IsSmall n 0) (does_going m 0 k head (head_grows f h (length x.tables.functions)) x small)
+    (λ _ z first. then_file (y.body_of f (y.return_type h) f.body z) empty Tabled (IsSmall n 0)
+    (body_tables m (0 + k) j n f (y.return_type h) f.body z le (omega (arith, le')) few first)
+    (λ _ w second. then_file (going (scoping y.without_locals) w) out (IsSmall n 0) (IsSmall n 0) (record { tables = second; locals = omega arith })
+    (λ _ v last. does_quiet n 0 (scoping closed) (grows_scoping closed closed_same) v last)))
 
-pub function_does : (m j n : ℕ) (f : FunctionTree) → m + 1 ≤ n → length f.parameters + j ≤ n → BodyGrows j f.body → Does m 0 n 0 (y.function f)
+pub function_does : (m j n : ℕ) (f : FunctionTree) → m + 1 ≤ n → length f.parameters + j ≤ n → BodyDeclares j f.body → Does m 0 n 0 (y.function f)
 unfolding y.function
-function_does m j n f le le' grows x small = function_by_does m j n f (y.header x.scope f) le le' grows x small
+function_does m j n f le le' few x small = function_by_does m j n f (y.header x.scope f) le le' few x small

@@ -1,6 +1,6 @@
 -- What a function at file scope leaves: the scope behind its name, and one function more where it has a body.
-use Rattle.std.proofs.Common.{◌≡◌, refl, sym, ap, subst, ◌∙◌, ℕ, ◌≤◌, false, List, [], ◌∷◌, ◌++◌, length, Option, Some, None, append-nil, arith}
-use Rattle.std.specs.Prelude.{◌^◌, ◌-◌, is_some}
+use Rattle.std.proofs.Common.{◌≡◌, refl, sym, ap, subst, ◌∙◌, ℕ, ◌<◌, ◌≤◌, false, List, [], ◌∷◌, ◌++◌, length, Option, Some, None, le_trans, arith}
+use Rattle.std.specs.Prelude.{is_some}
 use Rattle.std.proofs.lemmas.Option.{same_Some, none-some}
 use Rattle.std.proofs.Math.Nat.{le_refl}
 use Rattle.c_tree.specs.declared.statement.Block.{Block}
@@ -18,7 +18,7 @@ use Rattle.c_resolution.specs.Statements.{items}
 use Rattle.c_resolution.specs.Files.{File, Declares, file, going, with_function}
 use Rattle.c_resolution.specs.Functions as y
 use Rattle.c_resolved_program.specs.Leaves.{AreValid, block_leaves, of_any}
-use Rattle.c_resolved_program.specs.Orders.{left, IsPartOf, IsAhead, GivesRoutines}
+use Rattle.c_resolved_program.specs.Orders.{left, declared_in, IsPartOf, IsAhead, GivesRoutines}
 use Rattle.c_resolved_program.proofs.Walks.{turn}
 use Rattle.c_resolved_program.proofs.BodyScope as m
 use Rattle.c_resolved_program.proofs.Statements.{block_claim}
@@ -26,7 +26,8 @@ use Rattle.c_resolved_program.proofs.Parameters.{parameters_add}
 use Rattle.c_resolved_program.proofs.Functions.{in_file_is, named, inside, head_is, before_body, defined_at, definition_is, moving_parameters}
 use Rattle.c_resolved_program.proofs.Filed.{headed, function_left}
 use Rattle.c_resolved_program.proofs.LocalCounts.{opened_locals, closed_same}
-use Rattle.c_resolved_program.proofs.Steps.{front_le}
+use Rattle.c_resolved_program.proofs.Steps.{front_le, declared_few}
+use Rattle.c_resolved_program.proofs.DefinedLocals.{declared_front}
 
 -- ---- scopes
 
@@ -77,8 +78,8 @@ moved_keeps s t h =
     closed_keeps s (y.without_locals t) (h.outer ∙ opened_outer s) (h.headers ∙ opened_headers s) (h.definitions ∙ opened_definitions s) refl
 
 -- and behind a body after them
-body_keeps : (s t u : Scope) (number : ℕ) → m.Moves (opened s) t → m.Moves (y.entered number t) u → Keeps s (closed (y.without_locals (y.left u)))
-body_keeps s t u number h k =
+body_keeps : (s t u : Scope) (number from : ℕ) → m.Moves (opened s) t → m.Moves (y.entered number from t) u → Keeps s (closed (y.without_locals (y.left u)))
+body_keeps s t u number from h k =
     closed_keeps s (y.without_locals (y.left u)) (k.outer ∙ h.outer ∙ opened_outer s) (k.headers ∙ h.headers ∙ opened_headers s)
     (k.definitions ∙ h.definitions ∙ opened_definitions s) refl
 
@@ -99,7 +100,7 @@ prototype_left f h x is =
 
 -- its body
 abbrev pub body_at : FunctionTree → Header → Block → File → Outcome State Statement
-body_at f h body x = items body (before_body (length x.tables.functions) (left (y.head f h (length x.tables.functions) (state x.scope x.found))))
+body_at f h body x = items body (before_body (length x.tables.functions) body (left (y.head f h (length x.tables.functions) (state x.scope x.found))))
 
 pub defined_left : (f : FunctionTree) (h : Header) (body : Block) (x : File) → f.body ≡ Some body →
     left (y.function_by f h x) ≡
@@ -121,15 +122,15 @@ pub record IsFunctionLeft (whole : Findings) (f : FunctionTree) (h : Header) (x 
   pub more : List LocalVariable
   pub locals : (headed f h x).scope.locals ≡ (named f h (length x.tables.functions) (state x.scope x.found)).scope.locals ++ more
   pub count : length more ≡ length (y.written f)
-  pub fits : (body : Block) → f.body ≡ Some body → length (headed f h x).scope.locals ≤ length (defined_at f (y.return_type h) body (headed f h x)).locals
+  pub fits : (body : Block) → f.body ≡ Some body → length (headed f h x).scope.locals ≤ (defined_at f (y.return_type h) body (headed f h x)).declared_locals
   pub tables : IsTabled f h f.body x z
 
 -- a function of no locals
 abbrev pub nobody : Function
-nobody = record { name = []; returns = returns_as.Void; parameters = 0; locals = []; local_names = []; body = Statement.Done; end = 0 }
+nobody = record { name = []; returns = returns_as.Void; parameters = 0; declared_locals = 0; locals = []; local_names = []; body = Statement.Done; end = 0 }
 
-pub no_locals : length nobody.locals ≤ 2 ^ 32
-no_locals = grind arith
+pub no_locals : nobody.declared_locals < 0xffff_ffff
+no_locals = omega arith
 
 module _ (whole : Findings) (P : Program) (given_routines : GivesRoutines whole P) where
   -- the head of a function
@@ -166,21 +167,22 @@ module _ (whole : Findings) (P : Program) (given_routines : GivesRoutines whole 
   -- its parameters are the first of its locals
   record IsBodyLeft (f : FunctionTree) (h : Header) (body : Block) (x : File) : Type 0 where
     found : IsPartOf whole (headed f h x).found
-    fits : length (headed f h x).scope.locals ≤ length (defined_at f (y.return_type h) body (headed f h x)).locals
+    fits : length (headed f h x).scope.locals ≤ (defined_at f (y.return_type h) body (headed f h x)).declared_locals
 
   body_left : (f : FunctionTree) (h : Header) (body : Block) (x : File) → AreValid (block_leaves body) →
-      length (defined_at f (y.return_type h) body (headed f h x)).locals ≤ 2 ^ 32 → IsPartOf whole (left (body_at f h body x)).found → IsBodyLeft f h body x
+      (defined_at f (y.return_type h) body (headed f h x)).declared_locals < 0xffff_ffff → IsPartOf whole (left (body_at f h body x)).found → IsBodyLeft f h body x
   body_left f h body x valid small part =
       let code = defined_at f (y.return_type h) body (headed f h x) in
-      let ended : IsAhead whole code (left (body_at f h body x)) = record { found = part; locals = ([], append-nil code.locals) } in
       let count = length x.tables.functions in
-      let within = before_body count (left (y.head f h count (state x.scope x.found))) in
+      let head = left (y.head f h count (state x.scope x.found)) in
+      let within = before_body count body head in
+      let ended : IsAhead whole code (left (body_at f h body x)) = record { found = part; locals = declared_front f (y.return_type h) count body head small } in
       let begun = ((block_claim whole P (place_in_tree count) code given_routines small body).does valid false).back within ended in
-      record { found = begun.found; fits = front_le within.scope.locals code.locals begun.locals }
+      record { found = begun.found; fits = le_trans (front_le within.scope.locals (declared_in code) begun.locals) (declared_few code) }
 
   pub function_leaves_it : (f : FunctionTree) (h : Header) (x z : File) → left (y.function_by f h x) ≡ z → AreValid (of_any block_leaves f.body) →
       ((body : Block) → f.body ≡ Some body → z.tables ≡ with_function (defined_at f (y.return_type h) body (headed f h x)) x.tables →
-      length (defined_at f (y.return_type h) body (headed f h x)).locals ≤ 2 ^ 32) →
+      (defined_at f (y.return_type h) body (headed f h x)).declared_locals < 0xffff_ffff) →
       IsPartOf whole z.found → IsFunctionLeft whole f h x z
   function_leaves_it f h x z is valid small part = by f.body refl
     where
@@ -218,11 +220,11 @@ module _ (whole : Findings) (P : Program) (given_routines : GivesRoutines whole 
             locals = head.locals;
             count = head.count;
             fits = λ other is.
-                subst (λ b. length (headed f h x).scope.locals ≤ length (defined_at f (y.return_type h) b (headed f h x)).locals)
+                subst (λ b. length (headed f h x).scope.locals ≤ (defined_at f (y.return_type h) b (headed f h x)).declared_locals)
                 (same_Some body other (sym has ∙ is)) whole_body.fits;
             keeps =
                 subst (λ (w : File). Keeps (named f h count begin).scope w.scope) (sym e)
-                (body_keeps (named f h count begin).scope (headed f h x).scope (left o).scope (place_in_tree count) (head_moves f h x)
-                (body_moves body (before_body count (left (y.head f h count begin)))));
+                (body_keeps (named f h count begin).scope (headed f h x).scope (left o).scope (place_in_tree count) (y.kept_from (length (headed f h x).scope.locals) body) (head_moves f h x)
+                (body_moves body (before_body count body (left (y.head f h count begin)))));
             tables = subst (λ o. IsTabled f h o x z) (sym has) tabled;
           }

@@ -126,20 +126,20 @@ pub in_file_is : {A : Type 0} (t : Tables) (o : Outcome State A) → in_file t o
 in_file_is t (Outcome.Gives a x) = refl
 
 -- what is known before a body, and behind it
-abbrev pub before_body : ℕ → State → State
-before_body count x = state (y.entered (place_in_tree count) x.scope) x.found
+abbrev pub before_body : ℕ → Block → State → State
+before_body count body x = state (y.entered (place_in_tree count) (y.kept_from (length x.scope.locals) body) x.scope) x.found
 
 abbrev pub defined_at : FunctionTree → ReturnType → Block → File → Function
 defined_at f returns body x =
-    let o = items body (before_body (length x.tables.functions) (state x.scope x.found)) in
+    let o = items body (before_body (length x.tables.functions) body (state x.scope x.found)) in
     y.defined f returns body (length x.scope.locals) (given o) (left o).scope.locals (left o).scope.local_names
 
 pub definition_is : (f : FunctionTree) (returns : ReturnType) (body : Block) (x : File) →
     left (y.definition f returns body x) ≡
-    (let o = items body (before_body (length x.tables.functions) (state x.scope x.found)) in
+    (let o = items body (before_body (length x.tables.functions) body (state x.scope x.found)) in
     file (y.left (left o).scope) (left o).found (with_function (defined_at f returns body x) x.tables))
 unfolding y.definition
 definition_is f returns body x =
-    let o = items body (before_body (length x.tables.functions) (state x.scope x.found)) in
+    let o = items body (before_body (length x.tables.functions) body (state x.scope x.found)) in
     let next : Statement → Declares (Unit {0}) = λ b. going (scoping y.left) >> y.finished f returns body (length x.scope.locals) b in
     ap (λ (z : Outcome File Statement). left (and_then z next)) (in_file_is x.tables o)

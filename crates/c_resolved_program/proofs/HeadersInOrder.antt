@@ -103,7 +103,7 @@ module _ (L : List ExternalDeclaration) (main : ℕ) (valid : AreValid (of_each 
 
   -- a definition is one of the program
   fits : (f : FunctionTree) (h : Header) (x w : File) → IsTabled f h f.body x w → IsWithin X w → (body : Block) → f.body ≡ Some body →
-      (length x.tables.functions < 2 ^ 32) × (length (defined_at f (y.return_type h) body (headed f h x)).locals < 2 ^ 32)
+      (length x.tables.functions < 2 ^ 32) × ((defined_at f (y.return_type h) body (headed f h x)).declared_locals < 0xffff_ffff)
   fits f h x w tabled inside body has =
       let code = defined_at f (y.return_type h) body (headed f h x) in
       let tables = subst (λ o. IsTabled f h o x w) has tabled in

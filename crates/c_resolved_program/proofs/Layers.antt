@@ -1,15 +1,16 @@
 -- What each layer of an expression's tree gives, where its parts do as they should.
-use Rattle.std.proofs.Common.{◌≡◌, refl, ℕ, Bool, true, false, List, length, Option, Some, None}
-use Rattle.std.specs.Prelude.{◌&&◌, if◌then◌else◌, ⊤}
+use Rattle.std.proofs.Common.{◌≡◌, refl, ℕ, Bool, true, false, List, length, Option, Some, None, arith}
+use Rattle.std.specs.Prelude.{◌+◌, ◌&&◌, if◌then◌else◌, ⊤}
 use Rattle.std.specs.List.{AllByRecursion}
+use Rattle.lists.proofs.Places.{in_none}
 use Rattle.c_tree.specs.declared.expression.UnaryOperator.{UnaryOperator}
 use Rattle.c_tree.specs.declared.expression.BinaryOperator.{BinaryOperator}
 use Rattle.c_tree.specs.declared.expression.BinaryOperator.TheVariants as b
 use Rattle.c_tree.specs.declared.expression.Specifiers.{Specifiers}
 use Rattle.c_tree.specs.declared.expression.Argument.TheOpen.{Argument-F, Form-F, Choice-F, Expression-F}
 use Rattle.c_program.specs.declared.tree.BinaryOperator.{BinaryOperator as ResolvedBinary}
-use Rattle.c_program.specs.Tree.{Expression, Condition, Function, Program}
-use Rattle.c_program.specs.Resolved.{IsCondition}
+use Rattle.c_program.specs.Tree.{Expression, Statement, Function, Program}
+use Rattle.c_program.specs.Calls.{calls_of}
 use Rattle.c_rules.specs.declared.fault.Rule.TheVariants as rule
 use Rattle.c_rules.specs.declared.findings.Findings.{Findings}
 use Rattle.c_rules.specs.declared.names.Scope.{Scope}
@@ -19,18 +20,20 @@ use Rattle.c_rules.specs.Specifiers.{c_type, plain_integer}
 use Rattle.c_rules.specs.Walks.{Finds, pure, finds, optional, visited, place_in_tree, ◌>>=◌, ◌>>◌}
 use Rattle.c_expressions.specs.Callees.{misplaced}
 use Rattle.c_expressions.specs.Expressions as e
+use Rattle.c_resolution.specs.Slots.{slots_end}
 use Rattle.c_resolved_program.specs.Leaves.{IsValidConstant}
-use Rattle.c_resolved_program.specs.Orders.{IsOrderly}
-use Rattle.c_resolved_program.proofs.Walks.{Shows, shows_pure, shows_then, shows_as, shows_broken, shows_optional, shows_through, shows_visited, IfAny}
+use Rattle.c_resolved_program.specs.Orders.{IsOrderly, IsAsked}
+use Rattle.c_resolved_program.proofs.Walks.{Shows, shows_pure, shows_then, shows_as, shows_broken, shows_optional, shows_through, shows_visited, IfAny, both_found}
 use Rattle.c_resolved_program.proofs.Known.{Is, nothing_is, argument_is, refused_shows, constant_shows, named_value_shows, look_up_is}
 use Rattle.c_resolved_program.proofs.Callees.{misplaced_shows}
+use Rattle.c_resolved_program.proofs.Maxima.{first_of_max, second_of_max, max_of_both}
 
 module _ (whole : Findings) (P : Program) (number : ℕ) (f : Function) (s : Scope) where
   abbrev pub Before : Type 0
   Before = IsOrderly P number f s
 
-  abbrev pub AsCondition : Condition → Type 0
-  AsCondition c = IsCondition P f c
+  abbrev pub AsCondition : Statement → Type 0
+  AsCondition c = IsAsked whole P number f c
 
   -- ---- parts that do as they should
 
@@ -68,7 +71,9 @@ module _ (whole : Findings) (P : Program) (number : ℕ) (f : Function) (s : Sco
 
   operand_condition_shows : (value : Finds Expression) (at : ℕ) → IsValue value → Shows whole Before AsCondition (e.operand_condition s value at)
   operand_condition_shows value at h =
-      shows_then value (λ x. pure (Condition.Operand (place_in_tree at) x)) h (λ x. shows_pure (Condition.Operand (place_in_tree at) x) (λ c. c.1))
+      shows_then value (λ x. pure (Statement.Test (place_in_tree at) x)) h
+      (λ x. shows_pure (Statement.Test (place_in_tree at) x)
+      (λ c. record { is = λ _. c.1; few = omega arith; calls = λ callee inside. absurd (in_none callee inside) }))
 
   a_value_is : (value : Finds Expression) → IsValue value → IsFormed (e.a_value s value)
   a_value_is value h = record { value = h; condition = λ at. operand_condition_shows value at h }
@@ -90,8 +95,8 @@ module _ (whole : Findings) (P : Program) (number : ℕ) (f : Function) (s : Sco
   unary_value_shows : (operator : UnaryOperator) (x : e.Meant) → IsGood x → IsValue (e.unary_value s operator x)
   unary_value_shows operator x h = shows_then x.value (λ y. pure (e.unary operator y)) h.value (λ y. shows_pure (e.unary operator y) (λ c. (refl, c.1)))
 
-  opposite_shows : (w : Finds Condition) → Shows whole Before AsCondition w → Shows whole Before AsCondition (e.opposite s w)
-  opposite_shows w h = shows_then w (λ c. pure (e.opposite_of c)) h (λ c. shows_pure (e.opposite_of c) (λ d. d.1))
+  opposite_shows : (w : Finds Statement) → Shows whole Before AsCondition w → Shows whole Before AsCondition (e.opposite s w)
+  opposite_shows w h = shows_then w (λ c. pure (e.opposite_of c)) h (λ c. shows_pure (e.opposite_of c) (λ d. record { is = d.1.is; few = d.1.few; calls = d.1.calls }))
 
   shows_either : {A : Type 0} {Seen : A → Type 0} (chosen : Bool) (v w : Finds A) → Shows whole Before Seen v → Shows whole Before Seen w →
       Shows whole Before Seen (if chosen then v else w)
@@ -150,16 +155,32 @@ module _ (whole : Findings) (P : Program) (number : ℕ) (f : Function) (s : Sco
   binary_value_shows : (first : e.Meant) (terms : List e.Operand) → IsGood first → AllByRecursion IsOperand terms → IsValue (e.binary_value s first terms)
   binary_value_shows first terms h all = shows_then first.value (λ x. e.terms_value s x terms) h.value (λ x. terms_value_shows x terms all)
 
-  joined_is : (operator : BinaryOperator) (first second : Condition) → AsCondition first → AsCondition second → AsCondition (e.joined operator first second)
-  joined_is b.LogicalOr first second h k = (h, k)
-  joined_is operator first second h k = (h, k)
+  both_asked : (first second : Statement) → AsCondition first → AsCondition second → AsCondition (Statement.Both first second)
+  both_asked first second h k = record {
+    is = λ fit.
+        (h.is (first_of_max (slots_end first) (slots_end second) (length f.locals) fit), k.is (second_of_max (slots_end first) (slots_end second) (length f.locals) fit));
+    few = max_of_both (slots_end first) (slots_end second) (f.declared_locals + 1) h.few k.few;
+    calls = both_found whole number (calls_of first) (calls_of second) h.calls k.calls;
+  }
 
-  term_condition_shows : (c : Condition) (t : e.Operand) → IsOperand t → Shows whole (Before × AsCondition c) AsCondition (e.term_condition s c t)
+  either_asked : (first second : Statement) → AsCondition first → AsCondition second → AsCondition (Statement.Either first second)
+  either_asked first second h k = record {
+    is = λ fit.
+        (h.is (first_of_max (slots_end first) (slots_end second) (length f.locals) fit), k.is (second_of_max (slots_end first) (slots_end second) (length f.locals) fit));
+    few = max_of_both (slots_end first) (slots_end second) (f.declared_locals + 1) h.few k.few;
+    calls = both_found whole number (calls_of first) (calls_of second) h.calls k.calls;
+  }
+
+  joined_is : (operator : BinaryOperator) (first second : Statement) → AsCondition first → AsCondition second → AsCondition (e.joined operator first second)
+  joined_is b.LogicalOr first second h k = either_asked first second h k
+  joined_is operator first second h k = both_asked first second h k
+
+  term_condition_shows : (c : Statement) (t : e.Operand) → IsOperand t → Shows whole (Before × AsCondition c) AsCondition (e.term_condition s c t)
   term_condition_shows c t h =
       shows_then t.operand.condition (λ d. pure (e.joined t.operator c d)) (shows_as t.operand.condition (λ x. x.0) (λ _ _ is. is) h.condition)
       (λ d. shows_pure (e.joined t.operator c d) (λ x. joined_is t.operator c d x.0.1 x.1))
 
-  terms_condition_shows : (c : Condition) (terms : List e.Operand) → AllByRecursion IsOperand terms → Shows whole (Before × AsCondition c) AsCondition (e.terms_condition s c terms)
+  terms_condition_shows : (c : Statement) (terms : List e.Operand) → AllByRecursion IsOperand terms → Shows whole (Before × AsCondition c) AsCondition (e.terms_condition s c terms)
   unfolding e.terms_condition
   terms_condition_shows c terms all = shows_through IsOperand (λ _. AsCondition) (e.term_condition s) (λ c t rest h. term_condition_shows c t h) c terms all
 

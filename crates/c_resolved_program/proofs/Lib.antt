@@ -74,3 +74,7 @@ pub mod Lexemes
 pub mod Texts
 pub mod Premises
 pub mod AcceptedLaws
+pub mod Maxima
+pub mod Neighbours
+pub mod DeclaratorCounts
+pub mod DefinedLocals

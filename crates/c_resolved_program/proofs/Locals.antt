@@ -11,7 +11,7 @@ use Rattle.c_tree.specs.declared.declaration.Declarator.{Declarator}
 use Rattle.c_program.specs.declared.tree.Storage.{Storage}
 use Rattle.c_program.specs.declared.tree.Storage.TheVariants.{Automatic, Static}
 use Rattle.c_program.specs.declared.tree.LocalVariable.{LocalVariable}
-use Rattle.c_program.specs.Tree.{Place, RightSide, Statement, Function, Program}
+use Rattle.c_program.specs.Tree.{Place, Statement, Function, Program}
 use Rattle.c_program.specs.Resolved as r
 use Rattle.c_rules.specs.declared.fault.Rule.TheVariants as rule
 use Rattle.c_rules.specs.declared.findings.Findings.{Findings}
@@ -27,16 +27,18 @@ use Rattle.c_rules.specs.Constants.{constancy}
 use Rattle.c_rules.specs.Specifiers.{c_type, plain, spelled_by}
 use Rattle.c_rules.specs.Walks.{pure, finds, finds_if, through, place_in_tree, ◌>>=◌, ◌>>◌}
 use Rattle.c_expressions.specs.Expressions.{value}
+use Rattle.c_calls.specs.Cuts.{Cut}
 use Rattle.c_calls.specs.Calls.{right_side}
+use Rattle.c_resolution.specs.Sequences.{behind_cuts}
 use Rattle.c_resolution.specs.States.{finding}
 use Rattle.c_resolution.specs.Locals as y
 use Rattle.c_resolved_program.specs.Leaves.{AreValid, expression_leaves, declarator_leaves, declaration_leaves, of_any, of_each}
-use Rattle.c_resolved_program.specs.Orders.{IsMeant, IsOrderly, IsInOrder, GivesRoutines}
+use Rattle.c_resolved_program.specs.Orders.{IsMeant, IsOrderly, IsInOrder, GivesRoutines, declared_in}
 use Rattle.c_resolved_program.proofs.Walks.{Shows, shows_pure, shows_then, shows_as, shows_broken, shows_if, IfAny, all_more}
 use Rattle.c_resolved_program.proofs.Calls as k
 use Rattle.c_resolved_program.proofs.Trees.{value_shows}
 use Rattle.c_resolved_program.proofs.Simple as z
-use Rattle.c_resolved_program.proofs.Steps.{Does, does_pure, does_then, does_as, does_finding, declare_does, does_through, next_in, front_before, front_length}
+use Rattle.c_resolved_program.proofs.Steps.{Does, does_pure, does_then, does_as, does_finding, declare_does, does_through, next_in, front_before, front_length, declared_few, declared_at}
 
 -- ---- lengths
 
@@ -83,7 +85,7 @@ abbrev pub IsAutomatic : Meaning → Type 0
 IsAutomatic (meaning.Variable v) = v.storage ≡ Automatic
 IsAutomatic other = ⊤
 
-module _ (whole : Findings) (P : Program) (number : ℕ) (f : Function) (given_routines : GivesRoutines whole P) (small : length f.locals ≤ 2 ^ 32) (in_loop flag : Bool) where
+module _ (whole : Findings) (P : Program) (number : ℕ) (f : Function) (given_routines : GivesRoutines whole P) (small : f.declared_locals < 0xffff_ffff) (in_loop flag : Bool) where
   abbrev pub IsLocal : Meaning → Type 0
   IsLocal m = IsMeant P f m × IsAutomatic m
 
@@ -99,16 +101,17 @@ module _ (whole : Findings) (P : Program) (number : ℕ) (f : Function) (given_r
   new_local_does words size ty =
       let l : LocalVariable = record { ty = c_type ty; length = unwrap_or size 1 } in
       record {
-        back = λ x ahead. record { found = ahead.found; locals = front_before x.scope.locals l f.locals ahead.locals };
+        back = λ x ahead. record { found = ahead.found; locals = front_before x.scope.locals l (declared_in f) ahead.locals };
         forth = λ x ahead sized holds.
             let order = holds.orderly in
-            let at = number_is (length x.scope.locals) (length f.locals) (front_length x.scope.locals l f.locals ahead.locals) small in (
+            let front = front_length x.scope.locals l (declared_in f) ahead.locals in
+            let at = number_is (length x.scope.locals) 0xffff_ffff (let few = declared_few f in omega (arith, front, few, small)) (omega arith) in (
               record {
-                orderly = record { inner = order.inner; outer = order.outer; headers = order.headers; function = order.function; gives = order.gives };
+                orderly = record { inner = order.inner; outer = order.outer; headers = order.headers; function = order.function; gives = order.gives; kept = order.kept };
                 loops = holds.loops;
                 lengths = all_more (λ (l : LocalVariable). 0 < l.length) x.scope.locals l holds.lengths (size_is size sized);
               },
-              (ap (λ n. slice_get f.locals n) at ∙ next_in x.scope.locals l f.locals ahead.locals, refl),
+              (ap (λ n. slice_get f.locals n) at ∙ declared_at f (length x.scope.locals) l (next_in x.scope.locals l (declared_in f) ahead.locals), refl),
             );
       }
 
@@ -133,7 +136,7 @@ module _ (whole : Findings) (P : Program) (number : ℕ) (f : Function) (given_r
   uninitialised_is : (d : Declarator) (m : Meaning) (s : Scope) → IsLocal m → InOrder (y.uninitialised d m)
   uninitialised_is d (meaning.Variable v) s is =
       k.plain whole P number f s given_routines flag (y.uninitialised d (meaning.Variable v))
-      (in_locals v.storage v.number (unwrap_or v.length 1) (c_type v.ty) is.0 is.1) refl refl
+      (in_locals v.storage v.number (unwrap_or v.length 1) (c_type v.ty) is.0 is.1) refl refl refl
   uninitialised_is d meaning.Argument s is = k.empty whole P number f s given_routines flag
   uninitialised_is d (meaning.Object o) s is = k.empty whole P number f s given_routines flag
   uninitialised_is d (meaning.Function n) s is = k.empty whole P number f s given_routines flag
@@ -153,12 +156,12 @@ module _ (whole : Findings) (P : Program) (number : ℕ) (f : Function) (given_r
   scalar_in_is (meaning.Function n) is = tt
   scalar_in_is meaning.Unusable is = tt
 
-  initialised_by_shows : {Earlier : Type 0} (s : Scope) (v : Option Variable) (at : ℕ) (right : RightSide) →
+  initialised_by_shows : {Earlier : Type 0} (s : Scope) (v : Option Variable) (at : ℕ) (right : Cut) →
       (Earlier → IfAny IsScalar v × z.IsRight whole P number f s given_routines flag right) → Shows whole Earlier InOrder (y.initialised_by v at right)
   unfolding y.initialised_by
   initialised_by_shows s (Some v) at right is =
       let p : Place = Place.Scalar v.storage v.number (c_type v.ty) in
-      shows_pure (Statement.Assign (place_in_tree at) p right) (λ b. z.assign_is whole P number f s given_routines flag (place_in_tree at) p right (is b).0 (is b).1)
+      shows_pure (behind_cuts right.before (Statement.Assign (place_in_tree at) p right.rest)) (λ b. z.assign_is whole P number f s given_routines flag (place_in_tree at) p right (is b).0 (is b).1)
   initialised_by_shows s None at right is =
       shows_then (finds rule.Kind at) (λ _. pure Statement.Empty) (shows_broken {Is = λ _. ⊤} rule.Kind at)
       (λ _. shows_pure Statement.Empty (λ _. k.empty whole P number f s given_routines flag))
@@ -167,8 +170,9 @@ module _ (whole : Findings) (P : Program) (number : ℕ) (f : Function) (given_r
       Shows whole (IsLocal m × IsOrderly P number f s) InOrder (y.initialised name m e s)
   unfolding y.initialised
   initialised_shows name m e s valid =
-      shows_then (right_side s e) (λ right. y.initialised_by (y.scalar_in m) name.offset right)
-      (shows_as (right_side s e) (λ b. b.1) (λ _ _ is. is.0) (k.right_side_shows whole P number f s given_routines flag e valid))
+      let at = place_in_tree name.offset in
+      shows_then (right_side s at s.kept_from e) (λ right. y.initialised_by (y.scalar_in m) name.offset right)
+      (shows_as (right_side s at s.kept_from e) (λ b. b.1) (λ _ _ is. is) (k.right_side_shows whole P number f s given_routines flag at e valid))
       (λ right. initialised_by_shows s (y.scalar_in m) name.offset right (λ b. (scalar_in_is m b.0.0.0, b.1)))
 
   declared_step_shows : (d : Declarator) (m : Meaning) (e : Option ExpressionTree) (s : Scope) → AreValid (of_any expression_leaves e) →

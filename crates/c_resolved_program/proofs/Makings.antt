@@ -1,11 +1,9 @@
 -- The creates that a body finds are those of its statements.
-use Rattle.std.proofs.Common.{◌≡◌, refl, sym, subst, ◌∙◌, inl, inr, ℕ, zero, suc, Bool, true, false, List, []}
-use Rattle.std.proofs.Common.{◌∷◌, ◌++◌, map, length, Option, Some, None, ◌<◌, ◌≤◌, leb-true, le-leb, arith}
-use Rattle.std.specs.Prelude.{◌+◌, ◌⊎◌, not, nat_eq, fold, if◌then◌else◌, Contains}
+use Rattle.std.proofs.Common.{◌≡◌, sym, subst, inl, inr, ℕ, Bool, true, false, List, []}
+use Rattle.std.proofs.Common.{◌∷◌, ◌++◌, map, Option, Some, None}
+use Rattle.std.specs.Prelude.{◌⊎◌, not, nat_eq, if◌then◌else◌, Contains}
 use Rattle.std.specs.List.{AllByRecursion}
 use Rattle.std.proofs.lemmas.List.Elements.{Contains-append_left, Contains-append_right}
-use Rattle.std.proofs.lemmas.Bool.{false≢true, cases_lt}
-use Rattle.lists.proofs.Places.{length_more}
 use denote.Hole.Holds.{Such}
 use Rattle.c_tree.specs.declared.expression.Name.{Name}
 use Rattle.c_tree.specs.declared.expression.Expression.{Expression as ExpressionTree, out-Expression}
@@ -29,7 +27,7 @@ use Rattle.c_tree.specs.declared.statement.BlockItem.TheBlock.{the_family, membe
 use Rattle.c_tree.specs.declared.statement.BlockItem.TheFolds.{claims, map-BlockItem, map-Statement, map-Block}
 use Rattle.c_tree.specs.declared.statement.BlockItem.TheFolds.{fold-roll-BlockItem, fold-roll-Statement, fold-roll-Block, ind-Block}
 use Rattle.c_program.specs.declared.tree.BinaryOperator.{BinaryOperator as ResolvedBinary}
-use Rattle.c_program.specs.Tree.{Expression, Condition, Place, RightSide, Statement}
+use Rattle.c_program.specs.Tree.{Expression, Place, Statement}
 use Rattle.c_program.specs.Resolved.{creates_of}
 use Rattle.c_rules.specs.declared.fault.Rule.TheVariants as rule
 use Rattle.c_rules.specs.declared.findings.Creation.{Creation}
@@ -47,8 +45,10 @@ use Rattle.c_rules.specs.Names.{is_taken, declaring, opened, closed}
 use Rattle.c_rules.specs.Walks.{Outcome, Finds, pure, finds, finds_if, through, place_in_tree, ◌>>=◌, ◌>>◌}
 use Rattle.c_expressions.specs.Expressions.{value, condition}
 use Rattle.c_calls.specs.Arguments as a
+use Rattle.c_calls.specs.Cuts.{Cut}
 use Rattle.c_calls.specs.Calls as c
 use Rattle.c_expressions.specs.Targets.{target}
+use Rattle.c_resolution.specs.Sequences.{sequence, behind_cuts}
 use Rattle.c_resolution.specs.Simple as z
 use Rattle.c_resolution.specs.Locals as l
 use Rattle.c_resolution.specs.States.{State, Goes, finding, scoping}
@@ -57,6 +57,7 @@ use Rattle.c_resolution.specs.Statements.{Adds, item_step, statement_step, block
 use Rattle.c_resolved_program.specs.Orders.{left, given}
 use Rattle.c_resolved_program.proofs.Walks.{turn}
 use Rattle.c_resolved_program.proofs.Steps as s
+use Rattle.c_resolved_program.proofs.Neighbours as p
 use Rattle.c_resolved_program.proofs.Quiet as q
 use Rattle.c_resolved_program.proofs.Quiet.{IsQuiet, quiet_then, quiet_pure, quiet_finds, quiet_if}
 use Rattle.c_resolved_program.proofs.CreatesOfParts.{IsOf, MakesIt, makes_quiet, makes_pure, quiet_value, quiet_pointer_value, quiet_target, quiet_right, call_makes}
@@ -72,9 +73,10 @@ module _ (w : Scope) where
   assign_makes : (at : ℕ) (p : PlaceTree) (o : AssignmentOperator) (e : ExpressionTree) → MakesIt (z.assign w at p o e)
   unfolding z.assigned z.compound
   assign_makes at p assignment.Set e =
-      let made = λ (x : Place) (right : RightSide). Statement.Assign (place_in_tree at) x right in
-      makes_quiet (target w p) (λ x. c.right_side w e >>= (λ right. pure (made x right))) (quiet_target w p)
-      (λ x. makes_quiet (c.right_side w e) (λ right. pure (made x right)) (quiet_right w e) (λ right. makes_pure (made x right)))
+      let made = λ (x : Place) (right : Cut). behind_cuts right.before (Statement.Assign (place_in_tree at) x right.rest) in
+      let walk = c.right_side w (place_in_tree at) w.kept_from e in
+      makes_quiet (target w p) (λ x. walk >>= (λ right. pure (made x right))) (quiet_target w p)
+      (λ x. makes_quiet walk (λ right. pure (made x right)) (quiet_right w (place_in_tree at) w.kept_from e) (λ right. makes_pure (made x right)))
   assign_makes at p (assignment.Compound operator) e =
       let by = z.compound_by (z.compound_operator operator) at in
       makes_quiet (target w p) (λ x. value w e >>= (λ right. by x right)) (quiet_target w p)
@@ -91,19 +93,21 @@ module _ (w : Scope) where
   unfolding z.simple
   simple_makes x = simple_form_makes x.offset x.form
 
-  quiet_right_of : (x : Returned) → IsQuiet (z.right_of w x)
-  quiet_right_of returned_as.Nothing = quiet_pure None
-  quiet_right_of (returned_as.Value e) = quiet_then (c.right_side w e) (λ right. pure (Some right)) (quiet_right w e) (λ right. quiet_pure (Some right))
-  quiet_right_of (returned_as.Pointer p) =
-      quiet_then (a.pointer_value w p) (λ x. pure (Some (RightSide.Value x))) (quiet_pointer_value w p) (λ x. quiet_pure (Some (RightSide.Value x)))
+  quiet_given_back : (at : ℕ) (x : Returned) → IsQuiet (z.given_back w at x)
+  quiet_given_back at returned_as.Nothing = quiet_pure ([], None)
+  quiet_given_back at (returned_as.Value e) =
+      quiet_then (c.right_side w at w.kept_from e) (λ right. pure (right.before, Some right.rest)) (quiet_right w at w.kept_from e)
+      (λ right. quiet_pure (right.before, Some right.rest))
+  quiet_given_back at (returned_as.Pointer p) = quiet_then (a.pointer_value w p) (λ x. pure ([], Some x)) (quiet_pointer_value w p) (λ x. quiet_pure ([], Some x))
 
   returned_makes : (x : Returned) (at : ℕ) → MakesIt (z.returned w x at)
   unfolding z.returned
   returned_makes x at =
-      let made = λ (right : Option RightSide). Statement.Return (place_in_tree at) right in
-      makes_quiet (finds_if (not (z.may_return w.gives x)) rule.Kind at) (λ _. z.right_of w x >>= (λ right. pure (made right)))
+      let made = λ (given : z.Given w). behind_cuts given.0 (Statement.Return (place_in_tree at) given.1) in
+      let walk = z.given_back w (place_in_tree at) x in
+      makes_quiet (finds_if (not (z.may_return w.gives x)) rule.Kind at) (λ _. walk >>= (λ given. pure (made given)))
       (quiet_if (not (z.may_return w.gives x)) rule.Kind at)
-      (λ _. makes_quiet (z.right_of w x) (λ right. pure (made right)) (quiet_right_of x) (λ right. makes_pure (made right)))
+      (λ _. makes_quiet walk (λ given. pure (made given)) (quiet_given_back (place_in_tree at) x) (λ given. makes_pure (made given)))
 
 -- ---- parts that change the names in scope
 
@@ -214,16 +218,18 @@ quiet_optional_length (Some e) w =
     quiet_then (value w e >> size) (λ n. pure (Some n))
     (quiet_then (value w e) (λ _. size) (quiet_value w e) (λ _. quiet_length_from (constancy e) (out-Expression e).offset)) (λ n. quiet_pure (Some n))
 
-initialised_by_makes : (v : Option Variable) (at : ℕ) (right : RightSide) → MakesIt (l.initialised_by v at right)
+initialised_by_makes : (v : Option Variable) (at : ℕ) (right : Cut) → MakesIt (l.initialised_by v at right)
 unfolding l.initialised_by
-initialised_by_makes (Some v) at right = makes_pure (Statement.Assign (place_in_tree at) (Place.Scalar v.storage v.number (c_type v.ty)) right)
+initialised_by_makes (Some v) at right =
+    makes_pure (behind_cuts right.before (Statement.Assign (place_in_tree at) (Place.Scalar v.storage v.number (c_type v.ty)) right.rest))
 initialised_by_makes None at right = makes_quiet (finds rule.Kind at) (λ _. pure Statement.Empty) (quiet_finds rule.Kind at) (λ _. makes_pure Statement.Empty)
 
 declared_step_makes : (d : Declarator) (m : Meaning) (e : Option ExpressionTree) (w : Scope) → MakesIt (l.declared_step d m e w)
 unfolding l.initialised
 declared_step_makes d m None w = makes_pure (l.uninitialised d m)
 declared_step_makes d m (Some e) w =
-    makes_quiet (c.right_side w e) (λ right. l.initialised_by (l.scalar_in m) d.name.offset right) (quiet_right w e)
+    let at = place_in_tree d.name.offset in
+    makes_quiet (c.right_side w at w.kept_from e) (λ right. l.initialised_by (l.scalar_in m) d.name.offset right) (quiet_right w at w.kept_from e)
     (λ right. initialised_by_makes (l.scalar_in m) d.name.offset right)
 
 making_declarator : (words : Spelled) (d : Declarator) → Making (λ _. ⊥) IsOf (l.declarator words d)
@@ -239,15 +245,10 @@ making_declarator words d =
 
 -- a create is one of some statement
 abbrev pub IsOfAny : List Statement → Creation → Type 0
-IsOfAny [] k = ⊥
-IsOfAny (x ∷ list) k = IsOf x k ⊎ IsOfAny list k
+IsOfAny list k = p.IsOfAny (λ x. IsOf x k) list
 
 any_more : (list : List Statement) (x : Statement) (k : Creation) → IsOfAny list k ⊎ IsOf x k → IsOfAny (list ++ x ∷ []) k
-any_more [] x k (inl no_k) = absurd no_k
-any_more [] x k (inr of) = inl of
-any_more (z ∷ list) x k (inl (inl of)) = inl of
-any_more (z ∷ list) x k (inl (inr any)) = inr (any_more list x k (inl any))
-any_more (z ∷ list) x k (inr of) = inr (any_more list x k (inr of))
+any_more list x k of = p.any_more (λ x. IsOf x k) list x of
 
 -- one more statement behind others
 making_more : (list : List Statement) (w : Goes Statement) → Making (λ _. ⊥) IsOf w → Making (IsOfAny list) IsOfAny (w >>= (λ x. pure (list ++ x ∷ [])))
@@ -283,118 +284,12 @@ making_declaration list d =
 
 -- ---- statements one after another keep their creates
 
-IfWaiting : Option Statement → Creation → Type 0
-IfWaiting None k = ⊥
-IfWaiting (Some x) k = IsOf x k
-
 both_of : (x z : Statement) (k : Creation) → IsOf x k ⊎ IsOf z k → IsOf (Statement.Sequence x z) k
 both_of x z k (inl of) = Contains-append_left (creates_of x) (creates_of z) (k.thread, k.routine) of
 both_of x z k (inr of) = Contains-append_right (creates_of x) (creates_of z) (k.thread, k.routine) of
 
-joined_keep : (done : List Statement) (waiting : Option Statement) (next : Statement) (k : Creation) → (IsOfAny done k ⊎ IfWaiting waiting k) ⊎ IsOf next k →
-    IsOfAny (y.joined_to done waiting next).0 k ⊎ IfWaiting (y.joined_to done waiting next).1 k
-unfolding IfWaiting
-joined_keep done None next k (inl (inl of)) = inl of
-joined_keep done None next k (inl (inr no_k)) = absurd no_k
-joined_keep done None next k (inr of) = inr of
-joined_keep done (Some x) next k (inl (inl of)) = inl (any_more done (y.neighbours x next) k (inl of))
-joined_keep done (Some x) next k (inl (inr of)) = inl (any_more done (y.neighbours x next) k (inr (both_of x next k (inl of))))
-joined_keep done (Some x) next k (inr of) = inl (any_more done (y.neighbours x next) k (inr (both_of x next k (inr of))))
-
-folded_keep : (list : List Statement) (j : y.Joined) (k : Creation) → (IsOfAny j.0 k ⊎ IfWaiting j.1 k) ⊎ IsOfAny list k →
-    IsOfAny (fold y.with_next j list).0 k ⊎ IfWaiting (fold y.with_next j list).1 k
-folded_keep [] j k (inl of) = of
-folded_keep [] j k (inr no_k) = absurd no_k
-folded_keep (x ∷ list) j k (inl of) = folded_keep list (y.with_next j x) k (inl (joined_keep j.0 j.1 x k (inl of)))
-folded_keep (x ∷ list) j k (inr (inl of)) = folded_keep list (y.with_next j x) k (inl (joined_keep j.0 j.1 x k (inr of)))
-folded_keep (x ∷ list) j k (inr (inr of)) = folded_keep list (y.with_next j x) k (inr of)
-
-last_keep : (done : List Statement) (waiting : Option Statement) (k : Creation) → IsOfAny done k ⊎ IfWaiting waiting k → IsOfAny (y.with_last done waiting) k
-unfolding IfWaiting
-last_keep done None k (inl of) = of
-last_keep done None k (inr no_k) = absurd no_k
-last_keep done (Some x) k of = any_more done x k of
-
-halved_keep : (b : Bool) (list : List Statement) (k : Creation) → IsOfAny list k → IsOfAny (if b then list else y.paired list) k
-halved_keep true list k of = of
-halved_keep false list k of =
-    let j = fold y.with_next ([], None) list in
-    last_keep j.0 j.1 k (folded_keep list ([], None) k (inr of))
-
-rounds_keep : (n : ℕ) (list : List Statement) (k : Creation) → IsOfAny list k → IsOfAny (y.rounds n list) k
-rounds_keep zero list k of = of
-rounds_keep (suc n) list k of = halved_keep (y.is_short (y.rounds n list)) (y.rounds n list) k (rounds_keep n list k of)
-
--- of at most one statement
-alone_keeps : (list : List Statement) (k : Creation) → length list ≤ 1 → IsOfAny list k → IsOf (y.only list) k
-alone_keeps [] k le no_k = absurd no_k
-alone_keeps (x ∷ []) k le (inl of) = of
-alone_keeps (x ∷ []) k le (inr no_k) = absurd no_k
-alone_keeps (x ∷ z ∷ list) k le of = absurd (omega arith)
-
--- ---- as many rounds as there are statements leave one
-
-waiting_count : Option Statement → ℕ
-waiting_count None = 0
-waiting_count (Some x) = 1
-
-joined_count : (done : List Statement) (waiting : Option Statement) (next : Statement) →
-    length (y.joined_to done waiting next).0 + (length (y.joined_to done waiting next).0 + waiting_count (y.joined_to done waiting next).1)
-    ≡ suc (length done + (length done + waiting_count waiting))
-unfolding waiting_count
-joined_count done None next = omega arith
-joined_count done (Some x) next = let e = length_more done (y.neighbours x next) in omega arith
-
-folded_count : (list : List Statement) (j : y.Joined) →
-    length (fold y.with_next j list).0 + (length (fold y.with_next j list).0 + waiting_count (fold y.with_next j list).1)
-    ≡ length list + (length j.0 + (length j.0 + waiting_count j.1))
-folded_count [] j = omega arith
-folded_count (x ∷ list) j =
-    let e = folded_count list (y.with_next j x) in
-    let g = joined_count j.0 j.1 x in
-    omega arith
-
-last_count : (done : List Statement) (waiting : Option Statement) → length (y.with_last done waiting) ≡ length done + waiting_count waiting
-unfolding waiting_count
-last_count done None = omega arith
-last_count done (Some x) = let e = length_more done x in omega arith
-
-at_most_one : (waiting : Option Statement) → waiting_count waiting ≤ 1
-unfolding waiting_count
-at_most_one None = omega arith
-at_most_one (Some x) = omega arith
-
-paired_count : (list : List Statement) → 1 < length list → length (y.paired list) < length list
-unfolding waiting_count
-paired_count list lt =
-    let j = fold y.with_next ([], None) list in
-    let e = folded_count list ([], None) in
-    let g = last_count j.0 j.1 in
-    let w = at_most_one j.1 in
-    omega arith
-
-halved_count : (b : Bool) (list : List Statement) (n m : ℕ) → y.is_short list ≡ b → (length list ≤ 1) ⊎ (length list + n ≤ m) →
-    (length (if b then list else y.paired list) ≤ 1) ⊎ (length (if b then list else y.paired list) + suc n ≤ m)
-halved_count true list n m short h = inl (leb-true (length list) 1 short)
-halved_count false list n m long (inl le) = absurd (false≢true (sym long ∙ le-leb (length list) 1 le))
-halved_count false list n m long (inr le) =
-    elim (cases_lt 1 (length list)) [
-      | inl lt ↦ let e = paired_count list lt in inr (omega arith)
-      | inr short ↦ absurd (false≢true (sym long ∙ le-leb (length list) 1 short))
-    ]
-
-rounds_count : (n : ℕ) (list : List Statement) → (length (y.rounds n list) ≤ 1) ⊎ (length (y.rounds n list) + n ≤ length list)
-rounds_count zero list = inr (omega arith)
-rounds_count (suc n) list = halved_count (y.is_short (y.rounds n list)) (y.rounds n list) n (length list) refl (rounds_count n list)
-
-sequence_keeps : (list : List Statement) (k : Creation) → IsOfAny list k → IsOf (y.sequence list) k
-unfolding y.sequence
-sequence_keeps list k of =
-    alone_keeps (y.rounds (length list) list) k (short (rounds_count (length list) list)) (rounds_keep (length list) list k of)
-  where
-    short : (length (y.rounds (length list) list) ≤ 1) ⊎ (length (y.rounds (length list) list) + length list ≤ length list) → length (y.rounds (length list) list) ≤ 1
-    short (inl le) = le
-    short (inr le) = omega arith
+sequence_keeps : (list : List Statement) (k : Creation) → IsOfAny list k → IsOf (sequence list) k
+sequence_keeps list k of = p.sequence_keeps (λ x. IsOf x k) (λ x z either. both_of x z k either) list of
 
 -- ---- statements
 
@@ -410,7 +305,7 @@ making_start : (x : ForStart) → Making (λ _. ⊥) IsOf (y.for_start x)
 making_start start.Nothing = making_pure Statement.Done (λ k no_k. absurd no_k)
 making_start (start.Simple x) = making_finding (λ s. z.simple s x) (λ s. simple_makes s x)
 making_start (start.Declaration d) =
-    making_then (l.declaration [] d) (λ list. pure (y.sequence list)) (making_declaration [] d) (λ list. making_pure (y.sequence list) (λ k of. sequence_keeps list k of))
+    making_then (l.declaration [] d) (λ list. pure (sequence list)) (making_declaration [] d) (λ list. making_pure (sequence list) (λ k of. sequence_keeps list k of))
 
 making_step : (x : Option SimpleStatement) → Making (λ _. ⊥) IsOf (finding (y.for_step x))
 making_step None = making_finding (y.for_step None) (λ s. makes_pure Statement.Done)
@@ -427,7 +322,7 @@ IsOfHead head k = IsOf head.0 k ⊎ IsOf head.2 k
 making_head : (begin : ForStart) (test : Option ExpressionTree) (step : Option SimpleStatement) → Making (λ _. ⊥) IsOfHead (y.for_head begin test step)
 unfolding y.for_head IsOfHead
 making_head begin test step =
-    let stepping = λ (first : Statement) (k : Condition). finding (y.for_step step) >>= (λ last. pure (first, k, last)) in
+    let stepping = λ (first : Statement) (k : Statement). finding (y.for_step step) >>= (λ last. pure (first, k, last)) in
     let testing = λ (first : Statement). finding (y.for_condition test) >>= stepping first in
     making_then (y.for_start begin) testing (making_start begin)
     (λ first. making_then (finding (y.for_condition test)) (stepping first) (making_quiet (y.for_condition test) (quiet_for_condition test))
@@ -444,7 +339,7 @@ for_keeps head x k (inr of) =
     Contains-append_right (creates_of head.0) (creates_of head.2 ++ creates_of x) (k.thread, k.routine)
     (Contains-append_right (creates_of head.2) (creates_of x) (k.thread, k.routine) of)
 
-if_keeps : (t : Condition) (x z : Statement) (k : Creation) → IsOf x k ⊎ IsOf z k → IsOf (y.if_of t x z) k
+if_keeps : (t : Statement) (x z : Statement) (k : Creation) → IsOf x k ⊎ IsOf z k → IsOf (y.if_of t x z) k
 if_keeps t x z k (inl of) = Contains-append_left (creates_of x) (creates_of z) (k.thread, k.routine) of
 if_keeps t x z k (inr of) = Contains-append_right (creates_of x) (creates_of z) (k.thread, k.routine) of
 
@@ -458,8 +353,8 @@ making_condition test = making_quiet (λ s. condition s test) (λ s. (q.quiet_ex
 making_branch : (test : ExpressionTree) (consequent alternative : Goes Statement) → Making (λ _. ⊥) IsOf consequent → Making (λ _. ⊥) IsOf alternative →
     Making (λ _. ⊥) IsOf (finding (λ s. condition s test) >>= (λ t. consequent >>= (λ x. alternative >>= (λ z. pure (y.if_of t x z)))))
 making_branch test consequent alternative h g =
-    let last = λ (t : Condition) (x : Statement). alternative >>= (λ z. pure (y.if_of t x z)) in
-    let next = λ (t : Condition). consequent >>= last t in
+    let last = λ (t : Statement) (x : Statement). alternative >>= (λ z. pure (y.if_of t x z)) in
+    let next = λ (t : Statement). consequent >>= last t in
     making_then (finding (λ s. condition s test)) next (making_condition test)
     (λ t. making_then consequent (last t) h
     (λ x. making_then alternative (λ z. pure (y.if_of t x z)) (making_beside alternative g)
@@ -467,7 +362,7 @@ making_branch test consequent alternative h g =
 
 making_while : (test : ExpressionTree) (body : Goes Statement) → Making (λ _. ⊥) IsOf body → Making (λ _. ⊥) IsOf (y.while_loop test body)
 making_while test body h =
-    let next = λ (t : Condition). y.loop_body body >>= (λ x. pure (y.while_of t x)) in
+    let next = λ (t : Statement). y.loop_body body >>= (λ x. pure (y.while_of t x)) in
     making_then (finding (λ s. condition s test)) next (making_condition test)
     (λ t. making_then (y.loop_body body) (λ x. pure (y.while_of t x)) (making_loop_body body h) (λ x. making_pure (y.while_of t x) (λ k of. only_right of)))
 
@@ -550,9 +445,9 @@ each_item (x ∷ list) = (x.1, each_item list)
 block_case : (x : Block-F SomeBlockItem SomeStatement SomeBlock) → Making (λ _. ⊥) IsOf (block_step (parts_in_block (seen_block x)))
 block_case x =
     let list = map item (map (λ e. e.0) x.items) in
-    making_then (y.block_items list) (λ steps. pure (y.sequence steps))
+    making_then (y.block_items list) (λ steps. pure (sequence steps))
     (making_through (λ (steps : List Statement) (add : Adds). add steps) [] list (each_item x.items))
-    (λ steps. making_pure (y.sequence steps) (λ k of. sequence_keeps steps k of))
+    (λ steps. making_pure (sequence steps) (λ k of. sequence_keeps steps k of))
 
 statement_case : (x : Statement-F SomeBlockItem SomeStatement SomeBlock) → Making (λ _. ⊥) IsOf (statement_step (parts_in_statement (seen_statement x)))
 statement_case (Statement-F.Block body) = making_block (items body.0) body.1

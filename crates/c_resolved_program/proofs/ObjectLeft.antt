@@ -1,7 +1,7 @@
 -- What a declaration of an object at file scope leaves, where no rule is broken in the whole text: a new name, and one object
 -- more.
 use Rattle.std.proofs.Common.{◌≡◌, refl, sym, ap, subst, ◌∙◌, inl, inr, ℕ, ◌<◌, ◌≤◌, Bool, true, false, List, length, Option, Some, None, ℤ, arith}
-use Rattle.std.specs.Prelude.{◌⊎◌, ◌||◌, is_some, is_none, unwrap_or, if◌then◌else◌, ⊤}
+use Rattle.std.specs.Prelude.{◌⊎◌, is_some, is_none, unwrap_or, if◌then◌else◌, ⊤}
 use Rattle.std.specs.List.{AllByRecursion}
 use Rattle.std.proofs.lemmas.Bool.{or_parts}
 use Rattle.lists.proofs.Places.{none_of}

@@ -1,6 +1,6 @@
 -- What parameters give: a local for each, the first of which is a long where the function is a start routine.
-use Rattle.std.proofs.Common.{◌≡◌, refl, sym, ap, subst, ◌∙◌, ℕ, suc, ◌≤◌, Bool, true, false, List, [], ◌∷◌, ◌++◌, length, Option, Some, None, append_assoc, append-nil}
-use Rattle.std.specs.Prelude.{◌^◌, not, slice_get, if◌then◌else◌, ⊤}
+use Rattle.std.proofs.Common.{◌≡◌, refl, sym, ap, subst, ◌∙◌, ℕ, suc, ◌<◌, Bool, true, false, List, [], ◌∷◌, ◌++◌, length, Option, Some, None, append_assoc, append-nil, arith}
+use Rattle.std.specs.Prelude.{not, slice_get, if◌then◌else◌, ⊤}
 use Rattle.std.specs.List.{AllByRecursion}
 use Rattle.std.proofs.lemmas.Bool.{not-false}
 use Rattle.std.proofs.lemmas.List.{nil_from_length}
@@ -22,9 +22,9 @@ use Rattle.c_rules.specs.Walks.{Outcome, through, finds, finds_if}
 use Rattle.c_resolution.specs.States.{State, Goes, finding, scoping}
 use Rattle.c_resolution.specs.Locals.{new_local, refused_local, declare}
 use Rattle.c_resolution.specs.Functions as y
-use Rattle.c_resolved_program.specs.Orders.{left, given, IsFront, IsMeant, AreMeant, IsPartOf}
+use Rattle.c_resolved_program.specs.Orders.{left, given, declared_in, IsFront, IsMeant, AreMeant, IsPartOf}
 use Rattle.c_resolved_program.proofs.Walks.{shows_if, shows_broken, turn}
-use Rattle.c_resolved_program.proofs.Steps.{after_one, in_scope_is, inserted_is, front_length, next_in}
+use Rattle.c_resolved_program.proofs.Steps.{after_one, in_scope_is, inserted_is, front_length, next_in, declared_few, declared_at}
 use Rattle.c_resolved_program.proofs.Locals.{number_is, refused_local_shows}
 
 front_of : {A : Type 0} (xs more list : List A) → IsFront (xs ++ more) list → IsFront xs list
@@ -46,9 +46,9 @@ pub record Adds (whole : Findings) (P : Program) (f : Function) (pointer routine
   pub is_long : pointer ≡ true → local ≡ scalar long_int
   pub locals : y.scope.locals ≡ x.scope.locals ++ local ∷ []
   pub inner : y.scope.inner ≡ x.scope.inner
-  pub meant : IsFront y.scope.locals f.locals → (routine ≡ true → IsMeant P f meaning.Argument) → IsMeant P f m
+  pub meant : IsFront y.scope.locals (declared_in f) → (routine ≡ true → IsMeant P f meaning.Argument) → IsMeant P f m
 
-module _ (whole : Findings) (P : Program) (f : Function) (small : length f.locals ≤ 2 ^ 32) where
+module _ (whole : Findings) (P : Program) (f : Function) (small : f.declared_locals < 0xffff_ffff) where
   new_adds : (routine : Bool) (words : Spelled) (ty : BasicType) (x : State) → IsPartOf whole (left (new_local words None ty x)).found →
       Adds whole P f false routine x (left (new_local words None ty x)) (given (new_local words None ty x))
   unfolding new_local
@@ -62,8 +62,9 @@ module _ (whole : Findings) (P : Program) (f : Function) (small : length f.local
         locals = refl;
         inner = refl;
         meant = λ front _.
-            ap (λ n. slice_get f.locals n) (number_is (length x.scope.locals) (length f.locals) (front_length x.scope.locals l f.locals front) small)
-            ∙ next_in x.scope.locals l f.locals front;
+            let within = front_length x.scope.locals l (declared_in f) front in
+            let at = number_is (length x.scope.locals) 0xffff_ffff (let few = declared_few f in omega (arith, within, few, small)) (omega arith) in
+            ap (λ n. slice_get f.locals n) at ∙ declared_at f (length x.scope.locals) l (next_in x.scope.locals l (declared_in f) front);
       }
 
   pointer_adds : (words : Spelled) (routine : Bool) (at : ℕ) (x : State) → IsPartOf whole (left (y.pointer_parameter words routine at x)).found →
@@ -107,7 +108,7 @@ module _ (whole : Findings) (P : Program) (f : Function) (small : length f.local
     pub single : local.length ≡ 1
     pub is_long : pointer ≡ true → local ≡ scalar long_int
     pub locals : y.scope.locals ≡ x.scope.locals ++ local ∷ []
-    pub names : IsFront y.scope.locals f.locals → (routine ≡ true → IsMeant P f meaning.Argument) → AreMeant P f x.scope.inner → AreMeant P f y.scope.inner
+    pub names : IsFront y.scope.locals (declared_in f) → (routine ≡ true → IsMeant P f meaning.Argument) → AreMeant P f x.scope.inner → AreMeant P f y.scope.inner
 
   pub record Declares (name : Name) (m : Meaning) (x y : State) : Type 0 where
     pub found : IsPartOf whole x.found
@@ -143,7 +144,7 @@ module _ (whole : Findings) (P : Program) (f : Function) (small : length f.local
         is_long = a.is_long;
         locals = d.locals ∙ a.locals;
         names = λ front argument all.
-            d.names (a.meant (same_front (left (declare name (given o) (left o))).scope.locals (left o).scope.locals f.locals d.locals front) argument)
+            d.names (a.meant (same_front (left (declare name (given o) (left o))).scope.locals (left o).scope.locals (declared_in f) d.locals front) argument)
             (subst (AreMeant P f) (sym a.inner) all);
       })
   named_adds p routine has_body None x part =
@@ -177,7 +178,7 @@ module _ (whole : Findings) (P : Program) (f : Function) (small : length f.local
     pub count : length more ≡ length list
     pub singles : AllByRecursion (λ (l : LocalVariable). l.length ≡ 1) more
     pub longs : (p : Parameter) → list ≡ p ∷ [] → p.is_pointer ≡ true → more ≡ scalar long_int ∷ []
-    pub names : IsFront y.scope.locals f.locals → (routine ≡ true → IsMeant P f meaning.Argument) → AreMeant P f x.scope.inner → AreMeant P f y.scope.inner
+    pub names : IsFront y.scope.locals (declared_in f) → (routine ≡ true → IsMeant P f meaning.Argument) → AreMeant P f x.scope.inner → AreMeant P f y.scope.inner
 
   all_add : (routine has_body : Bool) (list : List Parameter) (a : Unit {0}) (x : State) →
       IsPartOf whole (left (through (λ _ p. y.parameter routine has_body p) a list x)).found → AddsAll routine list x
@@ -209,8 +210,8 @@ module _ (whole : Findings) (P : Program) (f : Function) (small : length f.local
             let long = one.is_long (ap (λ l. (first_or p l).is_pointer) is ∙ pointer) in
             ap (λ l. l ∷ later.more) long ∙ ap (λ l. scalar long_int ∷ l) nothing;
         names = λ front argument all.
-            let between = front_of (left o).scope.locals later.more f.locals
-            (subst (λ l. IsFront l f.locals) later.locals front) in
+            let between = front_of (left o).scope.locals later.more (declared_in f)
+            (subst (λ l. IsFront l (declared_in f)) later.locals front) in
             later.names front argument (one.names between argument all);
       })
 

@@ -1,6 +1,5 @@
 -- The two premises of the law of programs that trees spell, for the tree of a text's tokens.
 use Rattle.std.proofs.Common.{◌≡◌, refl, sym, ap, subst, ℕ, suc, ◌+◌, ◌<◌, ◌≤◌, List, [], ◌∷◌, length, None, arith}
-use Rattle.std.specs.Prelude.{◌^◌}
 use Rattle.std.specs.List.{AllByRecursion}
 use Rattle.c_token.specs.declared.token.Token.{Token}
 use Rattle.grammar.specs.Rules.{Placed}
@@ -62,14 +61,14 @@ small_behind : (tree : TranslationUnit) (h : IsFewTokens tree) → IsSmall (0 + 
 unfolding behind declarations
 small_behind tree h = h.unit.1 0 (Outcome.Gives tt (before tree.declarations)) (small_at_start tree.declarations)
 
-all_less : (m n : ℕ) → m < n → (list : List Function) → AllByRecursion (λ (f : Function). length f.locals ≤ m) list → AllByRecursion (λ (f : Function). length f.locals < n) list
+all_less : (m n : ℕ) → m < n → (list : List Function) → AllByRecursion (λ (f : Function). f.declared_locals ≤ m) list → AllByRecursion (λ (f : Function). f.declared_locals < n) list
 all_less m n l [] all = tt
 all_less m n l (f ∷ list) all = (omega (arith, all.0, l), all_less m n l list all.1)
 
-program_numbered : (x : File) (main n : ℕ) → n < 2 ^ 32 → IsSmall n 0 x → IsNumbered (program_at x main)
+program_numbered : (x : File) (main n : ℕ) → n < 0xffff_ffff → IsSmall n 0 x → IsNumbered (program_at x main)
 program_numbered x main n le h = record {
   functions = omega (arith, h.tables.functions, le);
-  locals = all_less n (2 ^ 32) le x.tables.functions h.tables.locals;
+  locals = all_less n 0xffff_ffff le x.tables.functions h.tables.locals;
   globals = omega (arith, h.tables.globals, le);
   threads = omega (arith, h.tables.threads, le, given_count x.found.creations x.tables.threads None);
   mutexes = omega (arith, h.tables.mutexes, le);

@@ -25,7 +25,7 @@ use Rattle.c_tree.specs.declared.expression.Argument.TheFolds.{fold-roll-Argumen
 use Rattle.c_tree.specs.declared.expression.Argument.TheFolds.{fold-roll-Expression, fold-roll-Place, fold-roll-Pointer, fold-roll-Term}
 use Rattle.c_tree.specs.declared.expression.Argument.TheFolds.{ind-Argument, ind-Expression, ind-Place}
 use Rattle.c_program.specs.declared.tree.BinaryOperator.{BinaryOperator as ResolvedBinary}
-use Rattle.c_program.specs.Tree.{Expression, Condition}
+use Rattle.c_program.specs.Tree.{Expression, Statement}
 use Rattle.c_rules.specs.declared.fault.Rule.{Rule}
 use Rattle.c_rules.specs.declared.fault.Rule.TheVariants as rule
 use Rattle.c_rules.specs.declared.findings.Findings.{Findings}
@@ -245,7 +245,7 @@ looked_at (Some w) h = looked w h
 
 module _ (s : Scope) where
   operand_condition : (w : Finds Expression) (at : ℕ) → IsQuiet w → IsQuiet (e.operand_condition s w at)
-  operand_condition w at h = quiet_then w (λ x. pure (Condition.Operand (place_in_tree at) x)) h (λ x. quiet_pure (Condition.Operand (place_in_tree at) x))
+  operand_condition w at h = quiet_then w (λ x. pure (Statement.Test (place_in_tree at) x)) h (λ x. quiet_pure (Statement.Test (place_in_tree at) x))
 
   a_value : (w : Finds Expression) → IsQuiet w → QuietForm (e.a_value s w)
   a_value w h = record { value = h; condition = λ at. operand_condition w at h }
@@ -282,7 +282,7 @@ module _ (s : Scope) where
   terms_value (t ∷ terms) all =
       (λ x. quiet_then t.operand.value (e.operated t.operator t.offset x) all.0.value (λ y. quiet_operated t.operator t.offset x y), terms_value terms all.1)
 
-  terms_condition : (terms : List Operand) → AllByRecursion QuietOperand terms → AllByRecursion (λ (t : Operand). (k : Condition) → IsQuiet (e.term_condition s k t)) terms
+  terms_condition : (terms : List Operand) → AllByRecursion QuietOperand terms → AllByRecursion (λ (t : Operand). (k : Statement) → IsQuiet (e.term_condition s k t)) terms
   terms_condition [] all = tt
   terms_condition (t ∷ terms) all =
       (λ k. quiet_then t.operand.condition (λ d. pure (e.joined t.operator k d)) all.0.condition (λ d. quiet_pure (e.joined t.operator k d)), terms_condition terms all.1)

@@ -1,12 +1,11 @@
 -- What statements without statements in them give.
-use Rattle.std.proofs.Common.{◌≡◌, refl, sym, subst, ℕ, Bool, true, false, Option, Some, None}
-use Rattle.std.specs.Prelude.{not, if◌then◌else◌, Contains, ⊤}
+use Rattle.std.proofs.Common.{◌≡◌, refl, sym, subst, ℕ, Bool, true, false, [], Option, Some, None}
+use Rattle.std.specs.List.{AllByRecursion}
+use Rattle.std.specs.Prelude.{not, if◌then◌else◌, ⊤}
 use Rattle.std.proofs.lemmas.Bool.{not-false}
-use Rattle.lists.proofs.Places.{in_none, all_back, all_front}
+use Rattle.lists.proofs.Places.{all_back, all_front}
 use Rattle.c_tree.specs.declared.expression.BinaryOperator.{BinaryOperator}
-use Rattle.c_tree.specs.declared.expression.Argument.TheOpen.{Form-F}
-use Rattle.c_tree.specs.declared.expression.Form.{out-Form}
-use Rattle.c_tree.specs.declared.expression.Expression.{Expression as ExpressionTree, out-Expression}
+use Rattle.c_tree.specs.declared.expression.Expression.{Expression as ExpressionTree}
 use Rattle.c_tree.specs.declared.expression.Place.{Place as PlaceTree}
 use Rattle.c_tree.specs.declared.expression.Pointer.{Pointer as PointerTree}
 use Rattle.c_tree.specs.declared.statement.AssignmentOperator.{AssignmentOperator}
@@ -21,8 +20,7 @@ use Rattle.c_tree.specs.declared.statement.Returned.TheVariants as returned_as
 use Rattle.c_program.specs.declared.tree.BinaryOperator.{BinaryOperator as ResolvedBinary}
 use Rattle.c_program.specs.declared.tree.ReturnType.{ReturnType}
 use Rattle.c_program.specs.declared.tree.ReturnType.TheVariants as returns_as
-use Rattle.c_program.specs.Tree.{Expression, Place, RightSide, Statement, Function, Program}
-use Rattle.c_program.specs.Calls.{calls_of_returned}
+use Rattle.c_program.specs.Tree.{Expression, Place, Statement, Function, Program}
 use Rattle.c_program.specs.Resolved as r
 use Rattle.c_rules.specs.declared.fault.Rule.TheVariants as rule
 use Rattle.c_rules.specs.declared.findings.Findings.{Findings}
@@ -32,15 +30,18 @@ use Rattle.c_rules.specs.declared.names.Scope.{Scope}
 use Rattle.c_rules.specs.Walks.{pure, finds, finds_if, place_in_tree, ◌>>=◌}
 use Rattle.c_expressions.specs.Expressions.{binary_operator, value}
 use Rattle.c_calls.specs.Arguments as a
+use Rattle.c_calls.specs.Cuts.{Cut}
 use Rattle.c_calls.specs.Calls as c
 use Rattle.c_expressions.specs.Targets.{target}
+use Rattle.c_resolution.specs.Sequences.{behind_cuts}
 use Rattle.c_resolution.specs.Simple as y
 use Rattle.c_resolved_program.specs.Leaves.{AreValid, expression_leaves, place_leaves, simple_form_leaves, simple_leaves, returned_leaves}
-use Rattle.c_resolved_program.specs.Orders.{IsOrderly, IsGiven, IsFoundCall, IsInOrder, GivesRoutines}
+use Rattle.c_resolved_program.specs.Orders.{IsOrderly, IsGiven, HasSlots, IsInOrder, GivesRoutines}
 use Rattle.c_resolved_program.proofs.Walks.{Shows, shows_pure, shows_then, shows_as, shows_broken, shows_if, IfAny}
 use Rattle.c_resolved_program.proofs.Known.{Is}
 use Rattle.c_resolved_program.proofs.Arguments.{target_shows, pointer_value_shows}
 use Rattle.c_resolved_program.proofs.Calls as k
+use Rattle.c_resolved_program.proofs.Sequences as q
 use Rattle.c_resolved_program.proofs.Trees.{value_shows}
 
 comparison_by : (b : Bool) (o : ResolvedBinary) → r.is_comparison o ≡ b → IfAny (λ o. r.is_comparison o ≡ false) (if b then None else Some o)
@@ -51,16 +52,6 @@ unless_is : (o : Option ResolvedBinary) → IfAny (λ o. r.is_comparison o ≡ f
 unless_is None = tt
 unless_is (Some o) = comparison_by (r.is_comparison o) o refl
 
--- a constant alone is no call
-zero_form : (s : Scope) (l : a.FormLayer) → y.is_zero_form l ≡ true → c.call_in s l ≡ None
-zero_form s (Form-F.Constant x at) h = refl
-zero_form s (Form-F.Place q) h = refl
-zero_form s (Form-F.Call x) h = cc
-zero_form s (Form-F.Unary operator e) h = refl
-zero_form s (Form-F.Cast words e) h = refl
-zero_form s (Form-F.Binary first terms) h = refl
-zero_form s (Form-F.Conditional first choices) h = refl
-
 module _ (whole : Findings) (P : Program) (number : ℕ) (f : Function) (s : Scope) (given_routines : GivesRoutines whole P) (in_loop : Bool) where
   abbrev Now : Type 0
   Now = IsOrderly P number f s
@@ -68,32 +59,31 @@ module _ (whole : Findings) (P : Program) (number : ℕ) (f : Function) (s : Sco
   abbrev InOrder : Statement → Type 0
   InOrder x = IsInOrder whole P number f in_loop x
 
-  abbrev pub IsRight : RightSide → Type 0
+  abbrev pub IsRight : Cut → Type 0
   IsRight x = k.IsRight whole P number f s given_routines in_loop x
 
   -- ---- assignments
 
-  pub assign_is : (at : ℕ) (q : Place) (right : RightSide) → r.IsPlace P f q → IsRight right → InOrder (Statement.Assign at q right)
-  assign_is at q right target is = record {
-    is = (target, is.0);
-    calls = is.1;
-    creates = λ thread routine inside. absurd (in_none (thread, routine) inside);
-  }
+  pub assign_is : (at : ℕ) (place : Place) (right : Cut) → r.IsPlace P f place → IsRight right →
+      InOrder (behind_cuts right.before (Statement.Assign at place right.rest))
+  assign_is at place right target is =
+      q.behind_is whole P number f in_loop right.before (Statement.Assign at place right.rest) is.0 (λ fits. (target, is.1 fits)) refl refl refl
 
-  assigned_shows : (at : ℕ) (q : PlaceTree) (e : ExpressionTree) → AreValid (place_leaves q) → AreValid (expression_leaves e) → Shows whole Now InOrder (y.assigned s at q e)
+  assigned_shows : (at : ℕ) (p : PlaceTree) (e : ExpressionTree) → AreValid (place_leaves p) → AreValid (expression_leaves e) → Shows whole Now InOrder (y.assigned s at p e)
   unfolding y.assigned
-  assigned_shows at q e h0 h1 =
-      let made = λ (p : Place) (right : RightSide). Statement.Assign (place_in_tree at) p right in
-      shows_then (target s q) (λ p. c.right_side s e >>= (λ right. pure (made p right))) (target_shows whole P number f s q h0)
-      (λ p. shows_then (c.right_side s e) (λ right. pure (made p right))
-      (shows_as (c.right_side s e) (λ b. b.0) (λ _ _ is. is) (k.right_side_shows whole P number f s given_routines in_loop e h1))
-      (λ right. shows_pure (made p right) (λ b. assign_is (place_in_tree at) p right b.0.1 b.1.0)))
+  assigned_shows at p e h0 h1 =
+      let made = λ (place : Place) (right : Cut). behind_cuts right.before (Statement.Assign (place_in_tree at) place right.rest) in
+      let walk = c.right_side s (place_in_tree at) s.kept_from e in
+      shows_then (target s p) (λ place. walk >>= (λ right. pure (made place right))) (target_shows whole P number f s p h0)
+      (λ place. shows_then walk (λ right. pure (made place right))
+      (shows_as walk (λ b. b.0) (λ _ _ is. is) (k.right_side_shows whole P number f s given_routines in_loop (place_in_tree at) e h1))
+      (λ right. shows_pure (made place right) (λ b. assign_is (place_in_tree at) place right b.0.1 b.1)))
 
   updated_is : (at : ℕ) (p : Place) (operator : ResolvedBinary) (right : Expression) → r.is_comparison operator ≡ false → r.IsPlace P f p → Is P f right →
       InOrder (y.updated at p operator right)
   updated_is at p operator right compound target is =
       k.plain whole P number f s given_routines in_loop (y.updated at p operator right)
-      (record { compound = compound; works_in = refl; target = target; operand = is }) refl refl
+      (record { compound = compound; works_in = refl; target = target; operand = is }) refl refl refl
 
   compound_by_shows : (o : Option ResolvedBinary) (at : ℕ) (p : Place) (right : Expression) → IfAny (λ o. r.is_comparison o ≡ false) o →
       Shows whole (r.IsPlace P f p × Is P f right) InOrder (y.compound_by o at p right)
@@ -141,9 +131,9 @@ module _ (whole : Findings) (P : Program) (number : ℕ) (f : Function) (s : Sco
 
   -- ---- returns
 
-  -- what is given back, each call of which is found
-  abbrev IsReturned : Option RightSide → Type 0
-  IsReturned right = r.IsReturn P f f.returns right × ((callee : ℕ) → Contains (calls_of_returned right) callee → IsFoundCall whole number callee)
+  -- what is given back, with its cuts
+  abbrev IsReturned : y.Given s → Type 0
+  IsReturned x = AllByRecursion InOrder x.0 × (AllByRecursion (HasSlots f) x.0 → r.IsReturn P f f.returns x.1)
 
   nothing_returned : (g : Gives) (returns : ReturnType) → y.may_return g returned_as.Nothing ≡ true → IsGiven g returns → r.IsReturn P f returns None
   nothing_returned gives.Nothing returns may is = subst (λ x. r.IsReturn P f x None) (sym is) tt
@@ -151,53 +141,46 @@ module _ (whole : Findings) (P : Program) (number : ℕ) (f : Function) (s : Sco
   nothing_returned gives.Pointer returns may is = cc
   nothing_returned gives.Unlisted returns may is = absurd is
 
-  integer_returned : (returns : ReturnType) (right : RightSide) → IsGiven gives.Integer returns → r.IsRightSide P f right → r.IsReturn P f returns (Some right)
-  integer_returned (returns_as.Integer ty) right given is = is
-  integer_returned returns_as.Void right given is = absurd given
-  integer_returned returns_as.Pointer right given is = absurd given
+  integer_returned : (returns : ReturnType) (x : Expression) → IsGiven gives.Integer returns → Is P f x → r.IsReturn P f returns (Some x)
+  integer_returned (returns_as.Integer ty) x given is = is
+  integer_returned returns_as.Void x given is = absurd given
+  integer_returned returns_as.Pointer x given is = absurd given
 
-  pointer_right : (right : RightSide) → k.IsValueSide whole P number f s given_routines in_loop right → r.IsRightSide P f right → r.IsReturn P f returns_as.Pointer (Some right)
-  pointer_right (RightSide.Value x) side is = is
-  pointer_right (RightSide.Call callee list) side is = absurd side
+  value_returned : (g : Gives) (returns : ReturnType) (e : ExpressionTree) (x : Expression) → y.may_return g (returned_as.Value e) ≡ true → IsGiven g returns →
+      Is P f x → r.IsReturn P f returns (Some x)
+  value_returned gives.Nothing returns e x may given is = cc
+  value_returned gives.Integer returns e x may given is = integer_returned returns x given is
+  value_returned gives.Pointer returns e x may given is = subst (λ y. r.IsReturn P f y (Some x)) (sym given) is
+  value_returned gives.Unlisted returns e x may given is = absurd given
 
-  value_returned : (g : Gives) (returns : ReturnType) (e : ExpressionTree) (right : RightSide) → y.may_return g (returned_as.Value e) ≡ true → IsGiven g returns →
-      r.IsRightSide P f right → (y.is_zero e ≡ true → k.IsValueSide whole P number f s given_routines in_loop right) → r.IsReturn P f returns (Some right)
-  value_returned gives.Nothing returns e right may given is side = cc
-  value_returned gives.Integer returns e right may given is side = integer_returned returns right given is
-  value_returned gives.Pointer returns e right may given is side = subst (λ x. r.IsReturn P f x (Some right)) (sym given) (pointer_right right (side may) is)
-  value_returned gives.Unlisted returns e right may given is side = absurd given
+  pointer_returned : (g : Gives) (returns : ReturnType) (p : PointerTree) (x : Expression) → y.may_return g (returned_as.Pointer p) ≡ true → IsGiven g returns →
+      Is P f x → r.IsReturn P f returns (Some x)
+  pointer_returned gives.Nothing returns p x may given is = cc
+  pointer_returned gives.Integer returns p x may given is = cc
+  pointer_returned gives.Pointer returns p x may given is = subst (λ y. r.IsReturn P f y (Some x)) (sym given) is
+  pointer_returned gives.Unlisted returns p x may given is = absurd given
 
-  pointer_returned : (g : Gives) (returns : ReturnType) (q : PointerTree) (x : Expression) → y.may_return g (returned_as.Pointer q) ≡ true → IsGiven g returns →
-      Is P f x → r.IsReturn P f returns (Some (RightSide.Value x))
-  pointer_returned gives.Nothing returns q x may given is = cc
-  pointer_returned gives.Integer returns q x may given is = cc
-  pointer_returned gives.Pointer returns q x may given is = subst (λ y. r.IsReturn P f y (Some (RightSide.Value x))) (sym given) is
-  pointer_returned gives.Unlisted returns q x may given is = absurd given
-
-  right_of_shows : (x : Returned) → AreValid (returned_leaves x) → Shows whole (Now × (y.may_return s.gives x ≡ true)) IsReturned (y.right_of s x)
-  right_of_shows returned_as.Nothing valid =
-      shows_pure None (λ b. (nothing_returned s.gives f.returns b.1 b.0.gives, λ callee inside. absurd (in_none callee inside)))
-  right_of_shows (returned_as.Value e) valid =
-      shows_then (c.right_side s e) (λ right. pure (Some right))
-      (shows_as (c.right_side s e) (λ b. b.0) (λ _ _ is. is) (k.right_side_shows whole P number f s given_routines in_loop e valid))
-      (λ right. shows_pure (Some right)
-      (λ b. (value_returned s.gives f.returns e right b.0.1 b.0.0.gives b.1.0.0 (λ zero. b.1.1 (zero_form s (out-Form (out-Expression e).form) zero)), b.1.0.1)))
-  right_of_shows (returned_as.Pointer q) valid =
-      shows_then (a.pointer_value s q) (λ x. pure (Some (RightSide.Value x)))
-      (shows_as (a.pointer_value s q) (λ b. b.0) (λ _ _ is. is) (pointer_value_shows whole P number f s q valid))
-      (λ x. shows_pure (Some (RightSide.Value x))
-      (λ b. (pointer_returned s.gives f.returns q x b.0.1 b.0.0.gives b.1, λ callee inside. absurd (in_none callee inside))))
+  given_back_shows : (at : ℕ) (x : Returned) → AreValid (returned_leaves x) → Shows whole (Now × (y.may_return s.gives x ≡ true)) IsReturned (y.given_back s at x)
+  given_back_shows at returned_as.Nothing valid = shows_pure ([], None) (λ b. (tt, λ _. nothing_returned s.gives f.returns b.1 b.0.gives))
+  given_back_shows at (returned_as.Value e) valid =
+      let walk = c.right_side s at s.kept_from e in
+      shows_then walk (λ right. pure (right.before, Some right.rest))
+      (shows_as walk (λ b. b.0) (λ _ _ is. is) (k.right_side_shows whole P number f s given_routines in_loop at e valid))
+      (λ right. shows_pure (right.before, Some right.rest)
+      (λ b. (b.1.0, λ fits. value_returned s.gives f.returns e right.rest b.0.1 b.0.0.gives (b.1.1 fits))))
+  given_back_shows at (returned_as.Pointer p) valid =
+      shows_then (a.pointer_value s p) (λ x. pure ([], Some x))
+      (shows_as (a.pointer_value s p) (λ b. b.0) (λ _ _ is. is) (pointer_value_shows whole P number f s p valid))
+      (λ x. shows_pure ([], Some x) (λ b. (tt, λ _. pointer_returned s.gives f.returns p x b.0.1 b.0.0.gives b.1)))
 
   pub returned_shows : (x : Returned) (at : ℕ) → AreValid (returned_leaves x) → Shows whole Now InOrder (y.returned s x at)
   unfolding y.returned
   returned_shows x at valid =
-      let made = λ (right : Option RightSide). Statement.Return (place_in_tree at) right in
-      shows_then (finds_if (not (y.may_return s.gives x)) rule.Kind at) (λ _. y.right_of s x >>= (λ right. pure (made right)))
+      let made = λ (given : y.Given s). behind_cuts given.0 (Statement.Return (place_in_tree at) given.1) in
+      let walk = y.given_back s (place_in_tree at) x in
+      shows_then (finds_if (not (y.may_return s.gives x)) rule.Kind at) (λ _. walk >>= (λ given. pure (made given)))
       (shows_if (not (y.may_return s.gives x)) rule.Kind at)
-      (λ _. shows_then (y.right_of s x) (λ right. pure (made right))
-      (shows_as (y.right_of s x) (λ b. (b.0, not-false (y.may_return s.gives x) b.1)) (λ _ _ is. is) (right_of_shows x valid))
-      (λ right. shows_pure (made right) (λ b. record {
-        is = b.1.0;
-        calls = b.1.1;
-        creates = λ thread routine inside. absurd (in_none (thread, routine) inside);
-      })))
+      (λ _. shows_then walk (λ given. pure (made given))
+      (shows_as walk (λ b. (b.0, not-false (y.may_return s.gives x) b.1)) (λ _ _ is. is) (given_back_shows (place_in_tree at) x valid))
+      (λ given. shows_pure (made given)
+      (λ b. q.behind_is whole P number f in_loop given.0 (Statement.Return (place_in_tree at) given.1) b.1.0 b.1.1 refl refl refl)))

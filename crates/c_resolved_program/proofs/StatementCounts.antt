@@ -5,10 +5,11 @@ use Rattle.c_tree.specs.declared.expression.Expression.{Expression as Expression
 use Rattle.c_tree.specs.declared.declaration.Declaration.{Declaration}
 use Rattle.c_tree.specs.declared.statement.SimpleStatement.{SimpleStatement}
 use Rattle.c_tree.specs.declared.statement.ForStart.{ForStart}
-use Rattle.c_program.specs.Tree.{Condition, Statement}
+use Rattle.c_program.specs.Tree.{Statement}
 use Rattle.c_rules.specs.Names.{opened, closed}
 use Rattle.c_rules.specs.Walks.{pure, ◌>>=◌, ◌>>◌}
 use Rattle.c_expressions.specs.Expressions.{condition}
+use Rattle.c_resolution.specs.Sequences.{sequence}
 use Rattle.c_resolution.specs.Simple.{check_jump}
 use Rattle.c_resolution.specs.Locals.{declaration}
 use Rattle.c_resolution.specs.States.{Goes, finding, scoping}
@@ -28,14 +29,14 @@ loop_body_grows n body h =
 
 pub declared_start_grows : (d : Declaration) → Grows (length d.declarators) (y.declared_start d)
 declared_start_grows d =
-    in_turn (length d.declarators) (length d.declarators) 0 (declaration [] d) (λ steps. pure (y.sequence steps)) (omega arith) (declaration_grows [] d)
-    (λ steps. grows_pure (y.sequence steps))
+    in_turn (length d.declarators) (length d.declarators) 0 (declaration [] d) (λ steps. pure (sequence steps)) (omega arith) (declaration_grows [] d)
+    (λ steps. grows_pure (sequence steps))
 
 for_head_grows : (n : ℕ) (begin : ForStart) (test : Option ExpressionTree) (step : Option SimpleStatement) → Grows n (y.for_start begin) → Grows n (y.for_head begin test step)
 unfolding y.for_head
 for_head_grows n begin test step h =
-    let out : Statement → Condition → Statement → Goes y.Head = λ first c last. pure (first, c, last) in
-    let stepping = λ (first : Statement) (c : Condition). finding (y.for_step step) >>= out first c in
+    let out : Statement → Statement → Statement → Goes y.Head = λ first c last. pure (first, c, last) in
+    let stepping = λ (first c : Statement). finding (y.for_step step) >>= out first c in
     in_turn n n 0 (y.for_start begin) (λ first. finding (y.for_condition test) >>= stepping first) (omega arith) h
     (λ first. in_turn 0 0 0 (finding (y.for_condition test)) (stepping first) (omega arith) (grows_finding (y.for_condition test))
     (λ c. in_turn 0 0 0 (finding (y.for_step step)) (out first c) (omega arith) (grows_finding (y.for_step step)) (λ last. grows_pure {A = y.Head} (first, c, last))))
@@ -61,21 +62,21 @@ block_statement_grows n items h =
 pub branch_grows : (n m k : ℕ) (test : ExpressionTree) (consequent : Goes Statement) (alternative : Option (Goes Statement)) → m + k ≤ n → Grows m consequent →
     Grows k (y.missing_is_done alternative) → Grows n (y.branch test consequent alternative)
 branch_grows n m k test consequent alternative le h other =
-    let out = λ (c : Condition) (a b : Statement). pure (y.if_of c a b) in
-    let second = λ (c : Condition) (a : Statement). y.missing_is_done alternative >>= out c a in
+    let out = λ (c : Statement) (a b : Statement). pure (y.if_of c a b) in
+    let second = λ (c : Statement) (a : Statement). y.missing_is_done alternative >>= out c a in
     in_turn n 0 n (finding (λ s. condition s test)) (λ c. consequent >>= second c) (omega arith) (grows_finding (λ s. condition s test))
     (λ c. in_turn n m k consequent (second c) le h
     (λ a. in_turn k k 0 (y.missing_is_done alternative) (out c a) (omega arith) other (λ b. grows_pure (y.if_of c a b))))
 
 pub while_loop_grows : (n : ℕ) (test : ExpressionTree) (body : Goes Statement) → Grows n body → Grows n (y.while_loop test body)
 while_loop_grows n test body h =
-    let out = λ (c : Condition) (b : Statement). pure (y.while_of c b) in
+    let out = λ (c b : Statement). pure (y.while_of c b) in
     in_turn n 0 n (finding (λ s. condition s test)) (λ c. y.loop_body body >>= out c) (omega arith) (grows_finding (λ s. condition s test))
     (λ c. in_turn n n 0 (y.loop_body body) (out c) (omega arith) (loop_body_grows n body h) (λ b. grows_pure (y.while_of c b)))
 
 pub do_while_grows : (n : ℕ) (body : Goes Statement) (test : ExpressionTree) → Grows n body → Grows n (y.do_while body test)
 do_while_grows n body test h =
-    let out = λ (b : Statement) (c : Condition). pure (y.do_while_of b c) in
+    let out = λ (b c : Statement). pure (y.do_while_of b c) in
     in_turn n n 0 (y.loop_body body) (λ b. finding (λ s. condition s test) >>= out b) (omega arith) (loop_body_grows n body h)
     (λ b. in_turn 0 0 0 (finding (λ s. condition s test)) (out b) (omega arith) (grows_finding (λ s. condition s test)) (λ c. grows_pure (y.do_while_of b c)))
 

@@ -1,9 +1,9 @@
 -- What statements and blocks give.
-use Rattle.std.proofs.Common.{◌≡◌, refl, sym, ap, subst, ℕ, ◌≤◌, Bool, true, false, List, [], ◌∷◌, ◌++◌, map, length, Option, Some, None, arith}
-use Rattle.std.specs.Prelude.{◌+◌, ◌-◌, ◌^◌, min, nat_eq, ⊤}
+use Rattle.std.proofs.Common.{◌≡◌, refl, sym, ap, subst, ℕ, ◌<◌, ◌≤◌, Bool, true, false, List, [], ◌∷◌, ◌++◌, map, Option, Some, None, arith}
+use Rattle.std.specs.Prelude.{◌+◌, ◌-◌, min, nat_eq, ⊤}
 use Rattle.std.specs.List.{AllByRecursion}
 use Rattle.std.proofs.lemmas.Bool.{both_ways}
-use Rattle.lists.proofs.Places.{all_back, all_front}
+use Rattle.lists.proofs.Places.{all_back, all_front, in_none}
 use denote.Hole.Holds.{Such}
 use Rattle.c_tree.specs.declared.expression.Expression.{Expression as ExpressionTree}
 use Rattle.c_tree.specs.declared.statement.SimpleStatement.{SimpleStatement}
@@ -16,13 +16,13 @@ use Rattle.c_tree.specs.declared.statement.BlockItem.TheOpen.{Block-F, BlockItem
 use Rattle.c_tree.specs.declared.statement.BlockItem.TheBlock.{the_family, member-BlockItem, member-Statement, member-Block}
 use Rattle.c_tree.specs.declared.statement.BlockItem.TheFolds.{claims, map-BlockItem, map-Statement, map-Block, fold-BlockItem, fold-Statement}
 use Rattle.c_tree.specs.declared.statement.BlockItem.TheFolds.{fold-roll-BlockItem, fold-roll-Statement, fold-roll-Block, ind-Block}
-use Rattle.c_program.specs.Tree.{Condition, Statement, Function, Program}
-use Rattle.c_program.specs.Resolved as r
+use Rattle.c_program.specs.Tree.{Statement, Function, Program}
 use Rattle.c_rules.specs.declared.fault.Rule.TheVariants as rule
 use Rattle.c_rules.specs.declared.findings.Findings.{Findings}
 use Rattle.c_rules.specs.Names.{opened, closed}
 use Rattle.c_rules.specs.Walks.{pure, ◌>>=◌, ◌>>◌}
 use Rattle.c_expressions.specs.Expressions.{condition}
+use Rattle.c_resolution.specs.Sequences.{sequence}
 use Rattle.c_resolution.specs.Simple.{simple, returned, check_jump}
 use Rattle.c_resolution.specs.Locals.{declaration}
 use Rattle.c_resolution.specs.States.{state, Goes, finding, scoping}
@@ -30,7 +30,7 @@ use Rattle.c_resolution.specs.Statements as y
 use Rattle.c_resolution.specs.Statements.{Adds, item_step, statement_step, block_step, item, statement, items}
 use Rattle.c_resolved_program.specs.Leaves.{Leaves, AreValid, all_of, of_any, expression_leaves, simple_leaves, start_leaves}
 use Rattle.c_resolved_program.specs.Leaves.{item_layer, statement_layer, block_layer, block_leaves}
-use Rattle.c_resolved_program.specs.Orders.{left, given, IsInOrder, IsAhead, Holds, GivesRoutines}
+use Rattle.c_resolved_program.specs.Orders.{left, given, IsInOrder, IsAsked, IsAhead, Holds, GivesRoutines}
 use Rattle.c_resolved_program.proofs.Walks.{shows_pure, shows_as, shows_if, turn, all_more}
 use Rattle.c_resolved_program.proofs.Calls as k
 use Rattle.c_resolved_program.proofs.Trees.{condition_shows}
@@ -56,12 +56,12 @@ jump_is false loops none some = absurd (both_ways (nat_eq loops 0) some (ap (λ 
 out_of_loop : (b : Bool) (n m : ℕ) → m ≤ min (n + 1) 0xffff_ffff_ffff_ffff → (b ≡ false → n ≡ 0) → b ≡ false → m - 1 ≡ 0
 out_of_loop b n m le none is = let zero_is : n ≡ 0 = none is in grind arith
 
-module _ (whole : Findings) (P : Program) (number : ℕ) (f : Function) (given_routines : GivesRoutines whole P) (small : length f.locals ≤ 2 ^ 32) where
+module _ (whole : Findings) (P : Program) (number : ℕ) (f : Function) (given_routines : GivesRoutines whole P) (small : f.declared_locals < 0xffff_ffff) where
   abbrev InOrder : Bool → Statement → Type 0
   InOrder b x = IsInOrder whole P number f b x
 
-  abbrev AsCondition : Condition → Type 0
-  AsCondition c = r.IsCondition P f c
+  abbrev AsCondition : Statement → Type 0
+  AsCondition c = IsAsked whole P number f c
 
   abbrev All : Bool → List Statement → Type 0
   All b xs = AllByRecursion (InOrder b) xs
@@ -90,7 +90,7 @@ module _ (whole : Findings) (P : Program) (number : ℕ) (f : Function) (given_r
             let a = subst (λ o. IsAhead whole f (left o)) (turn (body inside) out) ahead in
             let order = holds.orderly in
             let deep : Holds P number f true inside = record {
-              orderly = record { inner = order.inner; outer = order.outer; headers = order.headers; function = order.function; gives = order.gives };
+              orderly = record { inner = order.inner; outer = order.outer; headers = order.headers; function = order.function; gives = order.gives; kept = order.kept };
               loops = λ no. cc;
               lengths = holds.lengths;
             } in
@@ -98,7 +98,7 @@ module _ (whole : Findings) (P : Program) (number : ℕ) (f : Function) (given_r
             let later = done.0.orderly in
             subst (λ o. Holds P number f b (left o) × InOrder true (given o)) (sym (turn (body inside) out)) (
               record {
-                orderly = record { inner = later.inner; outer = later.outer; headers = later.headers; function = later.function; gives = later.gives };
+                orderly = record { inner = later.inner; outer = later.outer; headers = later.headers; function = later.function; gives = later.gives; kept = later.kept };
                 loops = out_of_loop b x.scope.loops (left (body inside)).scope.loops (stays inside).0.loops holds.loops;
                 lengths = done.0.lengths;
               },
@@ -112,13 +112,14 @@ module _ (whole : Findings) (P : Program) (number : ℕ) (f : Function) (given_r
   start_does b start.Nothing valid = does_pure Statement.Done (λ _. q.nothing_in_order whole P number f false)
   start_does b (start.Simple x) valid = simple_does b false x valid
   start_does b (start.Declaration d) valid =
-      does_then (declaration [] d) (λ list. pure (y.sequence list))
+      does_then (declaration [] d) (λ list. pure (sequence list))
       (does_as (declaration [] d) (λ _. tt) (λ _ _ is. is) (declaration_does whole P number f given_routines small b false [] d valid))
-      (λ list. does_pure (y.sequence list) (λ c. q.sequence_is whole P number f false list c.1))
+      (λ list. does_pure (sequence list) (λ c. q.sequence_is whole P number f false list c.1))
 
   for_condition_does : (b : Bool) {Before : Type 0} (test : Option ExpressionTree) → AreValid (of_any expression_leaves test) →
       Does whole P number f b Before AsCondition (finding (y.for_condition test))
-  for_condition_does b None valid = does_finding (y.for_condition None) (λ s. shows_pure y.int_one (λ _. refl))
+  for_condition_does b None valid = does_finding (y.for_condition None) (λ s. shows_pure y.int_one
+      (λ _. record { is = λ _. refl; few = omega arith; calls = λ callee inside. absurd (in_none callee inside) }))
   for_condition_does b (Some test) valid = condition_does b test valid
 
   for_step_does : (b : Bool) {Before : Type 0} (x : Option SimpleStatement) → AreValid (of_any simple_leaves x) → Does whole P number f b Before (InOrder false)
@@ -130,7 +131,7 @@ module _ (whole : Findings) (P : Program) (number : ℕ) (f : Function) (given_r
       AreValid (of_any expression_leaves test) → AreValid (of_any simple_leaves step) → Does whole P number f b Before (q.IsHead whole P number f) (y.for_head begin test step)
   unfolding y.for_head
   for_head_does b begin test step h0 h1 h2 =
-      let stepping = λ (first : Statement) (c : Condition). finding (y.for_step step) >>= (λ last. pure (first, c, last)) in
+      let stepping = λ (first : Statement) (c : Statement). finding (y.for_step step) >>= (λ last. pure (first, c, last)) in
       let testing = λ (first : Statement). finding (y.for_condition test) >>= stepping first in
       does_then (y.for_start begin) testing (start_does b begin h0)
       (λ first. does_then (finding (y.for_condition test)) (stepping first) (for_condition_does b test h1)
@@ -140,7 +141,7 @@ module _ (whole : Findings) (P : Program) (number : ℕ) (f : Function) (given_r
   moving_head : (begin : ForStart) (test : Option ExpressionTree) (step : Option SimpleStatement) → m.IsMoving (y.for_head begin test step)
   unfolding y.for_head
   moving_head begin test step =
-      let stepping = λ (first : Statement) (c : Condition). finding (y.for_step step) >>= (λ last. pure (first, c, last)) in
+      let stepping = λ (first : Statement) (c : Statement). finding (y.for_step step) >>= (λ last. pure (first, c, last)) in
       let testing = λ (first : Statement). finding (y.for_condition test) >>= stepping first in
       m.moving_then (y.for_start begin) testing (moving_start begin)
       (λ first. m.moving_then (finding (y.for_condition test)) (stepping first) (m.moving_staying (finding (y.for_condition test)) (m.staying_finding (y.for_condition test)))
@@ -150,7 +151,7 @@ module _ (whole : Findings) (P : Program) (number : ℕ) (f : Function) (given_r
       moving_start : (x : ForStart) → m.IsMoving (y.for_start x)
       moving_start start.Nothing = m.moving_pure Statement.Done
       moving_start (start.Simple x) = m.moving_staying (finding (λ s. simple s x)) (m.staying_finding (λ s. simple s x))
-      moving_start (start.Declaration d) = m.moving_then (declaration [] d) (λ list. pure (y.sequence list)) (m.moving_declaration [] d) (λ list. m.moving_pure (y.sequence list))
+      moving_start (start.Declaration d) = m.moving_then (declaration [] d) (λ list. pure (sequence list)) (m.moving_declaration [] d) (λ list. m.moving_pure (sequence list))
 
   -- ---- what is claimed of each tree
 
@@ -246,14 +247,14 @@ module _ (whole : Findings) (P : Program) (number : ℕ) (f : Function) (given_r
   block_case x =
       let list = map item (map (λ e. e.0) x.items) in
       record {
-        moves = m.moving_then (y.block_items list) (λ steps. pure (y.sequence steps))
-            (m.moving_each (λ (steps : List Statement) (add : Adds). add steps) [] list (each_moves x.items)) (λ steps. m.moving_pure (y.sequence steps));
+        moves = m.moving_then (y.block_items list) (λ steps. pure (sequence steps))
+            (m.moving_each (λ (steps : List Statement) (add : Adds). add steps) [] list (each_moves x.items)) (λ steps. m.moving_pure (sequence steps));
         does = λ valid b.
-            does_then (y.block_items list) (λ steps. pure (y.sequence steps))
+            does_then (y.block_items list) (λ steps. pure (sequence steps))
             (does_as (y.block_items list) (λ _. (tt, tt)) (λ _ _ is. is)
             (does_through {Before = ⊤} (λ (w : Adds). (steps : List Statement) → Does whole P number f b (All b steps) (All b) (w steps)) (All b) (λ steps add. add steps)
             (λ steps add h. does_as (add steps) (λ c. c.1) (λ _ _ is. is) (h steps)) [] list (each_item b x.items valid)))
-            (λ steps. does_pure (y.sequence steps) (λ c. q.sequence_is whole P number f b steps c.1));
+            (λ steps. does_pure (sequence steps) (λ c. q.sequence_is whole P number f b steps c.1));
       }
 
   jump_case : (x : Statement) (at : ℕ) → ((b : Bool) → b ≡ true → InOrder b x) → IsStatement [] (y.jump x at)
@@ -268,10 +269,10 @@ module _ (whole : Findings) (P : Program) (number : ℕ) (f : Function) (given_r
   }
 
   break_is : (b : Bool) → b ≡ true → InOrder b Statement.Break
-  break_is b h = k.plain_in whole P number f b Statement.Break h refl refl
+  break_is b h = k.plain_in whole P number f b Statement.Break h refl refl refl
 
   continue_is : (b : Bool) → b ≡ true → InOrder b Statement.Continue
-  continue_is b h = k.plain_in whole P number f b Statement.Continue h refl refl
+  continue_is b h = k.plain_in whole P number f b Statement.Continue h refl refl refl
 
   block_statement_is : (leaves : Leaves) (w : Goes Statement) → IsBlock leaves w → IsStatement leaves (y.block_statement w)
   block_statement_is leaves w h = record {
@@ -287,8 +288,8 @@ module _ (whole : Findings) (P : Program) (number : ℕ) (f : Function) (given_r
   branch_is : (test : ExpressionTree) (leaves others : Leaves) (consequent alternative : Goes Statement) → IsStatement leaves consequent → IsStatement others alternative →
       IsStatement (expression_leaves test ++ (leaves ++ others)) (finding (λ s. condition s test) >>= (λ c. consequent >>= (λ x. alternative >>= (λ z. pure (y.if_of c x z)))))
   branch_is test leaves others consequent alternative h k =
-      let last = λ (c : Condition) (x : Statement). alternative >>= (λ z. pure (y.if_of c x z)) in
-      let next = λ (c : Condition). consequent >>= last c in
+      let last = λ (c : Statement) (x : Statement). alternative >>= (λ z. pure (y.if_of c x z)) in
+      let next = λ (c : Statement). consequent >>= last c in
       record {
         stays = m.staying_then (finding (λ s. condition s test)) next (m.staying_finding (λ s. condition s test))
             (λ c. m.staying_then consequent (last c) h.stays (λ x. m.staying_then alternative (λ z. pure (y.if_of c x z)) k.stays (λ z. m.staying_pure (y.if_of c x z))));
@@ -307,7 +308,7 @@ module _ (whole : Findings) (P : Program) (number : ℕ) (f : Function) (given_r
   while_loop_is : (test : ExpressionTree) (leaves : Leaves) (body : Goes Statement) → IsStatement leaves body → IsStatement (expression_leaves test ++ leaves)
       (y.while_loop test body)
   while_loop_is test leaves body h =
-      let next = λ (c : Condition). y.loop_body body >>= (λ x. pure (y.while_of c x)) in
+      let next = λ (c : Statement). y.loop_body body >>= (λ x. pure (y.while_of c x)) in
       record {
         stays = m.staying_then (finding (λ s. condition s test)) next (m.staying_finding (λ s. condition s test))
             (λ c. m.staying_then (y.loop_body body) (λ x. pure (y.while_of c x)) (m.in_loop_body body h.stays) (λ x. m.staying_pure (y.while_of c x)));
@@ -360,7 +361,7 @@ module _ (whole : Findings) (P : Program) (number : ℕ) (f : Function) (given_r
   statement_case (Statement-F.Block body) = block_statement_is (block_leaves body.0) (items body.0) body.1
   statement_case Statement-F.Empty = record {
     stays = m.staying_pure Statement.Empty;
-    does = λ valid b. does_pure Statement.Empty (λ _. k.plain_in whole P number f b Statement.Empty tt refl refl);
+    does = λ valid b. does_pure Statement.Empty (λ _. k.plain_in whole P number f b Statement.Empty tt refl refl refl);
   }
   statement_case (Statement-F.Simple x) = record { stays = m.staying_finding (λ s. simple s x); does = λ valid b. simple_does b b x valid }
   statement_case (Statement-F.Break at) = jump_case Statement.Break at break_is

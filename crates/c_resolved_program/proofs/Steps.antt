@@ -1,9 +1,10 @@
 -- What walks that change the names in scope give within a function, where no rule is broken in the whole text.
 use Rattle.std.proofs.Common.{◌≡◌, refl, sym, ap, subst, ◌∙◌, ℕ, zero, suc, ◌<◌, ◌≤◌, Bool, true, false, List, [], ◌∷◌, ◌++◌, length, Option, Some, None, append_assoc, arith}
-use Rattle.std.specs.Prelude.{◌-◌, fold, slice_get, remove, if◌then◌else◌, ⊤}
+use Rattle.std.specs.Prelude.{◌-◌, fold, slice_get, take, remove, if◌then◌else◌, ⊤}
 use Rattle.std.specs.List.{AllByRecursion}
 use Rattle.std.specs.Str.{bytes_eq}
 use Rattle.c_tree.specs.declared.expression.Name.{Name}
+use Rattle.c_program.specs.declared.tree.LocalVariable.{LocalVariable}
 use Rattle.c_program.specs.Tree.{Function, Program}
 use Rattle.c_rules.specs.declared.fault.Rule.TheVariants as rule
 use Rattle.c_rules.specs.declared.findings.Findings.{Findings}
@@ -15,9 +16,9 @@ use Rattle.c_rules.specs.Walks.{Outcome, Finds, pure, and_then, through, finds, 
 use Rattle.c_resolution.specs.States.{State, state, Goes, in_scope, finding, scoping}
 use Rattle.c_resolution.specs.Locals.{declare}
 use Rattle.std.proofs.lemmas.List.{length-append}
-use Rattle.c_resolved_program.specs.Orders.{left, given, IsMeant, AreMeant, IsOrderly, IsFront, IsAhead, Holds}
+use Rattle.c_resolved_program.specs.Orders.{left, given, declared_in, IsMeant, AreMeant, IsOrderly, IsFront, IsAhead, Holds}
 use Rattle.c_resolved_program.proofs.Walks.{Shows, shows_broken, outcome, turn, IfAny, all_more}
-use Rattle.std.proofs.lemmas.Option.{slice_get_within}
+use Rattle.std.proofs.lemmas.Option.{slice_get_within, none-some}
 use Rattle.lists.proofs.Places.{get_middle}
 use Rattle.c_resolved_program.proofs.Arguments.{element_is}
 
@@ -34,6 +35,25 @@ front_length xs a list h = slice_get_within list (length xs) a (next_in xs a lis
 
 pub front_le : {A : Type 0} (xs list : List A) → IsFront xs list → length xs ≤ length list
 front_le xs list h = let e = length-append xs h.0 in let f = ap length h.1 in omega arith
+
+-- ---- the locals that a function declares
+
+taken_few : {A : Type 0} (n : ℕ) (list : List A) → length (take n list) ≤ n
+taken_few zero list = omega arith
+taken_few (suc n) [] = omega arith
+taken_few (suc n) (a ∷ list) = let e = taken_few n list in omega (arith, e)
+
+pub declared_few : (f : Function) → length (declared_in f) ≤ f.declared_locals
+declared_few f = taken_few f.declared_locals f.locals
+
+taken_at : {A : Type 0} (n : ℕ) (list : List A) (k : ℕ) (a : A) → slice_get (take n list) k ≡ Some a → slice_get list k ≡ Some a
+taken_at zero list k a is = absurd (none-some a is)
+taken_at (suc n) [] k a is = is
+taken_at (suc n) (x ∷ list) zero a is = is
+taken_at (suc n) (x ∷ list) (suc k) a is = taken_at n list k a is
+
+pub declared_at : (f : Function) (k : ℕ) (l : LocalVariable) → slice_get (declared_in f) k ≡ Some l → slice_get f.locals k ≡ Some l
+declared_at f k l is = taken_at f.declared_locals f.locals k l is
 
 -- ---- what holds between two parts within a function
 
@@ -87,6 +107,7 @@ closed_holds P number f in_loop (Some level) s found are holds =
         headers = order.headers;
         function = order.function;
         gives = order.gives;
+        kept = order.kept;
       };
       loops = holds.loops;
       lengths = holds.lengths;
@@ -192,6 +213,7 @@ module _ {whole : Findings} {P : Program} {number : ℕ} {f : Function} {in_loop
               headers = order.headers;
               function = order.function;
               gives = order.gives;
+              kept = order.kept;
             };
             loops = holds.loops;
             lengths = holds.lengths;
@@ -226,6 +248,7 @@ module _ {whole : Findings} {P : Program} {number : ℕ} {f : Function} {in_loop
               headers = order.headers;
               function = order.function;
               gives = order.gives;
+              kept = order.kept;
             };
             loops = holds.loops;
             lengths = holds.lengths;

@@ -1,8 +1,8 @@
 -- What walks that find broken rules give, where no rule is broken in the whole text.
-use Rattle.std.proofs.Common.{◌≡◌, refl, sym, ap, subst, ℕ, suc, Bool, true, false, List, [], ◌∷◌, ◌++◌, length, Option, Some, None, ◌∙◌, add-zero, zero-add, arith}
+use Rattle.std.proofs.Common.{◌≡◌, refl, inl, inr, sym, ap, subst, ℕ, suc, Bool, true, false, List, [], ◌∷◌, ◌++◌, length, Option, Some, None, ◌∙◌, add-zero, zero-add, arith}
 use Rattle.std.specs.Prelude.{◌+◌, fold, if◌then◌else◌, ⊤}
 use Rattle.std.specs.List.{AllByRecursion}
-use Rattle.std.proofs.lemmas.List.Elements.{Contains-append_left, Contains-append_right}
+use Rattle.std.proofs.lemmas.List.Elements.{Contains-append_left, Contains-append_right, Contains-append_cases}
 use Rattle.std.proofs.lemmas.Option.{same_Some, none-some}
 use Rattle.lists.proofs.Places.{length_more}
 use Rattle.c_rules.specs.declared.fault.Rule.{Rule}
@@ -13,7 +13,7 @@ use Rattle.c_rules.specs.declared.findings.Creation.{Creation}
 use Rattle.c_rules.specs.Faults.{first, is_before}
 use Rattle.c_rules.specs.Findings as findings
 use Rattle.c_rules.specs.Walks.{Outcome, Walk, Finds, pure, and_then, ◌>>=◌, optional, through, each, visited, finds, finds_if, finds_any, calls, creates}
-use Rattle.c_resolved_program.specs.Orders.{left, given, IsPartOf, IsFoundCall, IsFoundCreation}
+use Rattle.c_resolved_program.specs.Orders.{left, given, IsPartOf, IsFoundCall, AreFound, IsFoundCreation}
 
 -- ---- outcomes
 
@@ -51,6 +51,14 @@ IfAny Is (Some a) = Is a
 pub all_more : {A : Type 0} (Is : A → Type 0) (xs : List A) (a : A) → AllByRecursion Is xs → Is a → AllByRecursion Is (xs ++ a ∷ [])
 all_more Is [] a all is = (is, tt)
 all_more Is (x ∷ xs) a all is = (all.0, all_more Is xs a all.1 is)
+
+-- what is found of two lists of calls is found of both
+pub both_found : (whole : Findings) (number : ℕ) (xs ys : List ℕ) → AreFound whole number xs → AreFound whole number ys → AreFound whole number (xs ++ ys)
+both_found whole number xs ys h k callee inside =
+    elim (Contains-append_cases xs ys callee inside) [
+      | inl first ↦ h callee first
+      | inr later ↦ k callee later
+    ]
 
 one_more : (m n k : ℕ) → m ≡ suc n → n + suc k ≡ m + k
 one_more m n k is = omega arith

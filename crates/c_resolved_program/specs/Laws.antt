@@ -17,10 +17,10 @@ use Rattle.c_resolved_program.specs.Leaves.{Leaf, IsValidLeaf, AreValid, HasVali
 use Rattle.c_resolved_program.specs.Gathered.{IsGathered}
 use Rattle.c_resolved_program.specs.Orders.{left, given, IsPartOf, IsOrderly, IsAhead, Holds, IsInOrder, GivesRoutines}
 
--- each declaration of the program has a number of 32 bits, and each function a number of locals, parameters among them, of 32 bits
+-- each declaration of the program has a number of 32 bits, and so has each local behind those that a function declares
 pub record IsNumbered (P : Program) : Type 0 where
   pub functions : length P.functions ≤ 2 ^ 32
-  pub locals : AllByRecursion (λ (f : Function). length f.locals < 2 ^ 32) P.functions
+  pub locals : AllByRecursion (λ (f : Function). f.declared_locals < 0xffff_ffff) P.functions
   pub globals : length P.globals ≤ 2 ^ 32
   pub threads : length P.threads ≤ 2 ^ 32
   pub mutexes : length P.mutexes ≤ 2 ^ 32
@@ -35,7 +35,7 @@ ValueIsExpression =
 -- the body of a function, gone through without a fault from a scope that is in order, is in order
 abbrev pub BodyIsInOrder : Type 0
 BodyIsInOrder =
-    (whole : Findings) (P : Program) (number : ℕ) (f : Function) (body : Block) (x : State) → GivesRoutines whole P → length f.locals ≤ 2 ^ 32 →
+    (whole : Findings) (P : Program) (number : ℕ) (f : Function) (body : Block) (x : State) → GivesRoutines whole P → f.declared_locals < 0xffff_ffff →
     AreValid (block_leaves body) → Holds P number f false x → IsAhead whole f (left (items body x)) → IsInOrder whole P number f false (given (items body x))
 
 -- the format of a printf is in order

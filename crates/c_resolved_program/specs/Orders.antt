@@ -1,6 +1,6 @@
 -- When a scope within a function of a program is in order: each name stands for a declaration of the program that is as the
 -- name says, and each header for a function that is as the header says.
-use Rattle.std.specs.Prelude.{◌≡◌, ℕ, ◌<◌, Bool, true, false, List, ◌++◌, length, Option, Some, None, slice_get, unwrap_or, Contains, ⊤}
+use Rattle.std.specs.Prelude.{◌≡◌, ℕ, ◌<◌, ◌≤◌, ◌+◌, Bool, true, false, List, ◌++◌, length, take, Option, Some, None, slice_get, unwrap_or, Contains, ⊤}
 use Rattle.std.specs.List.{AllByRecursion}
 use Rattle.hls_ints.specs.Types.{long_int}
 use Rattle.c_program.specs.declared.tree.Storage.TheVariants.{Automatic}
@@ -10,7 +10,7 @@ use Rattle.c_program.specs.declared.tree.LocalVariable.{LocalVariable}
 use Rattle.c_program.specs.declared.tree.ThreadObject.{ThreadObject}
 use Rattle.c_program.specs.Tree.{Statement, Function, Program}
 use Rattle.c_program.specs.Calls.{calls_of}
-use Rattle.c_program.specs.Resolved.{IsObject, IsStatement, creates_of, thread_length, mutex_length, barrier_length}
+use Rattle.c_program.specs.Resolved.{IsObject, IsSlot, Around, IsCondition, IsStatement, creates_of, thread_length, mutex_length, barrier_length}
 use Rattle.c_rules.specs.declared.findings.Findings.{Findings}
 use Rattle.c_rules.specs.declared.findings.CallSite.{CallSite}
 use Rattle.c_rules.specs.declared.findings.Creation.{Creation}
@@ -26,6 +26,7 @@ use Rattle.c_rules.specs.Names.{Names}
 use Rattle.c_rules.specs.Specifiers.{c_type}
 use Rattle.c_rules.specs.Walks.{Outcome}
 use Rattle.c_resolution.specs.States.{State}
+use Rattle.c_resolution.specs.Slots.{slots_end}
 use Rattle.c_resolution.specs.Functions.{gives_of, is_unlisted, return_type}
 
 -- ---- names
@@ -76,6 +77,15 @@ IsPointerAt P number = (code : Function) × (slice_get P.functions number ≡ So
 
 -- ---- scopes
 
+-- the locals that the function declares, parameters among them
+abbrev pub declared_in : Function → List LocalVariable
+declared_in f = take f.declared_locals f.locals
+
+-- from the local of that number on, the function's locals keep values
+pub record KeepsFrom (f : Function) (from : ℕ) : Type 0 where
+  pub first : from ≡ f.declared_locals
+  pub slots : (k : ℕ) → f.declared_locals ≤ k → k < length f.locals → IsSlot f k
+
 -- a scope in the function f of that number of the program P
 pub record IsOrderly (P : Program) (number : ℕ) (f : Function) (s : Scope) : Type 0 where
   pub inner : AreMeant P f s.inner
@@ -83,6 +93,7 @@ pub record IsOrderly (P : Program) (number : ℕ) (f : Function) (s : Scope) : T
   pub headers : AllByRecursion (IsHeader P) s.headers
   pub function : s.function ≡ Some number
   pub gives : IsGiven s.gives f.returns
+  pub kept : KeepsFrom f s.kept_from
 
 -- ---- what is found
 
@@ -95,6 +106,9 @@ pub record IsPartOf (whole found : Findings) : Type 0 where
 -- the calls, and the routines of creates, of the function of that number are found
 abbrev pub IsFoundCall : Findings → ℕ → ℕ → Type 0
 IsFoundCall whole caller callee = (at : ℕ) × Contains whole.calls (record { caller = caller; callee = callee; offset = at })
+
+abbrev pub AreFound : Findings → ℕ → List ℕ → Type 0
+AreFound whole caller callees = (callee : ℕ) → Contains callees callee → IsFoundCall whole caller callee
 
 abbrev pub IsFoundCreation : Findings → ℕ → ℕ → Type 0
 IsFoundCreation whole thread routine = (at : ℕ) × Contains whole.creations (record { thread = thread; routine = routine; offset = at })
@@ -111,10 +125,10 @@ given (Outcome.Gives a s) = a
 abbrev pub IsFront : {A : Type 0} → List A → List A → Type 0
 IsFront {A} front list = (more : List A) × (front ++ more ≡ list)
 
--- within a function: what is known is a part of what is found in the whole text, and of the function's locals
+-- within a function: what is known is a part of what is found in the whole text, and of the locals that the function declares
 pub record IsAhead (whole : Findings) (f : Function) (x : State) : Type 0 where
   pub found : IsPartOf whole x.found
-  pub locals : IsFront x.scope.locals f.locals
+  pub locals : IsFront x.scope.locals (declared_in f)
 
 -- the scope is in order, in a loop or not
 pub record Holds (P : Program) (number : ℕ) (f : Function) (in_loop : Bool) (x : State) : Type 0 where
@@ -124,11 +138,27 @@ pub record Holds (P : Program) (number : ℕ) (f : Function) (in_loop : Bool) (x
 
 -- ---- statements
 
--- a statement of the function of that number: in order in a loop or not, and with each call and create found
+-- the function has the locals in which a statement keeps values
+abbrev pub HasSlots : Function → Statement → Type 0
+HasSlots f x = slots_end x ≤ length f.locals
+
+-- a loop, or nothing, stands round a statement
+abbrev pub around : Bool → Around
+around in_loop = record { labels = None; leaves = in_loop; turns = in_loop }
+
+-- a statement of the function of that number: in order in a loop or not, with each call and create found, and with at most one value
+-- kept at a time
 pub record IsInOrder (whole : Findings) (P : Program) (number : ℕ) (f : Function) (in_loop : Bool) (x : Statement) : Type 0 where
-  pub is : IsStatement P f in_loop x
-  pub calls : (callee : ℕ) → Contains (calls_of x) callee → IsFoundCall whole number callee
+  pub is : HasSlots f x → IsStatement P f (around in_loop) x
+  pub few : slots_end x ≤ f.declared_locals + 1
+  pub calls : AreFound whole number (calls_of x)
   pub creates : (thread routine : ℕ) → Contains (creates_of x) (thread, routine) → IsPointerAt P routine × IsFoundCreation whole thread routine
+
+-- the same of a condition, in which no create stands
+pub record IsAsked (whole : Findings) (P : Program) (number : ℕ) (f : Function) (x : Statement) : Type 0 where
+  pub is : HasSlots f x → IsCondition P f x
+  pub few : slots_end x ≤ f.declared_locals + 1
+  pub calls : AreFound whole number (calls_of x)
 
 -- a create that is found has given its routine to its thread object
 abbrev pub GivesRoutines : Findings → Program → Type 0
