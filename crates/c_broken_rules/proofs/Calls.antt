@@ -1,6 +1,6 @@
 -- What the walk over a call that is a statement, or a right side, finds, by its parts.
 use Rattle.std.proofs.Common.{◌≡◌, refl, sym, subst, ap, ◌∙◌, inl, inr, ℕ, suc, Bool, true, false, List, [], ◌∷◌, ◌++◌, length, Option, Some, None, arith}
-use Rattle.std.specs.Prelude.{not, nat_eq, if◌then◌else◌}
+use Rattle.std.specs.Prelude.{not, nat_eq, slice_get, if◌then◌else◌}
 use Rattle.std.proofs.lemmas.Bool.Decides.{nat_tests}
 use Rattle.std.proofs.lemmas.Option.{same_Some, none-some}
 use Rattle.std.proofs.lemmas.List.{append-nil}
@@ -10,7 +10,7 @@ use Rattle.c_tree.specs.declared.expression.Expression.{Expression as Expression
 use Rattle.c_tree.specs.declared.expression.Call.{Call as CallTree, out-Call}
 use Rattle.c_tree.specs.declared.expression.Argument.{Argument as ArgumentTree, out-Argument}
 use Rattle.c_tree.specs.declared.expression.Argument.TheOpen.{Form-F}
-use Rattle.c_program.specs.Tree.{Expression, ObjectPlace, ThreadCall, RightSide, Statement}
+use Rattle.c_program.specs.Tree.{Expression, ObjectPlace, ThreadCall, Statement}
 use Rattle.c_program.specs.Resolved.{object_of}
 use Rattle.c_rules.specs.declared.fault.Rule.TheVariants as rule
 use Rattle.c_rules.specs.declared.library.LibraryFunction.{LibraryFunction}
@@ -27,6 +27,7 @@ use Rattle.c_rules.specs.Walks.{Finds, pure, finds, finds_if, creates, ◌>>=◌
 use Rattle.c_expressions.specs.Callees as c
 use Rattle.c_expressions.specs.Expressions as e
 use Rattle.c_calls.specs.Arguments as a
+use Rattle.c_calls.specs.Cuts.{uncut}
 use Rattle.c_calls.specs.Calls as k
 use Rattle.c_broken_rules.specs.Sight.{Where}
 use Rattle.c_broken_rules.specs.Parts as p
@@ -114,8 +115,8 @@ module _ (L : Ledger) (s : Scope) (w : Where) (events : Events L s w) where
   exit : (at : ℕ) (x : ArgumentTree) → Good L (k.exit s at x) (p.arguments_parts w (x ∷ []))
   unfolding k.exit
   exit at x =
-      good_then L (a.pointer_argument s x) (λ v. pure (Statement.Return at (Some (RightSide.Value v)))) (p.argument_parts w x) [] (pointer_argument L s w events x)
-      (λ v. good_pure L (Statement.Return at (Some (RightSide.Value v))))
+      good_then L (a.pointer_argument s x) (λ v. pure (Statement.Return at (Some v))) (p.argument_parts w x) [] (pointer_argument L s w events x)
+      (λ v. good_pure L (Statement.Return at (Some v)))
 
   exit_call : (at : ℕ) (list : List ArgumentTree) → Good L (k.exit_call s at list) (if takes library.Exit (length list) then p.arguments_parts w list else p.arguments_parts w list)
   unfolding k.exit_call
@@ -261,19 +262,20 @@ module _ (L : Ledger) (s : Scope) (w : Where) (events : Events L s w) where
   own_name at name list (Some (meaning.Object o)) is = other_name at name list (known.Declared (meaning.Object o)) is refl (no_library (meaning.Object o))
   own_name at name list (Some meaning.Unusable) is = other_name at name list (known.Declared meaning.Unusable) is refl (no_library meaning.Unusable)
 
-  -- ---- right sides
+  -- ---- values that may be calls
 
-  pub right_call : (number : ℕ) (x : CallTree) → look_up s (out-Call x).name.bytes ≡ known.Declared (meaning.Function number) →
-      Good L (k.right_call s number x) (Part.Call w (out-Call x).name ∷ p.arguments_parts w (out-Call x).arguments)
+  pub right_call : (at slot number : ℕ) (x : CallTree) → look_up s (out-Call x).name.bytes ≡ known.Declared (meaning.Function number) →
+      Good L (k.right_call s at slot number x) (Part.Call w (out-Call x).name ∷ p.arguments_parts w (out-Call x).arguments)
   unfolding k.right_call
-  right_call number x is =
-      good_before L (k.function_call s number true (out-Call x).name.offset (out-Call x).arguments) (λ r. pure (k.right_called r.0 r.1))
+  right_call at slot number x is =
+      let made = λ (r : Option ℕ × List Expression). k.called_value at slot (k.value_type (slice_get s.headers number)) r.0 r.1 in
+      good_before L (k.function_call s number true (out-Call x).name.offset (out-Call x).arguments) (λ r. pure (made r))
       (Part.Call w (out-Call x).name ∷ p.arguments_parts w (out-Call x).arguments) (function_call number true (out-Call x).name (out-Call x).arguments is)
-      (λ r. good_pure L (k.right_called r.0 r.1))
+      (λ r. good_pure L (made r))
 
   right_value : (v : ExpressionTree) → Good L (k.right_value s v) (p.expression_parts w v)
   unfolding k.right_value
-  right_value v = good_before L (e.value s v) (λ x. pure (RightSide.Value x)) (p.expression_parts w v) (good_value L s w events v) (λ x. good_pure L (RightSide.Value x))
+  right_value v = good_before L (e.value s v) (λ x. pure (uncut x)) (p.expression_parts w v) (good_value L s w events v) (λ x. good_pure L (uncut x))
 
   number_known : (x : Known) (n : ℕ) → k.number_of x ≡ Some n → x ≡ known.Declared (meaning.Function n)
   number_known (known.Declared (meaning.Function m)) n is = ap (λ j. known.Declared (meaning.Function j)) (same_Some m n is)
@@ -284,24 +286,24 @@ module _ (L : Ledger) (s : Scope) (w : Where) (events : Events L s w) where
   number_known known.Unknown n is = absurd (none-some n is)
   number_known (known.Library f) n is = absurd (none-some n is)
 
-  with_number : (x : CallTree) (o : Option ℕ) → k.number_of (look_up s (out-Call x).name.bytes) ≡ o → (v : ExpressionTree) →
-      p.expression_parts w v ≡ Part.Call w (out-Call x).name ∷ p.arguments_parts w (out-Call x).arguments → Good L (k.right_from s v (k.with_call s x o)) (p.expression_parts w v)
-  with_number x None is v parts = right_value v
-  with_number x (Some n) is v parts =
-      subst (λ ps. Good L (k.right_call s n x) ps) (sym parts) (right_call n x (number_known (look_up s (out-Call x).name.bytes) n is))
+  with_number : (at slot : ℕ) (x : CallTree) (o : Option ℕ) → k.number_of (look_up s (out-Call x).name.bytes) ≡ o → (v : ExpressionTree) →
+      p.expression_parts w v ≡ Part.Call w (out-Call x).name ∷ p.arguments_parts w (out-Call x).arguments → Good L (k.right_from s at slot v (k.with_call s x o)) (p.expression_parts w v)
+  with_number at slot x None is v parts = right_value v
+  with_number at slot x (Some n) is v parts =
+      subst (λ ps. Good L (k.right_call s at slot n x) ps) (sym parts) (right_call at slot n x (number_known (look_up s (out-Call x).name.bytes) n is))
 
-  right_by : (v : ExpressionTree) (f : a.FormLayer) → p.expression_parts w v ≡ (form_of w f).parts → Good L (k.right_from s v (k.call_in s f)) (p.expression_parts w v)
-  right_by v (Form-F.Call x) parts = with_number x (k.number_of (look_up s (out-Call x).name.bytes)) refl v (parts ∙ call_is w x)
-  right_by v (Form-F.Constant c at) parts = right_value v
-  right_by v (Form-F.Place q) parts = right_value v
-  right_by v (Form-F.Unary o x) parts = right_value v
-  right_by v (Form-F.Cast words x) parts = right_value v
-  right_by v (Form-F.Binary x terms) parts = right_value v
-  right_by v (Form-F.Conditional x choices) parts = right_value v
+  right_by : (at slot : ℕ) (v : ExpressionTree) (f : a.FormLayer) → p.expression_parts w v ≡ (form_of w f).parts → Good L (k.right_from s at slot v (k.call_in s f)) (p.expression_parts w v)
+  right_by at slot v (Form-F.Call x) parts = with_number at slot x (k.number_of (look_up s (out-Call x).name.bytes)) refl v (parts ∙ call_is w x)
+  right_by at slot v (Form-F.Constant c place) parts = right_value v
+  right_by at slot v (Form-F.Place q) parts = right_value v
+  right_by at slot v (Form-F.Unary o x) parts = right_value v
+  right_by at slot v (Form-F.Cast words x) parts = right_value v
+  right_by at slot v (Form-F.Binary x terms) parts = right_value v
+  right_by at slot v (Form-F.Conditional x choices) parts = right_value v
 
-  pub right_side : (v : ExpressionTree) → Good L (k.right_side s v) (p.expression_parts w v)
+  pub right_side : (at slot : ℕ) (v : ExpressionTree) → Good L (k.right_side s at slot v) (p.expression_parts w v)
   unfolding k.right_side
-  right_side v = right_by v (out-Form (out-Expression v).form) (ap (λ (q : p.Parted). q.parts) (expression_is w v))
+  right_side at slot v = right_by at slot v (out-Form (out-Expression v).form) (ap (λ (q : p.Parted). q.parts) (expression_is w v))
 
 -- ---- calls of the library, and any call
 

@@ -370,8 +370,8 @@ module _ (D : List (List ℕ × ℕ)) (T : List (List ℕ)) where
                 };
                 value = tt;
               };
-          entered = λ s w v count f h rest here e is_header gives stands. record {
-            names = N.entered s w v count f h rest tt e is_header gives stands.names;
+          entered = λ s w v count from f h rest here e is_header gives stands. record {
+            names = N.entered s w v count from f h rest tt e is_header gives stands.names;
             numbers = record { inner = stands.numbers.inner; outer = stands.numbers.outer };
           };
           left_body = λ s w v count f rest here e stands. record {

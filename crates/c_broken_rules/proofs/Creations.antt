@@ -28,8 +28,7 @@ use Rattle.c_rules.specs.Levels.{named_in}
 use Rattle.c_rules.specs.Library.{function_named}
 use Rattle.c_rules.specs.Names as n
 use Rattle.c_rules.specs.Names.{or_else, look_up, declared, declared_outside, known_by, same_kind}
-use Rattle.c_rules.specs.Walks.{Outcome, Finds, pure, finds, finds_if, creates, place_in_tree, ◌>>=◌, ◌>>◌}
-use Rattle.c_expressions.specs.Callees as c
+use Rattle.c_rules.specs.Walks.{Outcome, Finds, pure, finds_if, creates, place_in_tree, ◌>>=◌, ◌>>◌}
 use Rattle.c_expressions.specs.Expressions as e
 use Rattle.c_calls.specs.Arguments as a
 use Rattle.c_calls.specs.Calls as k

@@ -145,7 +145,7 @@ threads_then q r h k x = ap (λ (z : Tables). z.threads) (then_tables q r x) ∙
 threads_definition : (f : Function) (returns : ReturnType) (body : Block) → KeepsThreads (y.definition f returns body)
 unfolding y.definition
 threads_definition f returns body x =
-    let enter = y.entered (place_in_tree (length x.tables.functions)) in
+    let enter = y.entered (place_in_tree (length x.tables.functions)) (y.kept_from (length x.scope.locals) body) in
     let last = λ (b : Statement) (u : Unit {0}). y.finished f returns body (length x.scope.locals) b in
     threads_then (going (scoping enter)) (λ _. going (items body) >>= (λ b. going (scoping y.left) >>= last b)) (threads_going (scoping enter))
     (λ _. threads_then (going (items body)) (λ b. going (scoping y.left) >>= last b) (threads_going (items body))
@@ -352,12 +352,12 @@ module _ (L : Ledger) (S : Scoping L) where
         let E = (block L S body).end params in_body in
         let c = length x.scope.locals in
         let bs = p.block_parts body (within params in_body) in
-        let inner = λ (k : ℕ). (going (items body) >>= (λ b. ending returns body c b)) (file (y.entered (place_in_tree k) x.scope) x.found x.tables) in
-        let entered = S.entered x.scope w (within params named) n f h rest here refl is_header gives agrees in
+        let inner = λ (k : ℕ). (going (items body) >>= (λ b. ending returns body c b)) (file (y.entered (place_in_tree k) (y.kept_from c body) x.scope) x.found x.tables) in
+        let entered = S.entered x.scope w (within params named) n (y.kept_from c body) f h rest here refl is_header gives agrees in
         let h = file_then L S (going (items body)) (λ b. ending returns body c b) (λ _. Unit {0}) (λ _. Unit {0}) bs [] (within params in_body) (within E in_body) (within
         E named) n n
         (suc n) (file_going L S (items body) (λ _. Unit {0}) bs (within params in_body) (within E in_body) n ((block L S body).is params in_body))
-        (λ b _. ending_is returns body c b E) (file (y.entered (place_in_tree n) x.scope) x.found x.tables) entered count in
+        (λ b _. ending_is returns body c b E) (file (y.entered (place_in_tree n) (y.kept_from c body) x.scope) x.found x.tables) entered count in
         let whole : Filed L S.Agrees x (inner n) bs (within E named) (suc n) = record {
           writes = subst (λ ps. Writes L x.found (left (inner n)).found ps) (append-nil bs) h.0.writes;
           agrees = h.0.agrees;

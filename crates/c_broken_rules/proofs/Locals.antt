@@ -7,7 +7,8 @@ use Rattle.c_tree.specs.declared.expression.Specifiers.{Specifiers}
 use Rattle.c_tree.specs.declared.expression.Expression.{Expression as ExpressionTree, out-Expression}
 use Rattle.c_tree.specs.declared.declaration.Declaration.{Declaration}
 use Rattle.c_tree.specs.declared.declaration.Declarator.{Declarator}
-use Rattle.c_program.specs.Tree.{RightSide, Statement}
+use Rattle.c_program.specs.Tree.{Statement}
+use Rattle.c_calls.specs.Cuts.{Cut}
 use Rattle.c_rules.specs.declared.fault.Rule.TheVariants as rule
 use Rattle.c_rules.specs.declared.specifiers.BasicType.{BasicType}
 use Rattle.c_rules.specs.declared.specifiers.Spelled.{Spelled}
@@ -18,7 +19,7 @@ use Rattle.c_rules.specs.declared.names.Scope.{Scope}
 use Rattle.c_rules.specs.declared.findings.Findings.{Findings}
 use Rattle.c_rules.specs.Constants.{constancy}
 use Rattle.c_rules.specs.Specifiers.{c_type, plain, spelled_by}
-use Rattle.c_rules.specs.Walks.{pure, finds, finds_if, through, ◌>>=◌, ◌>>◌}
+use Rattle.c_rules.specs.Walks.{pure, finds, finds_if, through, place_in_tree, ◌>>=◌, ◌>>◌}
 use Rattle.c_expressions.specs.Expressions as e
 use Rattle.c_calls.specs.Calls as k
 use Rattle.c_resolution.specs.States.{finding}
@@ -43,7 +44,7 @@ module _ (L : Ledger) (s : Scope) (w : Where) (events : Events L s w) where
   optional_length None = good_pure L None
   optional_length (Some v) = good_before L (l.array_length v s) (λ n. pure (Some n)) (p.length_parts w v) (array_length v) (λ n. good_pure L (Some n))
 
-  initialised_by : (o : Option Variable) (at : ℕ) (r : RightSide) → Good L (l.initialised_by o at r) []
+  initialised_by : (o : Option Variable) (at : ℕ) (r : Cut) → Good L (l.initialised_by o at r) []
   unfolding l.initialised_by
   initialised_by (Some v) at r = good_pure L _
   initialised_by None at r = good_before L (finds rule.Kind at) (λ _. pure Statement.Empty) [] (events.other rule.Kind at tt) (λ _. good_pure L Statement.Empty)
@@ -51,7 +52,9 @@ module _ (L : Ledger) (s : Scope) (w : Where) (events : Events L s w) where
   initialised : (name : Name) (m : Meaning) (v : ExpressionTree) → Good L (l.initialised name m v s) (p.expression_parts w v)
   unfolding l.initialised
   initialised name m v =
-      good_before L (k.right_side s v) (λ r. l.initialised_by (l.scalar_in m) name.offset r) (p.expression_parts w v) (right_side L s w events v)
+      let at = place_in_tree name.offset in
+      good_before L (k.right_side s at s.kept_from v) (λ r. l.initialised_by (l.scalar_in m) name.offset r) (p.expression_parts w v)
+      (right_side L s w events at s.kept_from v)
       (λ r. initialised_by (l.scalar_in m) name.offset r)
 
   pub declared_step : (d : Declarator) (m : Meaning) (o : Option ExpressionTree) → Good L (l.declared_step d m o s) (of_any (p.expression_parts w) o)

@@ -3,14 +3,12 @@ use Rattle.std.proofs.Common.{◌≡◌, refl, sym, subst, ap, ◌∙◌, ℕ, B
 use Rattle.std.proofs.lemmas.Bool.{false≢true, or_parts}
 use Rattle.std.specs.Prelude.{◌||◌, ◌&&◌, is_some, not, if◌then◌else◌}
 use Rattle.lists.proofs.Places.{get_last, none_of}
-use Rattle.c_token.specs.declared.constant.Constant.{Constant}
 use Rattle.c_tree.specs.declared.expression.Name.{Name}
 use Rattle.c_tree.specs.declared.expression.Specifiers.{Specifiers}
 use Rattle.c_tree.specs.declared.expression.Expression.{out-Expression}
 use Rattle.c_tree.specs.declared.declaration.Function.{Function}
 use Rattle.c_tree.specs.declared.declaration.TranslationUnit.{TranslationUnit}
 use Rattle.c_rules.specs.declared.fault.Rule.TheVariants as rule
-use Rattle.c_rules.specs.declared.constants.Constancy.TheVariants as is
 use Rattle.c_rules.specs.declared.names.Meaning.{Meaning}
 use Rattle.c_rules.specs.declared.names.Meaning.TheVariants as meaning
 use Rattle.c_rules.specs.declared.names.Header.{Header}
@@ -242,7 +240,7 @@ module _ (D : List (List ℕ × ℕ)) where
     header = λ s w f h. ap (λ E. header_in E f) h.defined;
     gives = λ s w n rest g here h. record { defined = h.defined; scopes = h.scopes };
     declares_function = λ x w n f h rest here agrees is. function_declared x w f h (y.is_second f h n) agrees is;
-    entered = λ s w v n f h rest here e is g agrees. record { defined = agrees.defined; scopes = agrees.scopes };
+    entered = λ s w v n from f h rest here e is g agrees. record { defined = agrees.defined; scopes = agrees.scopes };
     left_body = λ s w v n f rest here e agrees. record { defined = agrees.defined; scopes = agrees.scopes };
     no_locals = λ s w h. record { defined = h.defined; scopes = h.scopes };
   }

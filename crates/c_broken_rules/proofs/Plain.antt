@@ -16,7 +16,6 @@ use Rattle.c_rules.specs.declared.constants.Constancy.{Constancy}
 use Rattle.c_rules.specs.declared.constants.Constancy.TheVariants as is
 use Rattle.c_rules.specs.Constants.{constancy, constant_value}
 use Rattle.c_rules.specs.Faults.{first}
-use Rattle.c_rules.specs.Library.{takes}
 use Rattle.c_rules.specs.Walks.{pure, finds, finds_if, creates}
 use Rattle.c_expressions.specs.Expressions as e
 use Rattle.c_calls.specs.Arguments as a

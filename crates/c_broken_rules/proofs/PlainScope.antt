@@ -110,7 +110,7 @@ scoping_free = record {
     agrees = open_behind (function_names f) w;
     value = tt;
   };
-  entered = λ s w v n f h rest here e is g opening. record { scope = opening.scope; outer = opening.outer; are = opening.are };
+  entered = λ s w v n from f h rest here e is g opening. record { scope = opening.scope; outer = opening.outer; are = opening.are };
   left_body = λ s w v n f rest here e opening. record { scope = opening.scope; outer = opening.outer; are = opening.are };
   no_locals = λ s w h. h;
 }

@@ -13,7 +13,7 @@ use Rattle.c_tree.specs.declared.statement.SimpleStatement.{SimpleStatement}
 use Rattle.c_tree.specs.declared.statement.Returned.{Returned}
 use Rattle.c_tree.specs.declared.statement.Returned.TheVariants as returned_as
 use Rattle.c_program.specs.declared.tree.BinaryOperator.{BinaryOperator as ResolvedBinary}
-use Rattle.c_program.specs.Tree.{Expression, Place, RightSide, Statement}
+use Rattle.c_program.specs.Tree.{Expression, Place, Statement}
 use Rattle.c_rules.specs.declared.fault.Rule.{Rule}
 use Rattle.c_rules.specs.declared.fault.Rule.TheVariants as rule
 use Rattle.c_rules.specs.declared.names.Scope.{Scope}
@@ -22,7 +22,9 @@ use Rattle.c_rules.specs.Walks.{pure, finds, finds_if, finds_any, place_in_tree,
 use Rattle.c_expressions.specs.Expressions as e
 use Rattle.c_expressions.specs.Targets as t
 use Rattle.c_calls.specs.Arguments as a
+use Rattle.c_calls.specs.Cuts.{Cut}
 use Rattle.c_calls.specs.Calls as k
+use Rattle.c_resolution.specs.Sequences.{behind_cuts}
 use Rattle.c_resolution.specs.Simple as y
 use Rattle.c_broken_rules.specs.Sight.{Where}
 use Rattle.c_broken_rules.specs.Parts as p
@@ -51,9 +53,10 @@ module _ (L : Ledger) (s : Scope) (w : Where) (events : Events L s w) where
   assigned : (at : ℕ) (q : PlaceTree) (v : ExpressionTree) → Good L (y.assigned s at q v) (p.place_parts w q ++ p.expression_parts w v)
   unfolding y.assigned
   assigned at q v =
-      good_then L (t.target s q) (λ o. k.right_side s v >>= (λ r. pure (Statement.Assign (place_in_tree at) o r))) (p.place_parts w q) (p.expression_parts w v) (target q)
-      (λ o. good_before L (k.right_side s v) (λ r. pure (Statement.Assign (place_in_tree at) o r)) (p.expression_parts w v) (right_side L s w events v)
-      (λ r. good_pure L (Statement.Assign (place_in_tree at) o r)))
+      let made = λ (o : Place) (r : Cut). behind_cuts r.before (Statement.Assign (place_in_tree at) o r.rest) in
+      let walk = k.right_side s (place_in_tree at) s.kept_from v in
+      good_then L (t.target s q) (λ o. walk >>= (λ r. pure (made o r))) (p.place_parts w q) (p.expression_parts w v) (target q)
+      (λ o. good_before L walk (λ r. pure (made o r)) (p.expression_parts w v) (right_side L s w events (place_in_tree at) s.kept_from v) (λ r. good_pure L (made o r)))
 
   compound_by : (o : Option ResolvedBinary) (at : ℕ) (q : Place) (v : Expression) → Good L (y.compound_by o at q v) []
   unfolding y.compound_by
@@ -77,19 +80,22 @@ module _ (L : Ledger) (s : Scope) (w : Where) (events : Events L s w) where
   assign at q assignment.Set v = assigned at q v
   assign at q (assignment.Compound o) v = compound at q o v
 
-  right_of : (x : Returned) → Good L (y.right_of s x) (p.returned_parts w x)
-  right_of returned_as.Nothing = good_pure L None
-  right_of (returned_as.Value v) = good_before L (k.right_side s v) (λ r. pure (Some r)) (p.expression_parts w v) (right_side L s w events v) (λ r. good_pure L (Some r))
-  right_of (returned_as.Pointer q) =
-      good_before L (a.pointer_value s q) (λ x. pure (Some (RightSide.Value x))) (p.pointer_parts w q) (pointer_value L s w events q) (λ x. good_pure L (Some (RightSide.Value x)))
+  given_back : (at : ℕ) (x : Returned) → Good L (y.given_back s at x) (p.returned_parts w x)
+  given_back at returned_as.Nothing = good_pure L ([], None)
+  given_back at (returned_as.Value v) =
+      good_before L (k.right_side s at s.kept_from v) (λ r. pure (r.before, Some r.rest)) (p.expression_parts w v) (right_side L s w events at s.kept_from v)
+      (λ r. good_pure L (r.before, Some r.rest))
+  given_back at (returned_as.Pointer q) =
+      good_before L (a.pointer_value s q) (λ x. pure ([], Some x)) (p.pointer_parts w q) (pointer_value L s w events q) (λ x. good_pure L ([], Some x))
 
   pub returned : (x : Returned) (at : ℕ) → Good L (y.returned s x at) (p.returned_parts w x)
   unfolding y.returned
   returned x at =
-      good_then L (finds_if (not (y.may_return s.gives x)) rule.Kind at) (λ _. y.right_of s x >>= (λ r. pure (Statement.Return (place_in_tree at) r))) [] (p.returned_parts w x)
+      let made = λ (r : y.Given s). behind_cuts r.0 (Statement.Return (place_in_tree at) r.1) in
+      let walk = y.given_back s (place_in_tree at) x in
+      good_then L (finds_if (not (y.may_return s.gives x)) rule.Kind at) (λ _. walk >>= (λ r. pure (made r))) [] (p.returned_parts w x)
       (other_if (not (y.may_return s.gives x)) rule.Kind at (events.other rule.Kind at tt))
-      (λ _. good_before L (y.right_of s x) (λ r. pure (Statement.Return (place_in_tree at) r)) (p.returned_parts w x) (right_of x)
-      (λ r. good_pure L (Statement.Return (place_in_tree at) r)))
+      (λ _. good_before L walk (λ r. pure (made r)) (p.returned_parts w x) (given_back (place_in_tree at) x) (λ r. good_pure L (made r)))
 
   pub jump : (at : ℕ) → Good L (y.check_jump s at) []
   unfolding y.check_jump

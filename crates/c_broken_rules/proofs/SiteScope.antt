@@ -194,8 +194,8 @@ module _ (tree : TranslationUnit) (few : IsOfFew tree) where
               agrees = record { names = (N.declares_function x w n f h rest tt agrees.names is).agrees; function = still.function ∙ agrees.function };
               value = tt;
             };
-        entered = λ s w v n f h rest here e is g agrees. record {
-          names = N.entered s w v n f h rest tt e is g agrees.names;
+        entered = λ s w v n from f h rest here e is g agrees. record {
+          names = N.entered s w v n from f h rest tt e is g agrees.names;
           function = ap (λ k. Some k) (place_is n (few_before w n (external.Function f ∷ rest) here));
         };
         left_body = λ s w v n f rest here e agrees. record {

@@ -20,7 +20,7 @@ use Rattle.c_rules.specs.Faults.{first, is_before}
 use Rattle.c_rules.specs.Findings as findings
 use Rattle.c_rules.specs.Levels.{named_in}
 use Rattle.c_rules.specs.Names.{look_up}
-use Rattle.c_rules.specs.Walks.{Finds, pure, finds, finds_if, calls, creates}
+use Rattle.c_rules.specs.Walks.{Finds, pure, finds_if, calls, creates}
 use Rattle.c_expressions.specs.Callees as c
 use Rattle.c_calls.specs.Arguments as a
 use Rattle.c_calls.specs.Calls as k

@@ -14,10 +14,11 @@ use Rattle.c_tree.specs.declared.statement.BlockItem.TheOpen.{Block-F, BlockItem
 use Rattle.c_tree.specs.declared.statement.BlockItem.TheBlock.{the_family, member-BlockItem, member-Statement, member-Block}
 use Rattle.c_tree.specs.declared.statement.BlockItem.TheFolds.{claims, map-BlockItem, map-Statement, map-Block}
 use Rattle.c_tree.specs.declared.statement.BlockItem.TheFolds.{fold-roll-BlockItem, fold-roll-Statement, fold-roll-Block, ind-Block}
-use Rattle.c_program.specs.Tree.{Condition, Statement}
+use Rattle.c_program.specs.Tree.{Statement}
 use Rattle.c_rules.specs.Names.{opened, closed}
 use Rattle.c_rules.specs.Walks.{Outcome, pure, through, ◌>>=◌, ◌>>◌}
 use Rattle.c_expressions.specs.Expressions.{condition}
+use Rattle.c_resolution.specs.Sequences.{sequence}
 use Rattle.c_resolution.specs.Simple.{simple, returned, check_jump}
 use Rattle.c_resolution.specs.Locals.{declaration}
 use Rattle.c_resolution.specs.States.{State, Goes, finding, scoping}
@@ -77,8 +78,8 @@ module _ (L : Ledger) (S : Scoping L) where
   declared_start : (d : Declaration) (w : Where) → Goes_right L S w (y.declared_start d) (λ _. Unit {0}) (p.declaration_parts w d) (behind (p.declared_names d) w)
   declared_start d w =
       let v = behind (p.declared_names d) w in
-      right_before L S (declaration [] d) (λ steps. pure (y.sequence steps)) (λ _. Unit {0}) (λ _. Unit {0}) (p.declaration_parts w d) w v v (l.declaration L S [] d w)
-      (λ steps _. done (y.sequence steps) v)
+      right_before L S (declaration [] d) (λ steps. pure (sequence steps)) (λ _. Unit {0}) (λ _. Unit {0}) (p.declaration_parts w d) w v v (l.declaration L S [] d w)
+      (λ steps _. done (sequence steps) v)
 
   same_names : {A : Type 0} (walk : Goes A) (ps : Parts) (w : Where) → Goes_right L S w walk (λ _. Unit {0}) ps w → Goes_right L S w walk (λ _. Unit {0}) ps (behind [] w)
   same_names walk ps w h = right_as L S walk (λ _. Unit {0}) (λ _. Unit {0}) ps w w (behind [] w) (λ _ u. u) (λ s agrees. S.no_names s w agrees) h
@@ -106,7 +107,7 @@ module _ (L : Ledger) (S : Scoping L) where
       let ps = p.start_parts begin (inside w) in
       let cs = of_any (p.expression_parts v) test in
       let ss = of_any (p.simple_parts v) step in
-      let last = λ (first : Statement) (c : Condition). finding (y.for_step step) >>= (λ l. pure (first, c, l)) in
+      let last = λ (first c : Statement). finding (y.for_step step) >>= (λ l. pure (first, c, l)) in
       let head = y.for_start begin >>= (λ first. finding (y.for_condition test) >>= (λ c. last first c)) in
       let rest = λ (head : y.Head). y.loop_body body >>= (λ b. scoping closed >> pure (y.for_of head b)) in
       let head_is : Goes_right L S (inside w) head (λ _. Unit {0}) (ps ++ (cs ++ ss)) v =
@@ -200,9 +201,9 @@ module _ (L : Ledger) (S : Scoping L) where
       record {
         end = λ scope w. names_behind parts scope;
         is = λ scope w.
-            right_before L S (y.block_items walks) (λ steps. pure (y.sequence steps)) (λ _. Unit {0}) (λ _. Unit {0}) (p.items_parts parts (within scope w)) (within scope w)
+            right_before L S (y.block_items walks) (λ steps. pure (sequence steps)) (λ _. Unit {0}) (λ _. Unit {0}) (p.items_parts parts (within scope w)) (within scope w)
             (within (names_behind parts scope) w) (within (names_behind parts scope) w) (items_are x.items [] scope w)
-            (λ steps _. done (y.sequence steps) (within (names_behind parts scope) w));
+            (λ steps _. done (sequence steps) (within (names_behind parts scope) w));
       }
 
   item_case : (x : BlockItem-F SomeItem SomeStatement SomeBlock) → IsItem (item_step (walks_in_item (seen_item x))) (item_layer (parts_in_item (seen_item x)))

@@ -5,7 +5,6 @@ use Rattle.c_tree.specs.declared.expression.Name.{Name}
 use Rattle.c_rules.specs.declared.fault.Rule.{Rule}
 use Rattle.c_rules.specs.declared.fault.Rule.TheVariants as rule
 use Rattle.c_rules.specs.declared.fault.Fault.{Fault}
-use Rattle.c_rules.specs.Faults.{first}
 use Rattle.c_rules.specs.Walks.{finds, finds_if, creates}
 use Rattle.c_rules.specs.Library.{function_named}
 use Rattle.c_tree.specs.declared.declaration.Function.{Function}

@@ -2,12 +2,10 @@
 use Rattle.std.proofs.Common.{◌≡◌, refl, sym, subst, ap, ◌∙◌, ℕ, Bool, true, false, List, [], ◌∷◌, length, Option, Some, None, inl, inr}
 use Rattle.std.proofs.lemmas.Bool.{false≢true, or_cases, and_right, or_parts}
 use Rattle.std.specs.Prelude.{◌&&◌, Contains, is_some, not, if◌then◌else◌, slice_get, ◌⊎◌}
-use Rattle.c_token.specs.declared.constant.Constant.{Constant}
 use Rattle.c_tree.specs.declared.expression.Name.{Name}
 use Rattle.c_tree.specs.declared.expression.Expression.{out-Expression}
 use Rattle.c_tree.specs.declared.declaration.Function.{Function}
 use Rattle.c_rules.specs.declared.fault.Rule.TheVariants as rule
-use Rattle.c_rules.specs.declared.constants.Constancy.TheVariants as is
 use Rattle.c_rules.specs.declared.names.Meaning.{Meaning}
 use Rattle.c_rules.specs.declared.names.Meaning.TheVariants as meaning
 use Rattle.c_rules.specs.declared.library.LibraryFunction.{LibraryFunction}
@@ -25,7 +23,6 @@ use Rattle.c_calls.specs.Arguments as a
 use Rattle.c_calls.specs.Calls as k
 use Rattle.c_resolution.specs.States.{State, finding, scoping}
 use Rattle.c_resolution.specs.Locals as l
-use Rattle.c_resolution.specs.Globals as g
 use Rattle.c_resolution.specs.Functions as y
 use Rattle.c_broken_rules.specs.Sight.{Declared, Where}
 use Rattle.c_broken_rules.specs.Parts.{Part, Parts}

@@ -250,7 +250,7 @@ module _ (tree : TranslationUnit) (few : IsOfFew tree) where
           agrees = (N.declares_function x w k f z rest tt agrees is).agrees;
           value = tt;
         };
-        entered = λ s w v k f z rest here e is g agrees. N.entered s w v k f z rest tt e is g agrees;
+        entered = λ s w v k from f z rest here e is g agrees. N.entered s w v k from f z rest tt e is g agrees;
         left_body = λ s w v k f rest here e agrees. N.left_body s w v k f rest tt e agrees;
         no_locals = N.no_locals;
       }

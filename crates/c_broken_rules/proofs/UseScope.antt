@@ -3,13 +3,11 @@ use Rattle.std.proofs.Common.{inl, inr, ◌≡◌, refl, sym, subst, ap, ◌∙�
 use Rattle.std.specs.Prelude.{◌-◌, is_none, not, slice_get}
 use Rattle.std.proofs.lemmas.Option.{none-some}
 use Rattle.std.proofs.lemmas.Bool.{false≢true}
-use Rattle.c_token.specs.declared.constant.Constant.{Constant}
 use Rattle.c_tree.specs.declared.expression.Specifiers.{Specifiers}
 use Rattle.c_tree.specs.declared.expression.Expression.{out-Expression}
 use Rattle.c_tree.specs.declared.declaration.Function.{Function}
 use Rattle.c_tree.specs.declared.declaration.TranslationUnit.{TranslationUnit}
 use Rattle.c_rules.specs.declared.fault.Rule.TheVariants as rule
-use Rattle.c_rules.specs.declared.constants.Constancy.TheVariants as is
 use Rattle.c_rules.specs.declared.specifiers.BaseType.{BaseType}
 use Rattle.c_rules.specs.declared.specifiers.BaseType.TheVariants as base
 use Rattle.c_rules.specs.declared.specifiers.BasicType.{BasicType}
@@ -205,8 +203,8 @@ module _ (D : List (List ℕ × ℕ)) where
               };
               value = tt;
             };
-        entered = λ s w v count f h rest here e is gives stands. record {
-          agrees = N.entered s w v count f h rest tt e is gives stands.agrees;
+        entered = λ s w v count from f h rest here e is gives stands. record {
+          agrees = N.entered s w v count from f h rest tt e is gives stands.agrees;
           body = record { some = refl; gives = gives ∙ ap y.gives_of is };
         };
         left_body = λ s w v count f rest here e stands. record {

@@ -7,7 +7,6 @@ use Rattle.c_tree.specs.declared.declaration.Parameter.{Parameter}
 use Rattle.c_rules.specs.declared.fault.Rule.{Rule}
 use Rattle.c_rules.specs.declared.fault.Rule.TheVariants as rule
 use Rattle.c_rules.specs.declared.fault.Fault.{Fault}
-use Rattle.c_rules.specs.declared.library.LibraryFunction.{LibraryFunction}
 use Rattle.c_rules.specs.declared.library.LibraryFunction.TheVariants as library
 use Rattle.c_rules.specs.declared.names.Meaning.TheVariants as meaning
 use Rattle.c_rules.specs.declared.names.Known.TheVariants as known

@@ -25,7 +25,7 @@ use Rattle.c_tree.specs.declared.expression.Argument.TheFolds.{fold-roll-Argumen
 use Rattle.c_tree.specs.declared.expression.Argument.TheFolds.{fold-roll-Expression, fold-roll-Place, fold-roll-Pointer, fold-roll-Term}
 use Rattle.c_tree.specs.declared.expression.Argument.TheFolds.{ind-Argument, ind-Expression, ind-Place}
 use Rattle.c_program.specs.declared.tree.BinaryOperator.{BinaryOperator as ResolvedBinary}
-use Rattle.c_program.specs.Tree.{Expression, Condition}
+use Rattle.c_program.specs.Tree.{Expression, Statement}
 use Rattle.c_rules.specs.declared.fault.Rule.{Rule}
 use Rattle.c_rules.specs.declared.fault.Rule.TheVariants as rule
 use Rattle.c_rules.specs.declared.specifiers.BasicType.{BasicType}
@@ -112,7 +112,7 @@ module _ (L : Ledger) (s : Scope) (w : Where) (events : Events L s w) where
 
   operand_condition : (walk : Finds Expression) (at : ℕ) (ps : Parts) → Good L walk ps → Good L (e.operand_condition s walk at) ps
   operand_condition walk at ps h =
-      good_before L walk (λ x. pure (Condition.Operand (place_in_tree at) x)) ps h (λ x. good_pure L (Condition.Operand (place_in_tree at) x))
+      good_before L walk (λ x. pure (Statement.Test (place_in_tree at) x)) ps h (λ x. good_pure L (Statement.Test (place_in_tree at) x))
 
   a_value : (walk : Finds Expression) (ps : Parts) → Good L walk ps → GoodForm (e.a_value s walk) (plainly ps)
   a_value walk ps h = record {
@@ -397,7 +397,7 @@ module _ (L : Ledger) (s : Scope) (w : Where) (events : Events L s w) where
     term_values list all.1,
   )
 
-  term_conditions : (list : List TermTree) → AllByRecursion ClaimTerm list → AllByRecursion (λ (t : TermTree). (k : Condition) → Good L (e.term_condition s k (e.term s t))
+  term_conditions : (list : List TermTree) → AllByRecursion ClaimTerm list → AllByRecursion (λ (t : TermTree). (k : Statement) → Good L (e.term_condition s k (e.term s t))
       (term_parts t)) list
   term_conditions [] all = tt
   term_conditions (t ∷ list) all = (

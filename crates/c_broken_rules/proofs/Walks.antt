@@ -135,8 +135,8 @@ pub record Scoping (L : Ledger) : Type 1 where
   pub declares_function : (x : State) (w : Where) (n : ℕ) (f : Function) (h : Header) (rest : List ExternalDeclaration) → At w n (external.Function f ∷ rest) →
       Agrees x.scope w → IsHeader f h →
       Right L Agrees x (y.declare_function h f.name (y.is_second f h n) x) (λ _. Unit {0}) (Part.Declares w f.name (Declared.OfFunction f) ∷ []) (behind (function_names f) w)
-  pub entered : (s : Scope) (w v : Where) (n : ℕ) (f : Function) (h : Header) (rest : List ExternalDeclaration) → At w n (external.Function f ∷ rest) → v.body ≡ w.body →
-      IsHeader f h → s.gives ≡ y.gives_of h → Agrees s v → Agrees (y.entered (place_in_tree n) s) (record { scopes = v.scopes; body = Some (n, f) })
+  pub entered : (s : Scope) (w v : Where) (n from : ℕ) (f : Function) (h : Header) (rest : List ExternalDeclaration) → At w n (external.Function f ∷ rest) → v.body ≡ w.body →
+      IsHeader f h → s.gives ≡ y.gives_of h → Agrees s v → Agrees (y.entered (place_in_tree n) from s) (record { scopes = v.scopes; body = Some (n, f) })
   pub left_body : (s : Scope) (w v : Where) (n : ℕ) (f : Function) (rest : List ExternalDeclaration) → At w n (external.Function f ∷ rest) → v.body ≡ w.body →
       Agrees s (record { scopes = v.scopes; body = Some (n, f) }) → Agrees (y.left s) v
   pub no_locals : (s : Scope) (w : Where) → Agrees s w → Agrees (y.without_locals s) w
