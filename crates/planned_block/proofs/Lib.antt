@@ -7,6 +7,7 @@ pub mod BlockCycle
 pub mod BlockLaw
 pub mod Tables
 pub mod Advances
+pub mod LastPassing
 pub mod Total
 pub mod Examples
 pub mod RequestCount
