@@ -1,0 +1,12 @@
+pub mod RoundNumbers
+pub mod OperandsAhead
+pub mod ShownWires
+pub mod ArrayCuts
+pub mod CycleSteps
+pub mod RoundEnds
+pub mod BlockIterations
+pub mod TablePlans
+pub mod PaidSteps
+pub mod NextSlots
+pub mod IterationTimes
+pub mod WholeRuns

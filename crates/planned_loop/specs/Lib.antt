@@ -1,0 +1,10 @@
+pub mod Loop
+pub mod Plan
+pub mod Move
+pub mod Moment
+pub mod Table
+pub mod Law
+pub mod Rest
+pub mod Next
+pub mod Time
+pub mod Runs
