@@ -1,14 +1,15 @@
 -- Lists of steps of sample programs, and what the definitions say that they lead to.
-use Rattle.std.specs.Prelude.{◌≡◌, ℕ, Bool, true, false, List, [], ◌∷◌, ◌++◌, replicate, pos, Some, refl}
+use Rattle.std.specs.Prelude.{◌≡◌, ℕ, Bool, true, false, List, [], ◌∷◌, ◌++◌, replicate, pos, Some, None, refl}
 use Rattle.std.specs.Fmt.{digits}
 use Rattle.hls_ints.specs.declared.fault.ArithmeticFault.TheVariants as fault
 use Rattle.hls_ints.specs.Types.{int_type, long_int, wrapped}
 use Rattle.hls_ints.specs.Residues.{residue_of, signed_value_of}
 use Rattle.hls_ints.specs.Operators.{result_of}
 use Rattle.c_program.specs.declared.tree.Storage.TheVariants.{Automatic, Static}
-use Rattle.c_program.specs.declared.tree.BinaryOperator.TheVariants.{Multiply, Divide, Add, ShiftLeft}
+use Rattle.c_program.specs.declared.tree.UnaryOperator.TheVariants.{Not}
+use Rattle.c_program.specs.declared.tree.BinaryOperator.TheVariants.{Multiply, Divide, Add, ShiftLeft, Less}
 use Rattle.c_program.specs.declared.tree.ReturnType.TheVariants.{Integer}
-use Rattle.c_program.specs.Tree.{Expression, Place, Condition, RightSide, ObjectPlace, ThreadCall, Piece, Statement, Function, Program}
+use Rattle.c_program.specs.Tree.{Expression, Place, ObjectPlace, ThreadCall, Piece, Statement, Function, Program}
 use Rattle.c_program.specs.Resolved.{scalar}
 use Rattle.c_program.proofs.Samples.{number, local, local_set, local_raised, return_zero, list_of, main_of, alone, is_below, counted}
 use Rattle.c_program.proofs.Samples.{print_int, null, return_null, global, global_raised, routine_of, shared_by, single, called, three_threads, racing_threads}
@@ -18,6 +19,14 @@ use Rattle.thread_semantics.specs.declared.cause.BlockedCause.{BlockedCause}
 use Rattle.thread_semantics.specs.declared.cause.BlockedCause.TheVariants as blocked
 use Rattle.thread_semantics.specs.Step.{Stepped, Steps, Blocks, Undefines, after}
 use Rattle.thread_semantics.specs.Races.{Touch, footprint}
+
+-- x = e; at a place, x being the local 0
+abbrev local_set_at : ℕ → Expression → Statement
+local_set_at offset e = Statement.Assign offset (Place.Scalar Automatic 0 int_type) e
+
+-- main with one declared local, and so many that keep values
+abbrev keeping : ℕ → List Statement → Function
+keeping slots body = record (main_of body) { locals = scalar int_type ∷ replicate slots (scalar long_int) }
 
 -- what can be seen of a step: the output and whether main has returned, or why it isn't taken
 data Seen : Type 0 where
@@ -55,7 +64,7 @@ counting = refl
 
 -- int x = 1 << 31; is undefined at x
 shifting :
-    seen (after (alone (Statement.Assign 19 (Place.Scalar Automatic 0 int_type) (RightSide.Value (Expression.Binary ShiftLeft int_type (number 1) (number 31))) ∷
+    seen (after (alone (Statement.Assign 19 (Place.Scalar Automatic 0 int_type) (Expression.Binary ShiftLeft int_type (number 1) (number 31)) ∷
     return_zero ∷ [])) (steps 0 1)) ≡ Breaks 19 (undefined.Arithmetic fault.Shift)
 unfolding wrapped residue_of signed_value_of result_of
 shifting = refl
@@ -64,7 +73,7 @@ shifting = refl
 guarded : Program
 guarded = record (alone (
     local_set 0 (number 4) ∷
-    Statement.If (Condition.Both (is_below 0 4) (Condition.Operand 0 (Expression.Element Static 0 4 int_type (local 0)))) (local_set 0 (number 9)) Statement.Done ∷
+    Statement.If (Statement.Both (is_below 0 4) (Statement.Test 0 (Expression.Element Static 0 4 int_type (local 0)))) (local_set 0 (number 9)) Statement.Done ∷
     print_int (local 0) ∷ return_zero ∷ []))
     { globals = record { name = []; ty = int_type; length = 4; initial = [] } ∷ [] }
 
@@ -98,7 +107,7 @@ old_value_then = refl
 -- int i; for (i = 0; i < 2; i++) do { break; } while (1); return 0; leaves the inner loop alone
 inner_break :
     ends_in (alone (Statement.Declare 0 0 0 ∷
-    counted 0 2 (Statement.DoWhile (Statement.Block (Statement.Sequence Statement.Break Statement.Done)) (Condition.Operand 0 (number 1))) ∷
+    counted 0 2 (Statement.DoWhile (Statement.Block (Statement.Sequence Statement.Break Statement.Done)) (Statement.Test 0 (number 1))) ∷
     return_zero ∷ [])) (steps 0 8) []
 unfolding wrapped residue_of signed_value_of result_of
 inner_break = refl
@@ -106,7 +115,7 @@ inner_break = refl
 -- int i; for (i = 0; i < 2; i++) do { continue; } while (0); return 0; asks the inner condition at each turn
 inner_continue :
     ends_in (alone (Statement.Declare 0 0 0 ∷
-    counted 0 2 (Statement.DoWhile (Statement.Block (Statement.Sequence Statement.Continue Statement.Done)) (Condition.Operand 0 (number 0))) ∷
+    counted 0 2 (Statement.DoWhile (Statement.Block (Statement.Sequence Statement.Continue Statement.Done)) (Statement.Test 0 (number 0))) ∷
     return_zero ∷ [])) (steps 0 10) []
 unfolding wrapped residue_of signed_value_of result_of
 inner_continue = refl
@@ -114,7 +123,7 @@ inner_continue = refl
 -- int i; for (i = 0; i < 2; i++) { if (i) continue; printf("%d\n", i); } return 0;
 outer_continue :
     ends_in (alone (Statement.Declare 0 0 0 ∷
-    counted 0 2 (Statement.Block (list_of (Statement.If (Condition.Operand 0 (local 0)) Statement.Continue Statement.Done ∷ print_int (local 0) ∷
+    counted 0 2 (Statement.Block (list_of (Statement.If (Statement.Test 0 (local 0)) Statement.Continue Statement.Done ∷ print_int (local 0) ∷
     []))) ∷ return_zero ∷ [])) (steps 0 12) (48 ∷ 10 ∷ [])
 unfolding wrapped residue_of signed_value_of result_of digits
 outer_continue = refl
@@ -129,9 +138,10 @@ square = record {
   name = [];
   returns = Integer int_type;
   parameters = 1;
+  declared_locals = 1;
   locals = scalar int_type ∷ [];
   local_names = (97 ∷ []) ∷ [];
-  body = list_of (Statement.Return 0 (Some (RightSide.Value (Expression.Binary Multiply int_type (local 0) (local 0)))) ∷ []);
+  body = list_of (Statement.Return 0 (Some (Expression.Binary Multiply int_type (local 0) (local 0))) ∷ []);
   end = 0;
 }
 
@@ -139,9 +149,10 @@ squares : Program
 squares = record {
   functions =
       square ∷
-      main_of (
+      keeping 1 (
       Statement.Declare 0 0 0 ∷
-      counted 0 3 (Statement.Assign 0 (Place.Element Static 0 3 int_type (local 0)) (RightSide.Call 0 (Expression.Binary Add int_type (local 0) (at (number 0)) ∷ []))) ∷
+      counted 0 3 (Statement.Sequence (Statement.Call 0 (Some 1) 0 (Expression.Binary Add int_type (local 0) (at (number 0)) ∷ []))
+      (Statement.Assign 0 (Place.Element Static 0 3 int_type (local 0)) (Expression.Kept 1 int_type))) ∷
       Statement.Print 0
       (Piece.Conversion int_type ∷ Piece.Text (32 ∷ []) ∷ Piece.Conversion int_type ∷ Piece.Text (32 ∷ []) ∷ Piece.Conversion int_type ∷ Piece.Text (10 ∷ []) ∷ [])
       (at (number 0) ∷ at (number 1) ∷ at (number 2) ∷ []) ∷
@@ -159,9 +170,9 @@ calls = refl
 
 -- a function that comes to its brace gives no value: int f(void){} .. int x = f(); return 0;
 silent : Program
-silent = record (alone (Statement.Assign 30 (Place.Scalar Automatic 0 int_type) (RightSide.Call 1 []) ∷ return_zero ∷ [])) {
+silent = record (alone (Statement.Call 30 (Some 1) 1 [] ∷ local_set_at 30 (Expression.Kept 1 int_type) ∷ return_zero ∷ [])) {
   functions =
-      main_of (Statement.Assign 30 (Place.Scalar Automatic 0 int_type) (RightSide.Call 1 []) ∷ return_zero ∷ []) ∷
+      keeping 1 (Statement.Call 30 (Some 1) 1 [] ∷ local_set_at 30 (Expression.Kept 1 int_type) ∷ return_zero ∷ []) ∷
       main_of [] ∷ [];
 }
 
@@ -176,7 +187,7 @@ create = called (ThreadCall.Create single 0 null)
 
 -- main returns while the thread isn't joined
 unjoined : Program
-unjoined = shared_by 1 false (return_null ∷ []) (create ∷ Statement.Return 96 (Some (RightSide.Value (number 0))) ∷ [])
+unjoined = shared_by 1 false (return_null ∷ []) (create ∷ Statement.Return 96 (Some (number 0)) ∷ [])
 
 live_thread : seen (after unjoined (steps 0 3)) ≡ Breaks 96 undefined.LiveThread
 unfolding unjoined wrapped residue_of signed_value_of result_of
@@ -210,7 +221,7 @@ joins_itself = refl
 -- void *f(void *p){x = 5; pthread_create(&b, NULL, g, NULL); pthread_join(b, NULL); x = x * 2; return NULL;} int
 -- main(void){pthread_create(&a, NULL, f, NULL); pthread_join(a, NULL); printf("%d\n", x); return 0;}
 abbrev global_set : Expression → Statement
-global_set e = Statement.Assign 0 (Place.Scalar Static 0 int_type) (RightSide.Value e)
+global_set e = Statement.Assign 0 (Place.Scalar Static 0 int_type) e
 
 creators : Program
 creators = record {
@@ -297,3 +308,101 @@ first_touches = refl
 second_touches : footprint_in racing_threads (after racing_threads (steps 0 11 ++ steps 1 3 ++ steps 2 3)) 2 ≡ shared_touches
 unfolding wrapped residue_of signed_value_of result_of
 second_touches = refl
+
+-- Cuts.
+
+-- int f(int a){return a + 1;}
+abbrev next : Function
+next = record square { body = list_of (Statement.Return 0 (Some (Expression.Binary Add int_type (local 0) (number 1))) ∷ []) }
+
+abbrev with_next : List Statement → Program
+with_next body = record (alone body) { functions = keeping 3 body ∷ next ∷ [] }
+
+abbrev kept : ℕ → Expression
+kept slot = Expression.Kept slot int_type
+
+abbrev call_next : ℕ → Expression → Statement
+call_next slot argument = Statement.Call 0 (Some slot) 1 (argument ∷ [])
+
+-- int x = 3; printf("%d\n", f(x) * f(f(x)) + (x > 2 ? 10 : 20)); return 0;
+calls_inside :
+    ends_in (with_next (
+    local_set 0 (number 3) ∷ call_next 1 (local 0) ∷ call_next 2 (local 0) ∷ call_next 2 (kept 2) ∷
+    Statement.If (Statement.Test 0 (Expression.Binary Less int_type (number 2) (local 0))) (Statement.Keep 0 3 int_type (number 10)) (Statement.Keep 0 3 int_type (number 20)) ∷
+    print_int (Expression.Binary Add int_type (Expression.Binary Multiply int_type (kept 1) (kept 2)) (kept 3)) ∷
+    return_zero ∷ [])) (steps 0 12) (51 ∷ 48 ∷ 10 ∷ [])
+unfolding wrapped residue_of signed_value_of result_of digits
+calls_inside = refl
+
+-- int a = 1; int b = !(a && 0) + 1; printf("%d\n", b); return 0;
+truth_kept :
+    ends_in (record (alone []) {
+      functions = keeping 1 (
+          local_set 0 (number 1) ∷ Statement.Truth 1 (Statement.Both (Statement.Test 0 (local 0)) (Statement.Test 0 (number 0))) ∷
+          local_set 0 (Expression.Binary Add int_type (Expression.Unary Not int_type (kept 1)) (number 1)) ∷ print_int (local 0) ∷ return_zero ∷ []) ∷ [];
+    })
+    (steps 0 7) (50 ∷ 10 ∷ [])
+unfolding wrapped residue_of signed_value_of result_of digits
+truth_kept = refl
+
+-- !(0 || !x) as a part of a condition that is kept: x is 7, and the whole 1
+truth_turned :
+    ends_in (record (alone []) {
+      functions = keeping 1 (
+          local_set 0 (number 7) ∷
+          Statement.Truth 1 (Statement.Both (Statement.Opposite (Statement.Either (Statement.Test 0 (number 0)) (Statement.Opposite (Statement.Test 0 (local 0))))) (Statement.Test 0 (number 5))) ∷
+          print_int (kept 1) ∷ return_zero ∷ []) ∷ [];
+    })
+    (steps 0 7) (49 ∷ 10 ∷ [])
+unfolding wrapped residue_of signed_value_of result_of digits
+truth_turned = refl
+
+-- while (f(x) < 3) x++; with x from 0: at each turn the call, its return and the test
+asked_with_a_call :
+    ends_in (with_next (
+    local_set 0 (number 0) ∷
+    Statement.While (Statement.Sequence (call_next 1 (local 0)) (Statement.Test 0 (Expression.Binary Less int_type (kept 1) (number 3)))) (local_raised 0) ∷
+    print_int (local 0) ∷ return_zero ∷ [])) (steps 0 15) (50 ∷ 10 ∷ [])
+unfolding wrapped residue_of signed_value_of result_of digits
+asked_with_a_call = refl
+
+-- int i; for (i = 0; i < 4; i++) switch (i) { case 1: printf 1; case 2: printf 2; break; default: printf 4; } return 0;
+switching :
+    ends_in (alone (Statement.Declare 0 0 0 ∷
+    counted 0 4 (Statement.Switch 0 int_type (local 0) (list_of (
+    Statement.Label (Some (pos 1)) 0 ∷ print_int (number 1) ∷ Statement.Label (Some (pos 2)) 0 ∷ print_int (number 2) ∷ Statement.Break ∷
+    Statement.Label None 0 ∷ print_int (number 4) ∷ []))) ∷
+    return_zero ∷ [])) (steps 0 26) (52 ∷ 10 ∷ 49 ∷ 10 ∷ 50 ∷ 10 ∷ 50 ∷ 10 ∷ 52 ∷ 10 ∷ [])
+unfolding wrapped residue_of signed_value_of result_of digits
+switching = refl
+
+-- a continue in a switch goes on with the loop, and a switch without a label for the value is passed
+passing :
+    ends_in (alone (Statement.Declare 0 0 0 ∷
+    counted 0 3 (Statement.Block (list_of (
+    Statement.Switch 0 int_type (local 0) (list_of (Statement.Label (Some (pos 1)) 0 ∷ Statement.Continue ∷ [])) ∷ print_int (local 0) ∷ []))) ∷
+    return_zero ∷ [])) (steps 0 17) (48 ∷ 10 ∷ 50 ∷ 10 ∷ [])
+unfolding wrapped residue_of signed_value_of result_of digits
+passing = refl
+
+-- int g[2][3]; .. g[0][3] = 1; is undefined though the array has an element of that number
+abbrev cell : ℕ → ℕ → Expression
+cell i j = Expression.Row (number i) 2 (number j) 3
+
+abbrev grid : List Statement → Program
+grid body = record (alone body) { globals = record { name = []; ty = int_type; length = 6; initial = pos 1 ∷ pos 2 ∷ pos 0 ∷ pos 4 ∷ [] } ∷ [] }
+
+past_a_row : seen (after (grid (Statement.Assign 28 (Place.Element Static 0 6 int_type (cell 0 3)) (number 1) ∷ [])) (steps 0 1)) ≡ Breaks 28 undefined.Index
+unfolding wrapped residue_of signed_value_of result_of
+past_a_row = refl
+
+-- int g[2][3] = {{1, 2}, {4}}; .. g[1][2] = g[0][1] + g[1][0]; printf("%d\n", g[1][2]); return 0;
+abbrev cell_value : ℕ → ℕ → Expression
+cell_value i j = Expression.Element Static 0 6 int_type (cell i j)
+
+rows :
+    ends_in (grid (
+    Statement.Assign 0 (Place.Element Static 0 6 int_type (cell 1 2)) (Expression.Binary Add int_type (cell_value 0 1) (cell_value 1 0)) ∷
+    print_int (cell_value 1 2) ∷ return_zero ∷ [])) (steps 0 4) (54 ∷ 10 ∷ [])
+unfolding wrapped residue_of signed_value_of result_of digits
+rows = refl
