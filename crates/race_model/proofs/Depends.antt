@@ -6,13 +6,13 @@ use Rattle.hls_ints.specs.Operators.{is_zero}
 use Rattle.c_program.specs.declared.tree.Storage.{Storage}
 use Rattle.c_program.specs.declared.tree.Storage.TheVariants.{Automatic, Static}
 use Rattle.c_program.specs.declared.tree.BinaryOperator.{BinaryOperator}
-use Rattle.c_program.specs.Tree.{Expression, Place, RightSide, ObjectPlace, ThreadCall, Statement, Function, Program}
+use Rattle.c_program.specs.Tree.{Expression, Place, ObjectPlace, ThreadCall, Statement, Function, Program}
 use Rattle.thread_semantics.specs.Memory.{Location, Memory, Evaluation, Gives, Fails, after_reads, and_then, element}
-use Rattle.thread_semantics.specs.Value.{value, values, load, global_value, checked_index, unary_value, binary_value}
-use Rattle.thread_semantics.specs.Work.{Work, Act, first_offset, first_operand, waiting_parts, decided}
+use Rattle.thread_semantics.specs.Value.{value, values, load, global_value, kept_value, row_number, checked_index, unary_value, binary_value}
+use Rattle.thread_semantics.specs.Work.{Work, Act, decided, noted, switched}
 use Rattle.thread_semantics.specs.State.{Frame}
-use Rattle.thread_semantics.specs.Move.{Move, moving, Target, target_of, Assignment, assignment, update, delivery, stored_in, stored, entered, called}
-use Rattle.thread_semantics.specs.Move.{returned, object_number, alone, with_operand, operands_of, act_of, prepared, store_move, statement_move, work_move, move}
+use Rattle.thread_semantics.specs.Move.{Move, moving, Target, target_of, Assignment, assignment, update, stored_in, stored, entered, called, slot_place, truth_in}
+use Rattle.thread_semantics.specs.Move.{returned, object_number, alone, with_operand, operands_of, act_of, prepared, statement_move, work_move, move}
 use Rattle.thread_semantics.specs.Move.{first_thread, first_mutex, first_barrier}
 
 -- the two memories are the same at these elements of globals
@@ -88,6 +88,15 @@ depends_value (Expression.Variable storage x ty) = depends_load storage x 0
 depends_value (Expression.Element storage x length ty index) =
     depends_then (value index) (λ i m. and_then (checked_index length i) (λ j. load m storage x j)) (depends_value index)
     (λ i. depends_then (λ m. checked_index length i) (λ j m. load m storage x j) (depends_pure (checked_index length i)) (depends_load storage x))
+depends_value (Expression.Row outer outer_length inner inner_length) =
+    depends_then (value outer)
+    (λ a m. and_then (checked_index outer_length a) (λ i. and_then (value inner m) (λ b. and_then (checked_index inner_length b) (λ j. row_number inner_length i j))))
+    (depends_value outer)
+    (λ a. depends_then (λ m. checked_index outer_length a)
+    (λ i m. and_then (value inner m) (λ b. and_then (checked_index inner_length b) (λ j. row_number inner_length i j)))
+    (depends_pure (checked_index outer_length a))
+    (λ i. depends_then (value inner) (λ b m. and_then (checked_index inner_length b) (λ j. row_number inner_length i j)) (depends_value inner)
+    (λ b. depends_pure (and_then (checked_index inner_length b) (λ j. row_number inner_length i j)))))
 depends_value (Expression.Unary operator ty operand) =
     depends_then (value operand) (λ a m. unary_value operator ty a) (depends_value operand) (λ a. depends_pure (unary_value operator ty a))
 depends_value (Expression.Binary operator ty left right) =
@@ -95,6 +104,7 @@ depends_value (Expression.Binary operator ty left right) =
     (λ a. depends_then (value right) (λ b m. binary_value operator ty a b) (depends_value right) (λ b. depends_pure (binary_value operator ty a b)))
 depends_value (Expression.Cast ty operand) =
     depends_then (value operand) (λ a m. Gives (wrapped ty a) []) (depends_value operand) (λ a. depends_pure (Gives (wrapped ty a) []))
+depends_value (Expression.Kept slot ty) = λ m n v reads l h s. subst (λ rows. kept_value ty (element rows slot 0) ≡ Gives v reads) l h
 
 pub depends_values : (es : List Expression) → DependsOnReads (values es)
 depends_values [] = depends_pure (Gives [] [])
@@ -133,10 +143,6 @@ depends_update place operator ty right =
     (λ old m. and_then (binary_value operator ty old v) (λ r. assigned r target))
     (depends_load target.storage target.variable target.index)
     (λ old. depends_pure (and_then (binary_value operator ty old v) (λ r. assigned r target)))))
-
-depends_delivery : (place : Place) (v : ℤ) → DependsOnReads (delivery place v)
-depends_delivery place v =
-    depends_then (target_of place) (λ target m. assigned v target) (depends_target place) (λ target. depends_pure (assigned v target))
 
 depends_number : (first : ℕ → ℕ) (place : ObjectPlace) → DependsOnReads (object_number first place)
 depends_number first (ObjectPlace.Single object) = depends_pure (Gives (pos (first object)) [])
@@ -207,10 +213,10 @@ module _ (f : Frame) (fs : List Frame) where
   entered_reads None g vs r k d = absurd d
   entered_reads (Some code) g vs r k d = refl
 
-  depends_called : (P : Program) (offset g : ℕ) (es : List Expression) (k : List Work) → MoveDepends (λ m. called P offset g es m f fs k)
-  depends_called P offset g es k =
-      depends_moving offset (values es) (λ vs reads. entered (slice_get P.functions g) g vs reads f fs k) (depends_values es)
-      (λ vs r d. entered_reads (slice_get P.functions g) g vs r k d)
+  depends_called : (P : Program) (offset : ℕ) (into : Option ℕ) (g : ℕ) (es : List Expression) (k : List Work) → MoveDepends (λ m. called P offset into g es m f fs k)
+  depends_called P offset into g es k =
+      depends_moving offset (values es) (λ vs reads. entered (slice_get P.functions g) g vs reads f fs (Work.Take into ∷ k)) (depends_values es)
+      (λ vs r d. entered_reads (slice_get P.functions g) g vs r (Work.Take into ∷ k) d)
 
   depends_prepared : (offset : ℕ) (act : Act) (F : Memory → Evaluation (List ℤ)) (k : List Work) → DependsOnReads F →
       MoveDepends (λ m. prepared offset act (F m) f fs k)
@@ -219,45 +225,39 @@ module _ (f : Frame) (fs : List Frame) where
       (λ vs reads. Move.Moves (record f { work = Work.Perform offset act ∷ k; kept = vs } ∷ fs) reads None) d (λ vs r _. refl)
 
 depends_returned : (P : Program) (offset : ℕ) (e : Expression) (f : Frame) (fs : List Frame) →
-    MoveDepends (λ m. moving offset (value e m) (λ v reads. returned P offset (v ∷ []) reads f fs))
+    MoveDepends (λ m. moving offset (value e m) (λ v reads. returned P offset (Some v) reads f fs))
 depends_returned P offset e f [] =
-    depends_moving offset (value e) (λ v reads. returned P offset (v ∷ []) reads f []) (depends_value e) (λ v r _. refl)
+    depends_moving offset (value e) (λ v reads. returned P offset (Some v) reads f []) (depends_value e) (λ v r _. refl)
 depends_returned P offset e f (g ∷ gs) =
-    depends_moving offset (value e) (λ v reads. returned P offset (v ∷ []) reads f (g ∷ gs)) (depends_value e) (λ v r _. refl)
+    depends_moving offset (value e) (λ v reads. returned P offset (Some v) reads f (g ∷ gs)) (depends_value e) (λ v r _. refl)
 
 depends_statement : (P : Program) (f : Frame) (fs : List Frame) (k : List Work) (s : Statement) → MoveDepends (λ m. statement_move P m f fs k s)
 depends_statement P f fs k (Statement.Declare offset x operators) m n l d same = refl
-depends_statement P f fs k (Statement.Assign offset place (RightSide.Value right)) m n l d same =
+depends_statement P f fs k (Statement.Assign offset place right) m n l d same =
     depends_stored f fs offset (assignment place right) k (depends_assignment place right) m n l d same
-depends_statement P f fs k (Statement.Assign offset place (RightSide.Call g arguments)) m n l d same =
-    depends_called f fs P offset g arguments (Work.Store offset place ∷ k) m n l d same
 depends_statement P f fs k (Statement.Update offset place operator ty right) m n l d same =
     depends_stored f fs offset (update place operator ty right) k (depends_update place operator ty right) m n l d same
+depends_statement P f fs k (Statement.Call offset into g arguments) m n l d same = depends_called f fs P offset into g arguments k m n l d same
+depends_statement P f fs k (Statement.Keep offset slot ty operand) m n l d same =
+    depends_stored f fs offset (assignment (slot_place slot) (Expression.Cast ty operand)) k (depends_assignment (slot_place slot) (Expression.Cast ty operand)) m n l d same
+depends_statement P f fs k (Statement.Test offset operand) m n l d same =
+    depends_moving offset (value operand)
+    (λ v reads. Move.Moves (record f { locals = truth_in (noted (not (is_zero v)) k) f.locals; work = decided (not (is_zero v)) k; kept = [] } ∷ fs) reads None)
+    (depends_value operand) (λ v r _. refl) m n l d same
+depends_statement P f fs k (Statement.Switch offset ty operand body) m n l d same =
+    depends_moving offset (value operand) (λ v reads. Move.Moves (record f { work = switched (wrapped ty v) body k; kept = [] } ∷ fs) reads None)
+    (depends_value operand) (λ v r _. refl) m n l d same
 depends_statement P f fs k (Statement.Return offset None) m n l d same = refl
-depends_statement P f fs k (Statement.Return offset (Some (RightSide.Value e))) m n l d same = depends_returned P offset e f fs m n l d same
-depends_statement P f fs k (Statement.Return offset (Some (RightSide.Call g arguments))) m n l d same =
-    depends_called f fs P offset g arguments (Work.Hand offset ∷ k) m n l d same
-depends_statement P f fs k (Statement.Call offset g arguments) m n l d same = depends_called f fs P offset g arguments (Work.Drop ∷ k) m n l d same
+depends_statement P f fs k (Statement.Return offset (Some e)) m n l d same = depends_returned P offset e f fs m n l d same
 depends_statement P f fs k (Statement.Print offset format arguments) m n l d same =
     depends_prepared f fs offset (Act.Print format) (values arguments) k (depends_values arguments) m n l d same
 depends_statement P f fs k (Statement.Thread offset call) m n l d same =
     depends_prepared f fs offset (act_of call) (operands_of P call) k (depends_operands P call) m n l d same
 depends_statement P f fs k statement m n l d same = absurd d
 
-depends_store : (offset : ℕ) (place : Place) (f : Frame) (fs : List Frame) (k : List Work) (kept : List ℤ) →
-    MoveDepends (λ m. store_move offset place m f fs k kept)
-depends_store offset place f fs k [] m n l d same = absurd d
-depends_store offset place f fs k (v ∷ vs) m n l d same = depends_stored f fs offset (delivery place v) k (depends_delivery place v) m n l d same
-
 depends_work : (P : Program) (f : Frame) (fs : List Frame) (work : List Work) → MoveDepends (λ m. work_move P m f fs work)
 depends_work P f fs [] m n l d same = refl
 depends_work P f fs (Work.Do statement ∷ k) m n l d same = depends_statement P f fs k statement m n l d same
-depends_work P f fs (Work.Ask condition ∷ k) m n l d same =
-    depends_moving (first_offset condition) (value (first_operand condition))
-    (λ v reads. Move.Moves (record f { work = decided (not (is_zero v)) (waiting_parts condition k); kept = [] } ∷ fs) reads None)
-    (depends_value (first_operand condition)) (λ v r _. refl) m n l d same
-depends_work P f fs (Work.Store offset place ∷ k) m n l d same = depends_store offset place f fs k f.kept m n l d same
-depends_work P f fs (Work.Hand offset ∷ k) m n l d same = refl
 depends_work P f fs (Work.Perform offset act ∷ k) m n l d same = refl
 depends_work P f fs (item ∷ k) m n l d same = absurd d
 

@@ -4,29 +4,26 @@ use Rattle.std.proofs.Common.{◌≡◌, ℕ, ◌<◌, List, [], ◌∷◌, refl
 use Rattle.std.specs.Prelude.{Bool, true, false, not, Option, Some, None, slice_get, ℤ, pos, negsuc, nat_lt, if◌then◌else◌}
 use Rattle.std.specs.List.{AllByRecursion}
 use Rattle.std.proofs.lemmas.Bool.{ltb-true}
-use Rattle.hls_ints.specs.Types.{IntegerType}
+use Rattle.hls_ints.specs.Types.{IntegerType, wrapped}
 use Rattle.hls_ints.specs.Operators.{is_zero}
 use Rattle.c_program.specs.declared.tree.Storage.{Storage}
 use Rattle.c_program.specs.declared.tree.Storage.TheVariants.{Automatic, Static}
 use Rattle.c_program.specs.declared.tree.BinaryOperator.{BinaryOperator}
 use Rattle.c_program.specs.declared.tree.LocalVariable.{LocalVariable}
-use Rattle.c_program.specs.declared.tree.ReturnType.{ReturnType}
-use Rattle.c_program.specs.declared.tree.ReturnType.TheVariants.{Void, Integer, Pointer}
 use Rattle.c_program.specs.declared.tree.ThreadObject.{ThreadObject}
-use Rattle.c_program.specs.Tree.{Expression, Place, RightSide, ThreadCall, Statement, Function, GlobalVariable, Program}
-use Rattle.c_program.specs.Resolved.{global_object, IsObject, IsPlace, IsCall, IsReturn, object_of, HasRoutine, IsThreadCall, IsStatement, IsRoutineAt, IsFunction, IsResolved}
+use Rattle.c_program.specs.Tree.{Expression, Place, ThreadCall, Statement, Function, GlobalVariable, Program}
+use Rattle.c_program.specs.Resolved.{global_object, IsObject, IsPlace, IsCall, object_of, HasRoutine, Around, nowhere, in_switch, IsThreadCall, IsStatement, IsRoutineAt, IsFunction, IsResolved}
 use Rattle.thread_semantics.specs.declared.cause.UndefinedCause.TheVariants.{Index}
 use Rattle.thread_semantics.specs.Memory.{Location, Memory, Evaluation, Gives, Fails, after_reads, and_then}
 use Rattle.thread_semantics.specs.Value.{value, values, load, checked_index, binary_value}
-use Rattle.thread_semantics.specs.Work.{Work, Act, Onward, decided, waiting_parts, first_offset, first_operand}
+use Rattle.thread_semantics.specs.Work.{Work, Act, decided, noted, switched}
 use Rattle.thread_semantics.specs.State.{Frame, begun, started}
-use Rattle.thread_semantics.specs.Move.{Move, moving, going_on, Target, target_of, Assignment, assignment, update, delivery, stored_in, stored}
-use Rattle.thread_semantics.specs.Move.{entered, called, return_type, returned_value, resumed, returned, operands_of, act_of, prepared, store_move}
-use Rattle.thread_semantics.specs.Move.{hand_move, end_offset, statement_move, work_move, move}
+use Rattle.thread_semantics.specs.Move.{Move, moving, going_on, Target, target_of, Assignment, assignment, update, stored_in, stored, slot_place, truth_in, operand_move, switch_move}
+use Rattle.thread_semantics.specs.Move.{entered, called, return_type, returned_value, resumed, returned, operands_of, act_of, prepared}
+use Rattle.thread_semantics.specs.Move.{end_offset, statement_move, work_move, move}
 use Rattle.race_model.proofs.Lists.{all_at}
 use Rattle.race_model.proofs.Shape.{IsElement, IsInside}
-use Rattle.race_model.proofs.Works.{IsAct, AreWork, settled_is, decided_is, waiting_is}
-use Rattle.race_model.proofs.Settled.{TakesStep, InOrder, IsSettled, IsWaiting, onward_settled, decided_settled, waiting_in_order, resumed_settled}
+use Rattle.race_model.proofs.Works.{IsAct, TakesStep, IsPart, AreWork, IsReady, IsWaiting, onward_is, decided_is, switched_is}
 
 -- where an evaluation gives a value, that is so of the value
 abbrev pub Grants : {A : Type 0} → (A → Type 0) → Evaluation A → Type 0
@@ -118,22 +115,22 @@ module _ (P : Program) where
           and_then (load m target.storage target.variable target.index)
           (λ old. and_then (binary_value operator ty old v) (λ r. Gives (record { target = target; value = r }) []))
 
-  delivery_is : (f : Function) (place : Place) (v : ℤ) (m : Memory) → IsPlace P f place → Grants IsAssigned (delivery place v m)
-  delivery_is f place v m is = assigned_is f place m (λ target. Gives (record { target = target; value = v }) []) is (λ t. refl)
+  -- a kept value goes to a local
+  keep_is : (f : Function) (slot : ℕ) (right : Expression) (m : Memory) → Grants IsAssigned (assignment (slot_place slot) right m)
+  keep_is f slot right m =
+      grants_next IsAssigned (value right m) (λ v. and_then (target_of (slot_place slot) m) (λ target. Gives (record { target = target; value = v }) [])) (λ v. tt)
 
   -- a call whose code is a function of the program, and whose work is of that function and ready for a step
   pub record IsFrame (f : Frame) : Type 0 where
     pub code : Function
     pub found : slice_get P.functions f.function ≡ Some code
-    pub work : AreWork P code f.work
-    pub settled : IsSettled f.work
+    pub ready : IsReady P code f.work
 
   -- such a call, whose work waits for another call
   pub record IsCaller (f : Frame) : Type 0 where
     pub code : Function
     pub found : slice_get P.functions f.function ≡ Some code
-    pub work : AreWork P code f.work
-    pub waits : IsWaiting f.work
+    pub waits : IsWaiting P code f.work
 
   -- the innermost call and its callers
   abbrev pub AreFrames : List Frame → Type 0
@@ -156,81 +153,68 @@ module _ (P : Program) where
       IsMove (moving offset e next)
   moving_all {A} offset e next h = moving_is (λ (v : A). Unit {0}) offset e next (grants_all (λ (v : A). Unit {0}) e (λ v. tt)) (λ v r _. h v r)
 
-  -- work that a call may have after its next step
-  pub record IsRest (code : Function) (k : List Work) : Type 0 where
-    pub work : AreWork P code k
-    pub order : InOrder false k
-
   -- the same call with other work, and as one that waits for another call
-  with_work : (f : Frame) (g : Frame) (w : IsFrame f) → g.function ≡ f.function → AreWork P w.code g.work → IsSettled g.work → IsFrame g
-  with_work f g w same k settled = record { code = w.code; found = ap (λ (n : ℕ). slice_get P.functions n) same ∙ w.found; work = k; settled = settled }
+  with_work : (f : Frame) (g : Frame) (w : IsFrame f) → g.function ≡ f.function → IsReady P w.code g.work → IsFrame g
+  with_work f g w same ready = record { code = w.code; found = ap (λ (n : ℕ). slice_get P.functions n) same ∙ w.found; ready = ready }
 
-  caller_is : (f : Frame) (g : Frame) (w : IsFrame f) → g.function ≡ f.function → AreWork P w.code g.work → IsWaiting g.work → IsCaller g
-  caller_is f g w same k waits = record { code = w.code; found = ap (λ (n : ℕ). slice_get P.functions n) same ∙ w.found; work = k; waits = waits }
+  caller_is : (f : Frame) (g : Frame) (w : IsFrame f) → g.function ≡ f.function → IsWaiting P w.code g.work → IsCaller g
+  caller_is f g w same waits = record { code = w.code; found = ap (λ (n : ℕ). slice_get P.functions n) same ∙ w.found; waits = waits }
 
-  going_on_is : (f : Frame) (w : IsFrame f) (k : List Work) → IsRest w.code k → IsFrame (going_on f k)
-  going_on_is f w k q = with_work f (going_on f k) w refl (settled_is P w.code Onward k q.work) (onward_settled k q.order)
+  going_on_is : (f : Frame) (w : IsFrame f) (k : List Work) → AreWork P w.code false k → IsFrame (going_on f k)
+  going_on_is f w k q = with_work f (going_on f k) w refl (onward_is P w.code k q)
 
   abbrev AreCallers : List Frame → Type 0
   AreCallers fs = AllByRecursion IsCaller fs
 
   stored_in_is : (storage : Storage) (a : Assignment) (reads : List Location) (f : Frame) (fs : List Frame) (k : List Work) (w : IsFrame f) →
-      IsRest w.code k → AreCallers fs → IsTarget storage a.target.variable a.target.index → IsMove (stored_in storage a reads f fs k)
-  stored_in_is Automatic a reads f fs k w q ws t = ((with_work f _ w refl (settled_is P w.code Onward k q.work) (onward_settled k q.order), ws), tt)
+      AreWork P w.code false k → AreCallers fs → IsTarget storage a.target.variable a.target.index → IsMove (stored_in storage a reads f fs k)
+  stored_in_is Automatic a reads f fs k w q ws t = ((with_work f _ w refl (onward_is P w.code k q), ws), tt)
   stored_in_is Static a reads f fs k w q ws t = ((going_on_is f w k q, ws), t)
 
-  stored_is : (offset : ℕ) (e : Evaluation Assignment) (f : Frame) (fs : List Frame) (k : List Work) (w : IsFrame f) → IsRest w.code k → AreCallers fs →
+  stored_is : (offset : ℕ) (e : Evaluation Assignment) (f : Frame) (fs : List Frame) (k : List Work) (w : IsFrame f) → AreWork P w.code false k → AreCallers fs →
       Grants IsAssigned e → IsMove (stored offset e f fs k)
   stored_is offset e f fs k w q ws g =
       moving_is IsAssigned offset e (λ a reads. stored_in a.target.storage a reads f fs k) g
       (λ a reads t. stored_in_is a.target.storage a reads f fs k w q ws t)
 
-  resumed_function : (vs : List ℤ) (k : List Work) (f : Frame) → (resumed vs k f).function ≡ f.function
-  resumed_function vs (Work.Drop ∷ k) f = refl
-  resumed_function vs k f = refl
+  resumed_is : (v : Option ℤ) (f : Frame) → IsCaller f → IsFrame (resumed v f.work f)
+  resumed_is v f w = go f.work w.waits
+    where
+      go : (k : List Work) → IsWaiting P w.code k → IsFrame (resumed v k f)
+      go (Work.Take into ∷ k) q = record { code = w.code; found = w.found; ready = onward_is P w.code k q }
+      go [] q = absurd q
+      go (item ∷ k) q = absurd q
 
-  resumed_work : (vs : List ℤ) (k : List Work) (f : Frame) (code : Function) → AreWork P code k → AreWork P code (resumed vs k f).work
-  resumed_work vs (Work.Drop ∷ k) f code q = settled_is P code Onward k q.1
-  resumed_work vs k f code q = q
-
-  resumed_is : (vs : List ℤ) (f : Frame) → IsCaller f → IsFrame (resumed vs f.work f)
-  resumed_is vs f w = record {
-    code = w.code;
-    found = ap (λ (n : ℕ). slice_get P.functions n) (resumed_function vs f.work f) ∙ w.found;
-    work = resumed_work vs f.work f w.code w.work;
-    settled = resumed_settled vs f.work f w.waits;
-  }
-
-  returned_is : (offset : ℕ) (vs : List ℤ) (reads : List Location) (f : Frame) (fs : List Frame) → AreCallers fs → IsMove (returned P offset vs reads f fs)
-  returned_is offset vs reads f [] ws = tt
-  returned_is offset vs reads f (g ∷ gs) ws =
-      ((resumed_is (returned_value (return_type (slice_get P.functions f.function)) vs) g ws.0, ws.1), tt)
+  returned_is : (offset : ℕ) (v : Option ℤ) (reads : List Location) (f : Frame) (fs : List Frame) → AreCallers fs → IsMove (returned P offset v reads f fs)
+  returned_is offset v reads f [] ws = tt
+  returned_is offset v reads f (g ∷ gs) ws =
+      ((resumed_is (returned_value (return_type (slice_get P.functions f.function)) v) g ws.0, ws.1), tt)
 
   prepared_is : (offset : ℕ) (act : Act) (operands : Evaluation (List ℤ)) (f : Frame) (fs : List Frame) (k : List Work) (w : IsFrame f) →
-      IsAct P act → IsRest w.code k → AreCallers fs → IsMove (prepared offset act operands f fs k)
+      IsAct P act → AreWork P w.code false k → AreCallers fs → IsMove (prepared offset act operands f fs k)
   prepared_is offset act operands f fs k w is q ws =
       moving_all offset operands (λ vs reads. Move.Moves (record f { work = Work.Perform offset act ∷ k; kept = vs } ∷ fs) reads None)
-      (λ vs reads. ((with_work f _ w refl (is, q.work) (q.order, tt), ws), tt))
+      (λ vs reads. ((with_work f _ w refl ((is, q), tt), ws), tt))
 
-  store_is : (offset : ℕ) (place : Place) (m : Memory) (f : Frame) (fs : List Frame) (k : List Work) (kept : List ℤ) (w : IsFrame f) → IsPlace P w.code place →
-      IsRest w.code k → AreCallers fs → IsMove (store_move offset place m f fs k kept)
-  store_is offset place m f fs k [] w is q ws = tt
-  store_is offset place m f fs k (v ∷ vs) w is q ws = stored_is offset (delivery place v m) f fs k w q ws (delivery_is w.code place v m is)
+  -- an operand of a condition, and a switch
+  operand_is : (offset : ℕ) (e : Evaluation ℤ) (f : Frame) (fs : List Frame) (k : List Work) (w : IsFrame f) → AreWork P w.code true k → AreCallers fs →
+      IsMove (operand_move offset e f fs k)
+  operand_is offset e f fs k w q ws =
+      moving_all offset e
+      (λ v reads. Move.Moves (record f { locals = truth_in (noted (not (is_zero v)) k) f.locals; work = decided (not (is_zero v)) k; kept = [] } ∷ fs) reads None)
+      (λ v reads. ((with_work f _ w refl (decided_is P w.code (not (is_zero v)) k q), ws), tt))
 
-  hand_is : (offset : ℕ) (f : Frame) (fs : List Frame) (kept : List ℤ) → AreCallers fs → IsMove (hand_move P offset f fs kept)
-  hand_is offset f fs [] ws = tt
-  hand_is offset f fs (v ∷ vs) ws = returned_is offset (v ∷ []) [] f fs ws
+  switch_is : (offset : ℕ) (ty : IntegerType) (e : Evaluation ℤ) (body : Statement) (a : Around) (f : Frame) (fs : List Frame) (k : List Work) (w : IsFrame f) →
+      IsStatement P w.code a body → AreWork P w.code false k → AreCallers fs → IsMove (switch_move offset ty e body f fs k)
+  switch_is offset ty e body a f fs k w s q ws =
+      moving_all offset e (λ v reads. Move.Moves (record f { work = switched (wrapped ty v) body k; kept = [] } ∷ fs) reads None)
+      (λ v reads. ((with_work f _ w refl (switched_is P w.code (wrapped ty v) body a k s q), ws), tt))
 
 module _ (P : Program) (R : IsResolved P) where
   begun_is : (code : Function) (g : ℕ) (arguments : List ℤ) → slice_get P.functions g ≡ Some code → IsFrame P (begun code g arguments)
   begun_is code g arguments at =
       let is : IsFunction P code = all_at (IsFunction P) P.functions g code R.functions at in
-      record {
-        code = code;
-        found = at;
-        work = settled_is P code Onward (Work.Do code.body ∷ []) ((false, is.body), tt);
-        settled = onward_settled (Work.Do code.body ∷ []) tt;
-      }
+      record { code = code; found = at; ready = onward_is P code (Work.Do code.body ∷ []) (false, (nowhere, is.body), tt) }
 
   -- the calls of a thread that begins with a function of the program
   pub started_is : (code : Function) (g : ℕ) (arguments : List ℤ) → slice_get P.functions g ≡ Some code →
@@ -260,68 +244,57 @@ module _ (P : Program) (R : IsResolved P) where
   act_is f (ThreadCall.BarrierWait barrier) is = tt
 
   entered_is : (code : Function) (g : ℕ) (arguments : List ℤ) (reads : List Location) (f : Frame) (fs : List Frame) (k : List Work) (w : IsFrame P f) →
-      slice_get P.functions g ≡ Some code → AreWork P w.code k → IsWaiting k → AreCallers P fs →
+      slice_get P.functions g ≡ Some code → IsWaiting P w.code k → AreCallers P fs →
       IsMove P (entered (slice_get P.functions g) g arguments reads f fs k)
-  entered_is code g arguments reads f fs k w at q waits ws =
+  entered_is code g arguments reads f fs k w at waits ws =
       subst (λ (o : Option Function). IsMove P (entered o g arguments reads f fs k)) (sym at)
-      ((begun_is code g arguments at, (caller_is P f _ w refl q waits, ws)), tt)
+      ((begun_is code g arguments at, (caller_is P f _ w refl waits, ws)), tt)
 
-  called_is : (offset g : ℕ) (arguments : List Expression) (m : Memory) (f : Frame) (fs : List Frame) (k : List Work) (w : IsFrame P f) →
-      IsCall P w.code g arguments → AreWork P w.code k → IsWaiting k → AreCallers P fs → IsMove P (called P offset g arguments m f fs k)
-  called_is offset g arguments m f fs k w call q waits ws =
-      moving_all P offset (values arguments m) (λ vs reads. entered (slice_get P.functions g) g vs reads f fs k)
-      (λ vs reads. entered_is call.code g vs reads f fs k w call.found q waits ws)
+  called_is : (offset : ℕ) (into : Option ℕ) (g : ℕ) (arguments : List Expression) (m : Memory) (f : Frame) (fs : List Frame) (k : List Work) (w : IsFrame P f) →
+      IsCall P w.code g arguments → AreWork P w.code false k → AreCallers P fs → IsMove P (called P offset into g arguments m f fs k)
+  called_is offset into g arguments m f fs k w call q ws =
+      moving_all P offset (values arguments m) (λ vs reads. entered (slice_get P.functions g) g vs reads f fs (Work.Take into ∷ k))
+      (λ vs reads. entered_is call.code g vs reads f fs (Work.Take into ∷ k) w call.found q ws)
 
-  -- the call whose value a function returns
-  return_call : (f : Function) (returns : ReturnType) (g : ℕ) (arguments : List Expression) → IsReturn P f returns (Some (RightSide.Call g arguments)) →
-      IsCall P f g arguments
-  return_call f Void g arguments is = absurd is
-  return_call f (Integer ty) g arguments is = is.call
-  return_call f Pointer g arguments is = absurd is
-
-  statement_is : (m : Memory) (f : Frame) (fs : List Frame) (k : List Work) (s : Statement) (w : IsFrame P f) (b : Bool) → TakesStep s → IsStatement P w.code b s →
-      IsRest P w.code k → AreCallers P fs → IsMove P (statement_move P m f fs k s)
-  statement_is m f fs k (Statement.Declare offset x operators) w b takes s q ws =
-      ((with_work P f _ w refl (settled_is P w.code Onward k q.work) (onward_settled k q.order), ws), tt)
-  statement_is m f fs k (Statement.Assign offset place (RightSide.Value right)) w b takes s q ws =
+  statement_is : (m : Memory) (f : Frame) (fs : List Frame) (k : List Work) (s : Statement) (w : IsFrame P f) (a : Around) → TakesStep s → IsStatement P w.code a s →
+      AreWork P w.code false k → AreCallers P fs → IsMove P (statement_move P m f fs k s)
+  statement_is m f fs k (Statement.Declare offset x operators) w a takes s q ws = ((with_work P f _ w refl (onward_is P w.code k q), ws), tt)
+  statement_is m f fs k (Statement.Assign offset place right) w a takes s q ws =
       stored_is P offset (assignment place right m) f fs k w q ws (assignment_is P w.code place right m s.0)
-  statement_is m f fs k (Statement.Assign offset place (RightSide.Call g arguments)) w b takes s q ws =
-      called_is offset g arguments m f fs (Work.Store offset place ∷ k) w s.1.call (s.0, q.work) (q.order, tt) ws
-  statement_is m f fs k (Statement.Update offset place operator ty right) w b takes s q ws =
+  statement_is m f fs k (Statement.Update offset place operator ty right) w a takes s q ws =
       stored_is P offset (update place operator ty right m) f fs k w q ws (update_is P w.code place operator ty right m s.target)
-  statement_is m f fs k (Statement.Return offset None) w b takes s q ws = returned_is P offset [] [] f fs ws
-  statement_is m f fs k (Statement.Return offset (Some (RightSide.Value e))) w b takes s q ws =
-      moving_all P offset (value e m) (λ v reads. returned P offset (v ∷ []) reads f fs) (λ v reads. returned_is P offset (v ∷ []) reads f fs ws)
-  statement_is m f fs k (Statement.Return offset (Some (RightSide.Call g arguments))) w b takes s q ws =
-      called_is offset g arguments m f fs (Work.Hand offset ∷ k) w (return_call w.code w.code.returns g arguments s) (tt, q.work) (q.order, tt) ws
-  statement_is m f fs k (Statement.Call offset g arguments) w b takes s q ws =
-      called_is offset g arguments m f fs (Work.Drop ∷ k) w s (tt, q.work) q.order ws
-  statement_is m f fs k (Statement.Print offset format arguments) w b takes s q ws =
+  statement_is m f fs k (Statement.Call offset into g arguments) w a takes s q ws = called_is offset into g arguments m f fs k w s.call q ws
+  statement_is m f fs k (Statement.Keep offset slot ty operand) w a takes s q ws =
+      stored_is P offset (assignment (slot_place slot) (Expression.Cast ty operand) m) f fs k w q ws (keep_is P w.code slot (Expression.Cast ty operand) m)
+  statement_is m f fs k (Statement.Switch offset ty operand body) w a takes s q ws =
+      switch_is P offset ty (value operand m) body (in_switch ty a) f fs k w s.2 q ws
+  statement_is m f fs k (Statement.Return offset None) w a takes s q ws = returned_is P offset None [] f fs ws
+  statement_is m f fs k (Statement.Return offset (Some e)) w a takes s q ws =
+      moving_all P offset (value e m) (λ v reads. returned P offset (Some v) reads f fs) (λ v reads. returned_is P offset (Some v) reads f fs ws)
+  statement_is m f fs k (Statement.Print offset format arguments) w a takes s q ws =
       prepared_is P offset (Act.Print format) (values arguments m) f fs k w tt q ws
-  statement_is m f fs k (Statement.Thread offset call) w b takes s q ws =
+  statement_is m f fs k (Statement.Thread offset call) w a takes s q ws =
       prepared_is P offset (act_of call) (operands_of P call m) f fs k w (act_is w.code call s) q ws
-  statement_is m f fs k statement w b takes s q ws = absurd takes
+  statement_is m f fs k (Statement.Test offset operand) w a takes s q ws = absurd s
+  statement_is m f fs k statement w a takes s q ws = absurd takes
 
-  work_is : (m : Memory) (f : Frame) (fs : List Frame) (work : List Work) (w : IsFrame P f) → AreWork P w.code work → IsSettled work → AreCallers P fs →
-      IsMove P (work_move P m f fs work)
-  work_is m f fs [] w q r ws = returned_is P (end_offset (slice_get P.functions f.function)) [] [] f fs ws
-  work_is m f fs (Work.Do statement ∷ k) w q r ws = statement_is m f fs k statement w q.0.0 r.1 q.0.1 (record { work = q.1; order = r.0 }) ws
-  work_is m f fs (Work.Ask condition ∷ k) w q r ws =
-      moving_all P (first_offset condition) (value (first_operand condition) m)
-      (λ v reads. Move.Moves (record f { work = decided (not (is_zero v)) (waiting_parts condition k); kept = [] } ∷ fs) reads None)
-      (λ v reads. (
-        (
-          with_work P f _ w refl (decided_is P w.code (not (is_zero v)) (waiting_parts condition k) (waiting_is P w.code condition k q.0 q.1))
-              (decided_settled (not (is_zero v)) (waiting_parts condition k) (waiting_in_order condition k r.0)),
-          ws,
-        ),
-        tt,
-      ))
-  work_is m f fs (Work.Store offset place ∷ k) w q r ws = store_is P offset place m f fs k f.kept w q.0 (record { work = q.1; order = r.0 }) ws
-  work_is m f fs (Work.Hand offset ∷ k) w q r ws = hand_is P offset f fs f.kept ws
-  work_is m f fs (Work.Perform offset act ∷ k) w q r ws = ((going_on_is P f w k (record { work = q.1; order = r.0 }), ws), q.0)
-  work_is m f fs (item ∷ k) w q r ws = absurd r.1
+  -- a part of the function
+  part_is : (m : Memory) (f : Frame) (fs : List Frame) (k : List Work) (s : Statement) (w : IsFrame P f) (truth : Bool) → TakesStep s → IsPart P w.code truth s →
+      AreWork P w.code truth k → AreCallers P fs → IsMove P (statement_move P m f fs k s)
+  part_is m f fs k s w false takes part q ws = statement_is m f fs k s w part.0 takes part.1 q ws
+  part_is m f fs k (Statement.Test offset operand) w true takes part q ws = operand_is P offset (value operand m) f fs k w q ws
+  part_is m f fs k (Statement.Sequence first rest) w true takes part q ws = absurd takes
+  part_is m f fs k (Statement.Both first second) w true takes part q ws = absurd takes
+  part_is m f fs k (Statement.Either first second) w true takes part q ws = absurd takes
+  part_is m f fs k (Statement.Opposite inner) w true takes part q ws = absurd takes
+  part_is m f fs k statement w true takes part q ws = absurd part
+
+  work_is : (m : Memory) (f : Frame) (fs : List Frame) (work : List Work) (w : IsFrame P f) → IsReady P w.code work → AreCallers P fs → IsMove P (work_move P m f fs work)
+  work_is m f fs [] w q ws = returned_is P (end_offset (slice_get P.functions f.function)) None [] f fs ws
+  work_is m f fs (Work.Do statement ∷ k) w q ws = part_is m f fs k statement w q.0.0 q.1 q.0.1 q.0.2 ws
+  work_is m f fs (Work.Perform offset act ∷ k) w q ws = ((going_on_is P f w k q.0.1, ws), q.0.0)
+  work_is m f fs (item ∷ k) w q ws = absurd q.1
 
   pub move_is : (globals : List (List ℤ)) (frames : List Frame) → AreFrames P frames → IsMove P (move P globals frames)
   move_is globals [] ws = absurd ws
-  move_is globals (f ∷ fs) ws = work_is (record { locals = f.locals; globals = globals }) f fs f.work ws.0 ws.0.work ws.0.settled ws.1
+  move_is globals (f ∷ fs) ws = work_is (record { locals = f.locals; globals = globals }) f fs f.work ws.0 ws.0.ready ws.1
