@@ -1,2 +1,3 @@
 pub mod Outcomes
-pub mod SettledOrder
+pub mod OpenedParts
+pub mod Sizes

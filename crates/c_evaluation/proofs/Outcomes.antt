@@ -3,7 +3,7 @@ use Rattle.std.proofs.Common.{◌≡◌, List, [], ◌∷◌, ◌++◌, drop, su
 use Rattle.thread_semantics.specs.declared.cause.UndefinedCause.{UndefinedCause}
 use Rattle.c_program.specs.Tree.{Expression}
 use Rattle.thread_semantics.specs.Memory.{Location, Memory, Evaluation, Gives, Fails, after_reads, and_then}
-use Rattle.thread_semantics.specs.Value.{value, values}
+use Rattle.thread_semantics.specs.Value.{value, values, checked_index, row_number}
 use Rattle.c_evaluation.specs.Outcome.{outcome, after_values}
 
 outcome-after_reads : {A : Type 0} (reads : List Location) (a : Evaluation A) → outcome (after_reads reads a) ≡ outcome a
@@ -18,6 +18,15 @@ outcome_ok (Fails cause) f v e = cc
 pub outcome_err : {A B : Type 0} (a : Evaluation A) (f : A → Evaluation B) (cause : UndefinedCause) → outcome a ≡ Err cause → outcome (and_then a f) ≡ Err cause
 outcome_err (Gives x reads) f cause e = cc
 outcome_err (Fails other) f cause e = cc
+
+-- the number of an element, once both numbers are there and within their lengths
+pub row_ok : (outer inner : Expression) (n k : ℕ) (m : Memory) (a b : ℤ) (i j : ℕ) → outcome (value outer m) ≡ Ok a → outcome (checked_index n a) ≡ Ok i →
+    outcome (value inner m) ≡ Ok b → outcome (checked_index k b) ≡ Ok j → outcome (value (Expression.Row outer n inner k) m) ≡ outcome (row_number k i j)
+row_ok outer inner n k m a b i j first within second inside =
+    outcome_ok (value outer m) _ a first
+    ∙ outcome_ok (checked_index n a) _ i within
+    ∙ outcome_ok (value inner m) _ b second
+    ∙ outcome_ok (checked_index k b) (λ x. row_number k i x) j inside
 
 pub values_err : (e : Expression) (es : List Expression) (m : Memory) (cause : UndefinedCause) → outcome (value e m) ≡ Err cause → outcome (values (e ∷ es) m) ≡ Err cause
 values_err e es m cause h = outcome_err (value e m) _ cause h

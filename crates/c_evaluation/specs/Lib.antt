@@ -1,3 +1,3 @@
 pub mod Outcome
 pub mod View
-pub mod Size
+pub mod Opened

@@ -4,8 +4,9 @@ ghost use Rattle.hls_ints.specs.Residues.{bit_of};
 ghost use Rattle.hls_ints.specs.Operators.{equal_of};
 ghost use Rattle.hls_ints.specs.Types.{HasType, wrapped};
 ghost use Rattle.c_program.specs.Plain.{expression_of, expressions_of};
-ghost use Rattle.thread_semantics.specs.Value.{value, values, load, checked_index, unary_result, binary_result, right_operand, unary_value, binary_value};
-ghost use Rattle.c_evaluation.specs.Outcome.{outcome, memory_of, list_result};
+ghost use Rattle.thread_semantics.specs.Memory.{element};
+ghost use Rattle.thread_semantics.specs.Value.{value, values, load, checked_index, unary_result, binary_result, right_operand, unary_value, binary_value, kept_value, row_number};
+ghost use Rattle.c_evaluation.specs.Outcome.{outcome, rows_of, memory_of, list_result};
 
 use c_program::tree::{BinaryOperator, Expression, Storage, UnaryOperator};
 use hls_ints::{ArithmeticFault, CType, c_and, c_not, c_or, c_xor, operators, wrap};
@@ -135,6 +136,38 @@ pub fn loaded(
     }
 }
 
+/// The number of an element of an array of several dimensions, at unsigned long (C99 6.5.2.1): rows are of that length, and
+/// it is element j of row i.
+fn row_number(length: u64, i: u64, j: u64) -> Result<i128, UndefinedCause>
+    ensures { result ≡ outcome (row_number length i j) }
+{
+    let rows = binary(
+        BinaryOperator::Multiply,
+        CType::UNSIGNED_LONG,
+        i128::from(i),
+        i128::from(length),
+    )?;
+    binary(
+        BinaryOperator::Add,
+        CType::UNSIGNED_LONG,
+        rows,
+        i128::from(j),
+    )
+}
+
+/// A value that a local keeps as a long, in its own type; a call may have given none.
+fn kept(slot: u32, ty: CType, locals: &[Vec<Option<i128>>]) -> Result<i128, UndefinedCause>
+    ensures { result ≡ outcome (kept_value ty (element (rows_of locals.now) slot 0)) }
+{
+    match locals.get(slot as usize) {
+        None => Err(UndefinedCause::NoValue),
+        Some(row) => match row.first() {
+            Some(Some(v)) => Ok(wrap(ty, *v)),
+            _ => Err(UndefinedCause::NoValue),
+        },
+    }
+}
+
 /// The value of an expression, given the locals of the call at hand and the globals, or the first cause why it has
 /// none.
 pub fn evaluate(
@@ -167,6 +200,14 @@ pub fn evaluate(
             let a = evaluate(operand, locals, globals)?;
             Ok(wrap(*ty, a))
         }
+        Expression::Row(outer, outer_length, inner, inner_length) => {
+            let a = evaluate(outer, locals, globals)?;
+            let i = index_within(*outer_length, a)?;
+            let b = evaluate(inner, locals, globals)?;
+            let j = index_within(*inner_length, b)?;
+            row_number(*inner_length, i, j)
+        }
+        Expression::Kept(slot, ty) => kept(*slot, *ty, locals),
     }
 }
 

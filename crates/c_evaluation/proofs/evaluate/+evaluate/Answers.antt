@@ -1,9 +1,11 @@
-use Rattle.std.proofs.Common.{◌≡◌, ◌∙◌, sym, ap, Ok, Err}
+use Rattle.std.proofs.Common.{rules, ◌≡◌, ◌∙◌, sym, ap, FitsSigned, Ok, Err}
+use mir.Syntax.{w128}
+use Rattle.std.proofs.lemmas.Int.{to_z-of_z}
 use Rattle.std.proofs.lemmas.Result.{err_from_is_err_and}
 use Rattle.c_program.specs.Plain.{expression_of}
-use Rattle.thread_semantics.specs.Value.{value}
+use Rattle.thread_semantics.specs.Value.{value, checked_index}
 use Rattle.c_evaluation.specs.Outcome.{outcome, memory_of}
-use Rattle.c_evaluation.proofs.Outcomes.{outcome_ok, outcome_err}
+use Rattle.c_evaluation.proofs.Outcomes.{outcome_ok, outcome_err, row_ok}
 use Rattle.c_evaluation.proofs.evaluate.+evaluate.Goals as goal
 
 pub returns-in_err-i-in-Element : goal.returns-in_err-i-in-Element
@@ -54,3 +56,25 @@ returns-in_err-a-in-Cast t c =
     ap (λ e. outcome (value (expression_of e) m)) (sym c.deref-in-Cast.ensures) ∙ sym c.evaluate-in-Cast.ensures ∙ c.in_err-a-in-Cast.was
     in
     rw (c.in-Cast.is, p.1, p.2) (sym (outcome_err (value (expression_of c.in-Cast.operand.value) m) _ _ a))
+
+pub returns-in_ok-j-in-Row : goal.returns-in_ok-j-in-Row
+returns-in_ok-j-in-Row t c =
+    let m = memory_of c.args.locals.now c.args.globals.now in
+    let outer = expression_of c.in-Row.outer.value in
+    let inner = expression_of c.in-Row.inner.value in
+    let a : outcome (value outer m) ≡ Ok c.in_ok-a-in-Row.a =
+    ap (λ e. outcome (value (expression_of e) m)) (sym c.deref-in-Row.ensures) ∙ sym c.evaluate-in-Row.ensures ∙ c.in_ok-a-in-Row.was
+    in
+    let fits : FitsSigned w128 c.in_ok-a-in-Row.a = search rules in
+    let i : outcome (checked_index c.in-Row.outer_length c.in_ok-a-in-Row.a) ≡ Ok c.in_ok-i-in-Row.i =
+    sym (simp to_z-of_z at c.index_within-in-Row.ensures) ∙ c.in_ok-i-in-Row.was
+    in
+    let b : outcome (value inner m) ≡ Ok c.in_ok-b-in-Row.b =
+    ap (λ e. outcome (value (expression_of e) m)) (sym c.deref-in-Row-2.ensures) ∙ sym c.evaluate-in-Row-2.ensures ∙ c.in_ok-b-in-Row.was
+    in
+    let fits' : FitsSigned w128 c.in_ok-b-in-Row.b = search rules in
+    let j : outcome (checked_index c.in-Row.inner_length c.in_ok-b-in-Row.b) ≡ Ok c.in_ok-j-in-Row.j =
+    sym (simp to_z-of_z at c.index_within-in-Row-2.ensures) ∙ c.in_ok-j-in-Row.was
+    in
+    let whole = row_ok outer inner c.in-Row.outer_length c.in-Row.inner_length m c.in_ok-a-in-Row.a c.in_ok-b-in-Row.b c.in_ok-i-in-Row.i c.in_ok-j-in-Row.j a i b j in
+    rw c.in-Row.is (c.row_number.ensures ∙ sym whole)

@@ -1,10 +1,13 @@
-use Rattle.std.proofs.Common.{arith}
+use Rattle.std.proofs.Common.{◌∙◌, ap, sym}
 use Rattle.std.proofs.lemmas.Result.{IfOk-weaker}
-use Rattle.c_evaluation.specs.View.{loop_of, work_of}
-use Rattle.c_evaluation.proofs.SettledOrder.{settled_next}
+use Rattle.c_program.specs.Plain.{statement_of}
+use Rattle.c_evaluation.specs.View.{last_of, loop_of, work_of}
+use Rattle.c_evaluation.proofs.OpenedParts.{turn_opened}
 use Rattle.c_evaluation.proofs.work.turn.Goals as goal
 
-pub returns-in-Some-clause-same : goal.returns-in-Some-clause-same
-returns-in-Some-clause-same c =
-    let turned = settled_next (loop_of c.args.looping) (work_of c.args.work.now.items) in
-    IfOk-weaker c.put.result _ _ (λ _ e. grind (arith, e, turned)) c.put.ensures
+pub returns-in-Some : goal.returns-in-Some
+returns-in-Some c =
+    IfOk-weaker c.open_for.result _ _
+    (λ g h. turn_opened (loop_of c.args.looping) (statement_of c.deref-in-Some.result.now) (work_of c.args.work.now.items) _ g
+    (ap last_of c.in-Some.is ∙ ap statement_of (sym c.deref-in-Some.ensures)) h)
+    c.open_for.ensures
