@@ -4,7 +4,8 @@ use Rattle.std.specs.Prelude.{slice_get, slice_set}
 use Rattle.std.specs.declared.alloc.Global.{Global}
 use Rattle.c_evaluation.specs.Outcome.{rows_of}
 use Rattle.thread_semantics.specs.Memory.{with_element, with_row}
-use Rattle.thread_semantics.specs.Move.{without_values, blank_row}
+use Rattle.thread_semantics.specs.Move.{without_values, blank_row, keep_in}
+use Rattle.c_state.specs.Change.{kept_long}
 
 pub row_seen : {A : Type 0} (rows : List (Vec A Global)) (x : ℕ) (row : Vec A Global) → x < length rows → row ≡ get_or rows x row → slice_get (rows_of rows) x ≡ Some row.items
 row_seen [] x row h e = absurd (omega arith)
@@ -29,3 +30,7 @@ blank_at rows x row new h e is =
     rows_set rows x new
     ∙ ap (slice_set (rows_of rows) x) is
     ∙ sym (ap (λ o. slice_set (rows_of rows) x (blank_row o)) (row_seen rows x row h e))
+
+pub kept_is : (slot : ℕ) (v : Option ℤ) (rows : List (List (Option ℤ))) → keep_in (Some slot) v rows ≡ with_element rows slot 0 (kept_long v)
+kept_is slot None rows = refl
+kept_is slot (Some v) rows = refl

@@ -1,14 +1,14 @@
 // What a step changes in memory.
 ghost use Rattle.std.specs.Prelude.{◌≡◌, length, replicate, slice_set, None};
 ghost use Rattle.thread_semantics.specs.Memory.{with_element};
-ghost use Rattle.thread_semantics.specs.Move.{without_values};
+ghost use Rattle.thread_semantics.specs.Move.{without_values, keep_in};
 ghost use Rattle.thread_semantics.specs.Step.{written_to};
 ghost use Rattle.c_evaluation.specs.Outcome.{rows_of};
-ghost use Rattle.c_state.specs.Change.{changed_locals, change_write};
+ghost use Rattle.c_state.specs.Change.{kept_long, changed_locals, change_write};
 
 use crate::place::Assignment;
 use c_program::tree::Storage;
-use hls_ints::wrap;
+use hls_ints::{CType, wrap};
 
 /// What a step changes in memory.
 #[derive(Drop)]
@@ -18,6 +18,8 @@ pub enum Change {
     Stored(Assignment),
     /// No element of the local of that number is written any more.
     Blanked(u32),
+    /// A value is kept in the local of that number.
+    Kept(u32, i128),
 }
 
 /// Writes an element of a row, where there is one.
@@ -62,6 +64,26 @@ fn blank(rows: &mut Vec<Vec<Option<i128>>>, x: usize)
     }
 }
 
+/// A value of 64 bits or fewer, if there is one, in a local that is declared nowhere, as a long.
+fn kept_long(value: Option<i128>) -> Option<i128>
+    ensures { result ≡ kept_long value }
+{
+    match value {
+        None => None,
+        Some(v) => Some(wrap(CType::LONG, v)),
+    }
+}
+
+/// The value of a call, if it gives one, goes to the local that keeps it, if one does.
+#[tactic(auto, using(crate::proofs::Rows::kept_is))]
+pub fn keep(into: Option<u32>, value: Option<i128>, locals: &mut Vec<Vec<Option<i128>>>)
+    ensures { rows_of locals.new.items ≡ keep_in into value (rows_of locals.old.items) }
+{
+    if let Some(slot) = into {
+        put_local(locals, slot as usize, 0, kept_long(value));
+    }
+}
+
 /// Carries out a change.
 pub fn carry_out(change: &Change, locals: &mut Vec<Vec<Option<i128>>>, globals: &mut Vec<Vec<i128>>)
     ensures locals { rows_of locals.new.items ≡ changed_locals change.now (rows_of locals.old.items) }
@@ -79,5 +101,6 @@ pub fn carry_out(change: &Change, locals: &mut Vec<Vec<Option<i128>>>, globals: 
             }
         }
         Change::Blanked(x) => blank(locals, *x as usize),
+        Change::Kept(slot, v) => keep(Some(*slot), Some(*v), locals),
     }
 }

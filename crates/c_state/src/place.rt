@@ -1,12 +1,13 @@
 // Where values are stored, and the operands of acts.
 ghost use Rattle.std.specs.Prelude.{◌≡◌, ◌<◌, ◌^◌, ◌≤◌, ◌*◌, pos, length, take, sum_by, IfOk};
+ghost use Rattle.c_program.specs.Tree.{Expression as Expressions};
 ghost use Rattle.c_program.specs.Plain.{expression_of, place_of, object_place_of, thread_call_of, program_of};
 ghost use Rattle.c_program.specs.declared.tree.ThreadObject.{ThreadObject as ThreadObjects};
 ghost use Rattle.c_program.specs.declared.tree.MutexObject.{MutexObject as MutexObjects};
 ghost use Rattle.c_program.specs.declared.tree.BarrierObject.{BarrierObject as BarrierObjects};
 ghost use Rattle.thread_semantics.specs.Memory.{Gives, and_then};
 ghost use Rattle.thread_semantics.specs.Value.{value, load, binary_value};
-ghost use Rattle.thread_semantics.specs.Move.{target_of, assignment, update, delivery, object_number, alone, with_operand, operands_of};
+ghost use Rattle.thread_semantics.specs.Move.{target_of, assignment, update, slot_place, object_number, alone, with_operand, operands_of};
 ghost use Rattle.c_evaluation.specs.Outcome.{outcome, memory_of, list_result};
 ghost use Rattle.c_state.specs.Change.{ok_of, target_view, assignment_view};
 ghost use Rattle.c_state.specs.Kind.{first_of, updated};
@@ -16,7 +17,7 @@ use c_program::tree::{
     BarrierObject, BinaryOperator, Expression, MutexObject, ObjectPlace, Place, Program, Storage,
     ThreadCall, ThreadObject,
 };
-use hls_ints::CType;
+use hls_ints::{CType, wrap};
 use std::alloc::{AllocError, Global};
 use thread_semantics::UndefinedCause;
 
@@ -66,19 +67,6 @@ pub fn located(
     }
 }
 
-/// A value that is there already: the index alone is evaluated.
-pub fn delivery(
-    place: &Place,
-    value: i128,
-    locals: &[Vec<Option<i128>>],
-    globals: &[Vec<i128>],
-) -> Result<Assignment, UndefinedCause>
-    ensures { ok_of assignment_view result ≡ outcome (delivery (place_of place.now) value (memory_of locals.now globals.now)) }
-{
-    let target = located(place, locals, globals)?;
-    Ok(Assignment { target, value })
-}
-
 /// The right side, then the index.
 pub fn assigned(
     place: &Place,
@@ -88,8 +76,32 @@ pub fn assigned(
 ) -> Result<Assignment, UndefinedCause>
     ensures { ok_of assignment_view result ≡ outcome (assignment (place_of place.now) (expression_of right.now) (memory_of locals.now globals.now)) }
 {
-    let v = evaluate(right, locals, globals)?;
-    delivery(place, v, locals, globals)
+    let value = evaluate(right, locals, globals)?;
+    let target = located(place, locals, globals)?;
+    Ok(Assignment { target, value })
+}
+
+/// The chosen operand of `?:`, converted to a type, and the local that keeps it as a long (C99 6.5.15).
+pub fn kept(
+    slot: u32,
+    ty: CType,
+    operand: &Expression,
+    locals: &[Vec<Option<i128>>],
+    globals: &[Vec<i128>],
+) -> Result<Assignment, UndefinedCause>
+    ensures { ok_of assignment_view result ≡ outcome (assignment (slot_place slot) (Expressions.Cast ty (expression_of operand.now)) (memory_of locals.now globals.now)) }
+{
+    let v = evaluate(operand, locals, globals)?;
+    let target = Target {
+        storage: Storage::Automatic,
+        variable: slot,
+        index: 0,
+        ty: CType::LONG,
+    };
+    Ok(Assignment {
+        target,
+        value: wrap(ty, v),
+    })
 }
 
 /// The old value of a target, then the operator.
