@@ -1,12 +1,10 @@
 -- What the code's plan of a step stands for.
 use Rattle.std.specs.Prelude.{ℕ, List, [], ◌∷◌, ℤ, Option, None}
-use Rattle.std.specs.Option.{option_to_list}
-use Rattle.c_program.specs.Tree.{Place, Condition, RightSide, Statement, Program}
+use Rattle.c_program.specs.Tree.{Expression, Statement, Program}
 use Rattle.thread_semantics.specs.Memory.{Memory}
-use Rattle.thread_semantics.specs.Value.{value}
-use Rattle.thread_semantics.specs.Work.{Work, first_operand, first_offset, waiting_parts}
+use Rattle.thread_semantics.specs.Work.{Work}
 use Rattle.thread_semantics.specs.State.{Frame}
-use Rattle.thread_semantics.specs.Move.{Move, Moves, Acts, Ends, Faults, Impossible, returned, statement_move, operand_move}
+use Rattle.thread_semantics.specs.Move.{Move, Moves, Acts, Ends, Faults, Impossible, returned, statement_move}
 use Rattle.c_evaluation.specs.View.{act_of, work_of}
 use Rattle.c_state.specs.declared.memory.Change.{Change}
 use Rattle.c_step_parts.specs.declared.plan.Plan.{Plan as PlanCode}
@@ -16,6 +14,10 @@ use Rattle.c_state.specs.View.{frame_of}
 
 abbrev pub Integers : Type 0
 Integers = List ℤ
+
+-- the locals of a call
+abbrev pub Locals : Type 0
+Locals = List (List (Option ℤ))
 
 -- the outer calls of a thread
 abbrev pub Callers : Type 0
@@ -43,18 +45,11 @@ waiting work f = record f { work = work; kept = [] }
 abbrev pub plan_of : Program → PlanCode → Frame → List Frame → Move
 plan_of P (plan.Onward work kept change) f fs = going change (work_of work.items) kept.items f fs
 plan_of P (plan.Enter work callee) f fs = Moves (frame_of callee ∷ waiting (work_of work.items) f ∷ fs) [] None
-plan_of P (plan.Return offset value) f fs = erased (returned P offset (option_to_list value) [] f fs)
+plan_of P (plan.Return offset value) f fs = erased (returned P offset value [] f fs)
 plan_of P (plan.Perform offset act work) f fs = Acts offset (act_of act) f.kept (waiting (work_of work.items) f ∷ fs)
 plan_of P (plan.Fault offset cause) f fs = Faults offset cause
 plan_of P plan.Impossible f fs = Impossible
 
--- the moves of some statements, by what they need of them
-abbrev pub assign_move : Program → ℕ → Place → RightSide → Memory → Frame → List Frame → List Work → Move
-assign_move P offset place right m f fs k = statement_move P m f fs k (Statement.Assign offset place right)
-
-abbrev pub return_move : Program → ℕ → Option RightSide → Memory → Frame → List Frame → List Work → Move
+-- the move of a return, by what it needs of it
+abbrev pub return_move : Program → ℕ → Option Expression → Memory → Frame → List Frame → List Work → Move
 return_move P offset right m f fs k = statement_move P m f fs k (Statement.Return offset right)
-
-abbrev pub ask_move : Condition → Memory → Frame → List Frame → List Work → Move
-ask_move condition m f fs k =
-    operand_move (first_offset condition) (value (first_operand condition) m) f fs (waiting_parts condition k)

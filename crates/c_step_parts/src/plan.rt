@@ -1,25 +1,27 @@
 // The thread's own part of its next step, given its innermost call and the globals.
-ghost use Rattle.std.specs.Prelude.{◌≡◌, IfOk, [], ◌∷◌, drop, slice_get};
+ghost use Rattle.std.specs.Prelude.{◌≡◌, IfOk, [], ◌∷◌, drop, None, slice_get};
 ghost use Rattle.c_program.specs.Tree.{Program as Programs};
-ghost use Rattle.c_program.specs.Plain.{expressions_of, condition_of, place_of, right_side_of, returned_of, thread_call_of, statement_of, program_of};
+ghost use Rattle.c_program.specs.Plain.{expression_of, expressions_of, returned_of, thread_call_of, statement_of, boxed_statement_of, program_of};
 ghost use Rattle.thread_semantics.specs.Memory.{Evaluation};
-ghost use Rattle.thread_semantics.specs.Work.{settled, Onward};
-ghost use Rattle.thread_semantics.specs.Move.{Assignment as Assignments, stored, called, prepared, statement_move};
-ghost use Rattle.thread_semantics.specs.Move.{store_move, hand_move, work_move, end_offset, going_on, act_of as act_of_call, Acts};
+ghost use Rattle.thread_semantics.specs.Value.{value};
+ghost use Rattle.thread_semantics.specs.Work.{settled, Onward, noted};
+ghost use Rattle.thread_semantics.specs.Move.{Assignment as Assignments, stored, called, prepared, truth_in, operand_move, switch_move, statement_move};
+ghost use Rattle.thread_semantics.specs.Move.{work_move, end_offset, going_on, act_of as act_of_call, Acts};
 ghost use Rattle.c_evaluation.specs.Outcome.{outcome, list_result};
 ghost use Rattle.c_evaluation.specs.View.{item_of, act_of, work_of};
 ghost use Rattle.c_state.specs.View.{frame_of, state_of, memory_in, later_work};
-ghost use Rattle.c_state.specs.Change.{ok_of, assignment_view};
+ghost use Rattle.c_state.specs.Change.{ok_of, assignment_view, changed_locals, change_write};
 ghost use Rattle.c_step_parts.specs.Planned.{IsPlanned};
-ghost use Rattle.c_step_parts.specs.Plan.{Integers, Callers, erased, going, plan_of, assign_move, return_move, ask_move};
+ghost use Rattle.c_step_parts.specs.Plan.{Integers, Locals, Callers, erased, going, plan_of, return_move};
 
 use c_evaluation::evaluate::{evaluate, evaluate_all};
-use c_evaluation::work::{Act, Item, decide, first_operand, put, settle};
-use c_program::tree::{Condition, Expression, Place, Program, RightSide, Statement, ThreadCall};
+use c_evaluation::work::{Act, Item, decide, noted, put, settle, switch};
+use c_program::tree::{Expression, Program, Statement, ThreadCall};
 use c_state::memory::Change;
-use c_state::place::{Assignment, assigned, delivery, operands, update};
+use c_state::place::{Assignment, assigned, kept, operands, update};
 use c_state::state::{Frame, State, begin};
 use c_state::threads::{innermost, running, waits};
+use hls_ints::{CType, wrap};
 use std::alloc::{AllocError, Global};
 use std::collections::VecDeque;
 use thread_semantics::{BlockedCause, UndefinedCause};
@@ -75,20 +77,20 @@ fn store<'p>(
     }
 }
 
-/// A function is called; its value goes to what waits for it.
+/// A function is called; its value, if it is used, goes to the local that keeps it.
 fn call<'p>(
     alloc: Global,
     program: &'p Program,
     frame: &Frame<'p>,
     globals: &[Vec<i128>],
     offset: u32,
+    into: Option<u32>,
     function: u32,
     arguments: &[Expression],
-    waiting: Item<'p>,
 ) -> Result<Plan<'p>, AllocError>
     ensures { IfOk result (λ m. (fs : Callers) → plan_of (program_of program.now) m (frame_of frame.now) fs
-        ≡ erased (called (program_of program.now) offset function (expressions_of arguments.now)
-        (memory_in frame.now globals.now) (frame_of frame.now) fs (item_of waiting.entry ∷ drop 1 (work_of frame.now.work.items)))) }
+        ≡ erased (called (program_of program.now) offset into function (expressions_of arguments.now)
+        (memory_in frame.now globals.now) (frame_of frame.now) fs (later_work frame.now))) }
 {
     match evaluate_all(alloc, arguments, &frame.locals, globals)? {
         Err(cause) => Ok(Plan::Fault(offset, cause)),
@@ -98,7 +100,7 @@ fn call<'p>(
             };
             let callee = begin(alloc, code, function, &values)?;
             let mut work = rest_of(&frame.work)?;
-            put(&mut work, waiting)?;
+            put(&mut work, Item::Take(into))?;
             Ok(Plan::Enter(work, callee))
         }
     }
@@ -141,74 +143,83 @@ fn act_of_call<'p>(call: &'p ThreadCall) -> Act<'p>
     }
 }
 
-/// An assignment, or the call of a function whose value is assigned.
-fn assign<'p>(
-    alloc: Global,
-    program: &'p Program,
-    frame: &Frame<'p>,
-    globals: &[Vec<i128>],
-    offset: u32,
-    place: &'p Place,
-    right: &'p RightSide,
-) -> Result<Plan<'p>, AllocError>
-    ensures { IfOk result (λ m. (fs : Callers) → plan_of (program_of program.now) m (frame_of frame.now) fs
-        ≡ erased (assign_move (program_of program.now) offset (place_of place.now) (right_side_of right.now)
-        (memory_in frame.now globals.now) (frame_of frame.now) fs (later_work frame.now))) }
-{
-    match right {
-        RightSide::Value(right) => {
-            let assignment = assigned(place, right, &frame.locals, globals);
-            store(alloc, frame, offset, assignment)
-        }
-        RightSide::Call(function, arguments) => {
-            call(
-                alloc,
-                program,
-                frame,
-                globals,
-                offset,
-                *function,
-                arguments,
-                Item::Store(offset, place),
-            )
-        }
-    }
-}
-
-/// A return, or the call of a function whose value is returned.
+/// A return.
 fn return_plan<'p>(
-    alloc: Global,
-    program: &'p Program,
     frame: &Frame<'p>,
     globals: &[Vec<i128>],
     offset: u32,
-    right: &'p Option<RightSide>,
-) -> Result<Plan<'p>, AllocError>
-    ensures { IfOk result (λ m. (fs : Callers) → plan_of (program_of program.now) m (frame_of frame.now) fs
-        ≡ erased (return_move (program_of program.now) offset (returned_of right.now) (memory_in frame.now globals.now) (frame_of frame.now) fs (later_work frame.now))) }
+    right: &Option<Box<Expression>>,
+) -> Plan<'p>
+    ensures { (P : Programs) (fs : Callers) → plan_of P result (frame_of frame.now) fs
+        ≡ erased (return_move P offset (returned_of right.now) (memory_in frame.now globals.now) (frame_of frame.now) fs (later_work frame.now)) }
 {
     match right {
-        None => Ok(Plan::Return(offset, None)),
-        Some(RightSide::Value(expression)) => match evaluate(expression, &frame.locals, globals) {
-            Err(cause) => Ok(Plan::Fault(offset, cause)),
-            Ok(v) => Ok(Plan::Return(offset, Some(v))),
+        None => Plan::Return(offset, None),
+        Some(value) => match evaluate(value, &frame.locals, globals) {
+            Err(cause) => Plan::Fault(offset, cause),
+            Ok(v) => Plan::Return(offset, Some(v)),
         },
-        Some(RightSide::Call(function, arguments)) => {
-            call(
-                alloc,
-                program,
-                frame,
-                globals,
-                offset,
-                *function,
-                arguments,
-                Item::Hand(offset),
-            )
+    }
+}
+
+/// What the truth of an operand changes: that of a `&&` or `||` that is a value is kept.
+fn noted_change(work: &VecDeque<Item>, truth: bool) -> Change
+    ensures locals { (rows : Locals) → changed_locals result rows ≡ truth_in (noted truth (work_of work.now.items)) rows }
+    ensures write { change_write result ≡ None }
+{
+    match noted(work, truth) {
+        None => Change::Nothing,
+        Some((slot, kept)) => Change::Kept(slot, kept as i128),
+    }
+}
+
+/// An operand of a condition is evaluated, and its truth goes to what waits for it.
+fn test_plan<'p>(
+    alloc: Global,
+    frame: &Frame<'p>,
+    globals: &[Vec<i128>],
+    offset: u32,
+    operand: &Expression,
+) -> Result<Plan<'p>, AllocError>
+    ensures { IfOk result (λ m. (P : Programs) (fs : Callers) → plan_of P m (frame_of frame.now) fs
+        ≡ erased (operand_move offset (value (expression_of operand.now) (memory_in frame.now globals.now)) (frame_of frame.now) fs (later_work frame.now))) }
+{
+    match evaluate(operand, &frame.locals, globals) {
+        Err(cause) => Ok(Plan::Fault(offset, cause)),
+        Ok(v) => {
+            let mut work = rest_of(&frame.work)?;
+            let change = noted_change(&work, v != 0);
+            decide(&mut work, v != 0)?;
+            Ok(Plan::Onward(work, Vec::new(alloc), change))
         }
     }
 }
 
-/// A statement or declarator takes its step.
+/// A switch goes to its label.
+fn switch_plan<'p>(
+    alloc: Global,
+    frame: &Frame<'p>,
+    globals: &[Vec<i128>],
+    offset: u32,
+    ty: CType,
+    operand: &Expression,
+    body: &'p Box<Statement>,
+) -> Result<Plan<'p>, AllocError>
+    ensures { IfOk result (λ m. (P : Programs) (fs : Callers) → plan_of P m (frame_of frame.now) fs
+        ≡ erased (switch_move offset ty (value (expression_of operand.now) (memory_in frame.now globals.now)) (boxed_statement_of body.now)
+        (frame_of frame.now) fs (later_work frame.now))) }
+{
+    match evaluate(operand, &frame.locals, globals) {
+        Err(cause) => Ok(Plan::Fault(offset, cause)),
+        Ok(v) => {
+            let mut work = rest_of(&frame.work)?;
+            switch(wrap(ty, v), body, &mut work)?;
+            Ok(Plan::Onward(work, Vec::new(alloc), Change::Nothing))
+        }
+    }
+}
+
+/// A statement or declarator, a cut or an operand takes its step.
 fn statement_plan<'p>(
     alloc: Global,
     program: &'p Program,
@@ -223,27 +234,27 @@ fn statement_plan<'p>(
     match statement {
         Statement::Declare(_, x, _) => go_on(alloc, frame, Change::Blanked(*x)),
         Statement::Assign(offset, place, right) => {
-            assign(alloc, program, frame, globals, *offset, place, right)
+            let assignment = assigned(place, right, &frame.locals, globals);
+            store(alloc, frame, *offset, assignment)
         }
         Statement::Update(offset, place, operator, ty, right) => {
             let assignment = update(place, *operator, *ty, right, &frame.locals, globals);
             store(alloc, frame, *offset, assignment)
         }
-        Statement::Return(offset, right) => {
-            return_plan(alloc, program, frame, globals, *offset, right)
-        }
-        Statement::Call(offset, function, arguments) => {
+        Statement::Call(offset, into, function, arguments) => {
             call(
-                alloc,
-                program,
-                frame,
-                globals,
-                *offset,
-                *function,
-                arguments,
-                Item::Discard,
+                alloc, program, frame, globals, *offset, *into, *function, arguments,
             )
         }
+        Statement::Keep(offset, slot, ty, operand) => {
+            let assignment = kept(*slot, *ty, operand, &frame.locals, globals);
+            store(alloc, frame, *offset, assignment)
+        }
+        Statement::Test(offset, operand) => test_plan(alloc, frame, globals, *offset, operand),
+        Statement::Switch(offset, ty, operand, body) => {
+            switch_plan(alloc, frame, globals, *offset, *ty, operand, body)
+        }
+        Statement::Return(offset, right) => Ok(return_plan(frame, globals, *offset, right)),
         Statement::Print(offset, format, arguments) => {
             let operands = evaluate_all(alloc, arguments, &frame.locals, globals)?;
             prepare(frame, *offset, Act::Print(format), operands)
@@ -253,57 +264,6 @@ fn statement_plan<'p>(
             prepare(frame, *offset, act_of_call(call), operands)
         }
         _ => Ok(Plan::Impossible),
-    }
-}
-
-/// The value of a call that has returned is stored.
-fn store_plan<'p>(
-    alloc: Global,
-    frame: &Frame<'p>,
-    globals: &[Vec<i128>],
-    offset: u32,
-    place: &Place,
-) -> Result<Plan<'p>, AllocError>
-    ensures { IfOk result (λ m. (P : Programs) (fs : Callers) → plan_of P m (frame_of frame.now) fs
-        ≡ erased (store_move offset (place_of place.now) (memory_in frame.now globals.now) (frame_of frame.now) fs (later_work frame.now) frame.now.kept.items)) }
-{
-    match frame.kept.first() {
-        None => Ok(Plan::Fault(offset, UndefinedCause::NoValue)),
-        Some(v) => {
-            let assignment = delivery(place, *v, &frame.locals, globals);
-            store(alloc, frame, offset, assignment)
-        }
-    }
-}
-
-/// The value of a call that has returned is returned.
-fn hand_plan<'p>(frame: &Frame<'p>, offset: u32) -> Plan<'p>
-    ensures { (P : Programs) (fs : Callers) → plan_of P result (frame_of frame.now) fs ≡ erased (hand_move P offset (frame_of frame.now) fs frame.now.kept.items) }
-{
-    match frame.kept.first() {
-        None => Plan::Fault(offset, UndefinedCause::NoValue),
-        Some(v) => Plan::Return(offset, Some(*v)),
-    }
-}
-
-/// The first operand of a condition is evaluated, and its truth goes to what waits for it.
-fn ask_plan<'p>(
-    alloc: Global,
-    frame: &Frame<'p>,
-    globals: &[Vec<i128>],
-    condition: &'p Condition,
-) -> Result<Plan<'p>, AllocError>
-    ensures { IfOk result (λ m. (P : Programs) (fs : Callers) → plan_of P m (frame_of frame.now) fs
-        ≡ erased (ask_move (condition_of condition.now) (memory_in frame.now globals.now) (frame_of frame.now) fs (later_work frame.now))) }
-{
-    let mut work = rest_of(&frame.work)?;
-    let (offset, operand) = first_operand(condition, &mut work)?;
-    match evaluate(operand, &frame.locals, globals) {
-        Err(cause) => Ok(Plan::Fault(offset, cause)),
-        Ok(v) => {
-            decide(&mut work, v != 0)?;
-            Ok(Plan::Onward(work, Vec::new(alloc), Change::Nothing))
-        }
     }
 }
 
@@ -340,9 +300,6 @@ fn item_plan<'p>(
 {
     match item {
         Item::Do(statement) => statement_plan(alloc, program, frame, globals, statement),
-        Item::Ask(condition) => ask_plan(alloc, frame, globals, condition),
-        Item::Store(offset, place) => store_plan(alloc, frame, globals, offset, place),
-        Item::Hand(offset) => Ok(hand_plan(frame, offset)),
         Item::Perform(offset, act) => act_plan(frame, offset, act),
         _ => Ok(Plan::Impossible),
     }

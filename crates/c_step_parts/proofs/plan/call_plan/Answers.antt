@@ -1,4 +1,4 @@
-use Rattle.std.proofs.Common.{◌≡◌, List, [], ◌∷◌, ◌∙◌, refl, sym, ap, drop, get_or, length, rules, arith}
+use Rattle.std.proofs.Common.{◌≡◌, List, [], ◌∷◌, ◌∙◌, refl, sym, ap, drop, get_or, length, rules, arith, None}
 use Rattle.std.proofs.lemmas.Grind.{common_steps}
 use Rattle.std.proofs.lemmas.Result.{IfOk-weaker}
 use Rattle.c_program.specs.Plain.{program_of}
@@ -34,4 +34,4 @@ returns-in-None c fs =
     let m = memory_in c.args.frame.now c.args.globals.now in
     let f = frame_of c.args.frame.now in
     let none : length c.args.frame.now.work.items ≡ 0 = grind (arith, common_steps) in
-    ap (λ n. erased (returned P n [] [] f fs)) c.end_of.ensures ∙ ap (λ items. erased (work_move P m f fs (work_of items))) (sym (none_is c.args.frame.now.work.items none))
+    ap (λ n. erased (returned P n None [] f fs)) c.end_of.ensures ∙ ap (λ items. erased (work_move P m f fs (work_of items))) (sym (none_is c.args.frame.now.work.items none))
