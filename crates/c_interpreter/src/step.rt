@@ -1,6 +1,5 @@
 // The next step of a thread.
 ghost use Rattle.std.specs.Prelude.{◌≡◌, Some, [], ◌∷◌, map, slice_get, slice_set, IfOk, OnErr};
-ghost use Rattle.std.specs.Option.{option_to_list};
 ghost use Rattle.c_program.specs.Plain.{program_of};
 ghost use Rattle.thread_semantics.specs.State.{Frame as Frames, Running};
 ghost use Rattle.thread_semantics.specs.Move.{returned_value, return_type, resumed, returned};
@@ -11,15 +10,15 @@ ghost use Rattle.c_state.specs.View.{frame_of, slot_of, barrier_of, state_of};
 ghost use Rattle.c_state.specs.Change.{change_write};
 ghost use Rattle.c_step_parts.specs.Plan.{Callers, gone_on, waiting, plan_of, erased};
 ghost use Rattle.c_step_parts.specs.Effect.{effect_of};
-ghost use Rattle.c_interpreter.specs.Stepping.{stepped_of, rest_frame, IsKept, StaysUnlessStepped, is_dropping, Resumes, with_frames};
+ghost use Rattle.c_interpreter.specs.Stepping.{stepped_of, rest_frame, IsKept, StaysUnlessStepped, taken_into, after_taking, Resumes, with_frames};
 
 use c_evaluation::work::{Act, Item, settle};
 use c_program::tree::{Program, ReturnType};
-use c_state::memory::{Change, carry_out};
+use c_state::memory::{Change, carry_out, keep};
 use c_state::state::{Barrier, Frame, Slot, State};
 use c_state::threads::{all_joined, first_caller, innermost, running};
 use c_step_parts::act::{Effect, effect_of_act};
-use c_step_parts::plan::{Plan, next_plan, rest_of};
+use c_step_parts::plan::{Plan, next_plan};
 use hls_ints::wrap;
 use std::alloc::{AllocError, Global};
 use std::collections::VecDeque;
@@ -34,11 +33,13 @@ pub enum Stepped {
     Undefined { offset: u32, cause: UndefinedCause },
 }
 
-/// What a call has still to do and the values that it keeps.
+/// What a call has still to do, and what becomes of the value of the one that it waited for: the local that keeps it, if one
+/// does, and the value, if there is one.
 #[derive(Drop)]
 struct Rest<'p> {
     work: VecDeque<Item<'p>>,
-    kept: Vec<i128>,
+    into: Option<u32>,
+    value: Option<i128>,
 }
 
 /// The innermost call of a running thread goes on with this work and these values, after a change of memory.
@@ -90,8 +91,9 @@ fn slot_leaves<'p>(slot: &mut Slot<'p>, rest: Rest<'p>)
     if let Slot::Running(frames) = slot {
         frames.pop_front();
         if let Some(caller) = frames.front_mut() {
+            keep(rest.into, rest.value, &mut caller.locals);
             caller.work = rest.work;
-            caller.kept = rest.kept;
+            caller.kept.clear();
         }
     }
 }
@@ -171,7 +173,7 @@ fn leaves<'p>(s: &mut State<'p>, i: u32, rest: Rest<'p>)
 
 /// A value that is converted to what the function of that number returns, if that is an integer.
 fn converted(program: &Program, function: u32, value: Option<i128>) -> Option<i128>
-    ensures { option_to_list result ≡ returned_value (return_type (slice_get (program_of program.now).functions function)) (option_to_list value) }
+    ensures { result ≡ returned_value (return_type (slice_get (program_of program.now).functions function)) value }
 {
     match program.functions.get(function as usize) {
         Some(code) => match code.returns {
@@ -185,47 +187,43 @@ fn converted(program: &Program, function: u32, value: Option<i128>) -> Option<i1
     }
 }
 
-/// Whether what waits for the value of a call drops it.
-fn is_dropping(work: &VecDeque<Item>) -> bool
-    ensures { result ≡ is_dropping (work_of work.now.items) }
+/// Takes off what waits for the value of a call; answers the local that keeps it, if one does.
+fn taken(work: &mut VecDeque<Item>) -> Option<u32>
+    ensures into { result ≡ taken_into (work_of work.old.items) }
+    ensures rest { work_of work.new.items ≡ after_taking (work_of work.old.items) }
 {
     match work.front() {
-        None => false,
-        Some(item) => matches!(item, Item::Discard),
+        None => None,
+        Some(item) => match *item {
+            Item::Take(into) => {
+                work.pop_front();
+                into
+            }
+            _ => None,
+        },
     }
 }
 
-/// How a caller goes on with the value of a call, which it drops or keeps.
-fn resumed<'p>(
-    alloc: Global,
-    caller: &Frame<'p>,
-    value: Option<i128>,
-) -> Result<Rest<'p>, AllocError>
-    ensures { IfOk result (λ rest. rest_frame rest (frame_of caller.now) ≡ resumed (option_to_list value) (work_of caller.now.work.items) (frame_of caller.now)) }
+/// How a caller goes on with the value of a call.
+#[tactic(auto, using(crate::proofs::Steps::resumed_is))]
+fn resumed<'p>(caller: &Frame<'p>, value: Option<i128>) -> Result<Rest<'p>, AllocError>
+    ensures { IfOk result (λ rest. rest_frame rest (frame_of caller.now) ≡ resumed value (work_of caller.now.work.items) (frame_of caller.now)) }
 {
-    let mut kept = Vec::new(alloc);
-    if is_dropping(&caller.work) {
-        let mut work = rest_of(&caller.work)?;
-        settle(&mut work)?;
-        return Ok(Rest { work, kept });
-    }
-    if let Some(v) = value {
-        kept.push(v)?;
-    }
-    let work = caller.work.clone()?;
-    Ok(Rest { work, kept })
+    let mut work = caller.work.clone()?;
+    let into = taken(&mut work);
+    settle(&mut work)?;
+    Ok(Rest { work, into, value })
 }
 
 /// How the caller of the innermost call of thread i goes on with that call's value; none where it has no caller.
 fn resumption<'p>(
-    alloc: Global,
     program: &Program,
     slots: &[Slot<'p>],
     i: u32,
     value: Option<i128>,
 ) -> Result<Option<Rest<'p>>, AllocError>
     ensures { IfOk result (λ r. (f : Frames) (fs : Callers) → slice_get (map slot_of slots.now) i ≡ Some (Running (f ∷ fs))
-        → Resumes (program_of program.now) (option_to_list value) f fs r) }
+        → Resumes (program_of program.now) value f fs r) }
 {
     let Some(frames) = running(slots, i as u128) else {
         return Ok(None);
@@ -237,7 +235,7 @@ fn resumption<'p>(
         return Ok(None);
     };
     let value = converted(program, callee.function, value);
-    let rest = resumed(alloc, caller, value)?;
+    let rest = resumed(caller, value)?;
     Ok(Some(rest))
 }
 
@@ -263,7 +261,6 @@ fn end_thread(s: &mut State, i: u32, offset: u32) -> Stepped
 
 /// The innermost call of thread i returns.
 fn returns<'p>(
-    alloc: Global,
     program: &'p Program,
     s: &mut State<'p>,
     i: u32,
@@ -272,10 +269,10 @@ fn returns<'p>(
 ) -> Result<Stepped, AllocError>
     ensures step { IfOk result (λ r. (f : Frames) (fs : Callers) → slice_get (state_of s.old).slots i ≡ Some (Running (f ∷ fs))
         → stepped_of r (state_of s.new) ≡ moved (program_of program.now) (state_of s.old) i
-        (erased (returned (program_of program.now) offset (option_to_list value) [] f fs))) }
+        (erased (returned (program_of program.now) offset value [] f fs))) }
     ensures unchanged { IsKept result (state_of s.old) (state_of s.new) }
 {
-    match resumption(alloc, program, &s.slots, i, value)? {
+    match resumption(program, &s.slots, i, value)? {
         None => Ok(end_thread(s, i, offset)),
         Some(rest) => {
             leaves(s, i, rest);
@@ -373,7 +370,7 @@ fn carry_out_plan<'p>(
             enters(s, i, work, callee)?;
             Ok(Stepped::Stepped)
         }
-        Plan::Return(offset, value) => returns(alloc, program, s, i, offset, value),
+        Plan::Return(offset, value) => returns(program, s, i, offset, value),
         Plan::Perform(offset, act, work) => acts(alloc, program, s, i, offset, act, work),
         Plan::Fault(offset, cause) => Ok(Stepped::Undefined { offset, cause }),
         Plan::Impossible => Ok(Stepped::Blocked(BlockedCause::NotRunning)),
