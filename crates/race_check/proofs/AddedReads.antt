@@ -1,14 +1,16 @@
 -- The reads of one part after another.
-use Rattle.std.proofs.Common.{◌≡◌, ℕ, List, [], ◌∷◌, ◌++◌, map, refl, ap, sym, subst, ◌∙◌, append_assoc, append-nil, Bool, true, false, ℤ, Ok, Err}
-use Rattle.std.specs.Prelude.{◌+◌, pos, negsuc, if◌then◌else◌, nat_lt}
+use Rattle.std.proofs.Common.{◌≡◌, ℕ, List, [], ◌∷◌, ◌++◌, map, refl, ap, sym, subst, ◌∙◌, append_assoc, append-nil, Bool, true, false, ℤ, Result, Ok, Err}
+use Rattle.std.specs.Prelude.{pos, negsuc, if◌then◌else◌, nat_lt}
 use Rattle.std.proofs.lemmas.List.{map-append}
-use Rattle.hls_ints.specs.Types.{IntegerType}
+use Rattle.hls_ints.specs.declared.fault.ArithmeticFault.{ArithmeticFault}
+use Rattle.hls_ints.specs.Types.{IntegerType, unsigned_long, wrapped}
+use Rattle.c_program.specs.declared.tree.BinaryOperator.TheVariants.{Multiply, Add}
 use Rattle.c_program.specs.declared.tree.Storage.{Storage}
 use Rattle.c_program.specs.Tree.{Expression}
 use Rattle.thread_semantics.specs.declared.cause.UndefinedCause.{UndefinedCause}
 use Rattle.thread_semantics.specs.declared.cause.UndefinedCause.TheVariants.{Index}
 use Rattle.thread_semantics.specs.Memory.{Location, Memory, Evaluation, Gives, Fails, after_reads, and_then}
-use Rattle.thread_semantics.specs.Value.{value, values, load, checked_index}
+use Rattle.thread_semantics.specs.Value.{value, values, load, checked_index, calculated, binary_result, binary_value, right_operand, row_number}
 use Rattle.thread_semantics.specs.Races.{Touch, read_of}
 use Rattle.c_evaluation.specs.Outcome.{outcome, element_at}
 use Rattle.c_evaluation.proofs.Outcomes.{outcome_ok}
@@ -54,6 +56,16 @@ checked_adds : (n : ℕ) (i : ℤ) (before : List Touch) → Adds (checked_index
 checked_adds n (pos i) before = tested_adds (nat_lt i n) i before
 checked_adds n (negsuc i) before = tt
 
+calculated_adds : (r : Result ℤ ArithmeticFault) (before : List Touch) → Adds (calculated r) before before
+calculated_adds (Ok v) before = no_more before
+calculated_adds (Err fault) before = tt
+
+number_adds : (n i j : ℕ) (before : List Touch) → Adds (row_number n i j) before before
+number_adds n i j before =
+    adds_and (binary_value Multiply unsigned_long (pos i) (pos n)) (λ r. binary_value Add unsigned_long r (pos j)) before before before
+    (calculated_adds (binary_result Multiply unsigned_long (wrapped unsigned_long (pos i)) (right_operand Multiply unsigned_long (pos n))) before)
+    (λ r. calculated_adds (binary_result Add unsigned_long (wrapped unsigned_long r) (right_operand Add unsigned_long (pos j))) before)
+
 pub element_adds : (m : Memory) (storage : Storage) (x n : ℕ) (i : ℤ) (j : ℕ) (before after : List Touch) → Ok j ≡ outcome (checked_index n i) →
     Adds (load m storage x j) before after → Adds (element_at m storage x n i) before after
 element_adds m storage x n i j before after is h =
@@ -89,6 +101,14 @@ pub indexed_err : (m : Memory) (storage : Storage) (x n : ℕ) (ty : IntegerType
     Err cause ≡ outcome (index_in m n index) → Adds (value index m) start before → Adds (value (Expression.Element storage x n ty index) m) start before
 indexed_err m storage x n ty index cause start before is own =
     outside_adds m storage x n (value index m) cause start before is own
+
+pub row_adds : (m : Memory) (outer inner : Expression) (n k : ℕ) (before mid after : List Touch) → Adds (value outer m) before mid → Adds (value inner m) mid after →
+    Adds (value (Expression.Row outer n inner k) m) before after
+row_adds m outer inner n k before mid after h g =
+    adds_and (value outer m) _ before mid after h
+    (λ a. adds_and (checked_index n a) _ mid mid after (checked_adds n a mid)
+    (λ i. adds_and (value inner m) _ mid after after g
+    (λ b. adds_and (checked_index k b) (λ j. row_number k i j) after after after (checked_adds k b after) (λ j. number_adds k i j after))))
 
 pub values_adds : (m : Memory) (e : Expression) (es : List Expression) (before mid after : List Touch) → Adds (value e m) before mid → Adds (values es m) mid after →
     Adds (values (e ∷ es) m) before after

@@ -6,7 +6,7 @@ use Rattle.c_program.specs.Tree.{Program}
 use Rattle.thread_semantics.specs.declared.cause.UndefinedCause.TheVariants.{LiveThread}
 use Rattle.thread_semantics.specs.State.{Frame, Finished, State}
 use Rattle.thread_semantics.specs.Move.{Write, Move, Moves, Acts, Ends, Faults, Impossible, move}
-use Rattle.thread_semantics.specs.Step.{Stepped, Steps, Blocks, Undefines, moved, finished, is_unused, created_slots, step}
+use Rattle.thread_semantics.specs.Step.{Stepped, Steps, Blocks, Undefines, moved, finished, is_unused, created_slots}
 use Rattle.thread_semantics.specs.Races.{Touch, read_of, write_of, touched, thread_touched, if_taken, footprint}
 use Rattle.c_step_parts.specs.declared.plan.Plan.{Plan}
 use Rattle.c_step_parts.specs.declared.plan.Plan.TheVariants as plan

@@ -4,25 +4,22 @@ ghost use Rattle.std.specs.Prelude.{◌≡◌, ◌++◌, ◌∷◌, [], ℕ, IfO
 ghost use Rattle.hls_ints.specs.Types.{IntegerType};
 ghost use Rattle.c_program.specs.Tree.{Expression as Expressions, Program as Programs};
 ghost use Rattle.c_program.specs.declared.tree.BinaryOperator.{BinaryOperator as Operators};
-ghost use Rattle.c_program.specs.Plain.{expression_of, expressions_of, condition_of, place_of, object_place_of, right_side_of, returned_of, thread_call_of, statement_of};
+ghost use Rattle.c_program.specs.Plain.{expression_of, expressions_of, place_of, object_place_of, returned_of, thread_call_of, statement_of};
 ghost use Rattle.thread_semantics.specs.Memory.{Memory};
 ghost use Rattle.thread_semantics.specs.Value.{value, values, load};
-ghost use Rattle.thread_semantics.specs.Work.{first_operand};
 ghost use Rattle.thread_semantics.specs.Move.{target_of, assignment, update, object_number, with_operand, operands_of, statement_move, work_move};
 ghost use Rattle.thread_semantics.specs.Races.{read_of};
 ghost use Rattle.c_evaluation.specs.Outcome.{outcome, memory_of};
 ghost use Rattle.c_evaluation.specs.View.{work_of};
 ghost use Rattle.c_state.specs.View.{frame_of};
-ghost use Rattle.c_step_parts.specs.Plan.{assign_move, return_move};
+ghost use Rattle.c_step_parts.specs.Plan.{return_move};
 ghost use Rattle.race_check.specs.Access.{touches_of};
 ghost use Rattle.race_check.specs.Reads.{Callers, Works, Touches, index_in, Adds, LoadAdds, MoveAdds};
 
 use crate::access::{Access, Location};
 use c_evaluation::evaluate::{evaluate, index_within};
 use c_evaluation::work::Item;
-use c_program::tree::{
-    Condition, Expression, ObjectPlace, Place, RightSide, Statement, Storage, ThreadCall,
-};
+use c_program::tree::{Expression, ObjectPlace, Place, Statement, Storage, ThreadCall};
 use c_state::place::located;
 use c_state::state::Frame;
 use sqlite_items::Items;
@@ -86,6 +83,7 @@ fn read_element(
 }
 
 /// What an expression reads.
+#[tactic(auto, using(crate::proofs::AddedReads::row_adds))]
 fn read(
     expression: &Expression,
     locals: &[Vec<Option<i128>>],
@@ -107,6 +105,11 @@ fn read(
             read(right, locals, globals, list)
         }
         Expression::Cast(_, operand) => read(operand, locals, globals, list),
+        Expression::Row(outer, _, inner, _) => {
+            read(outer, locals, globals, list)?;
+            read(inner, locals, globals, list)
+        }
+        Expression::Kept(_, _) => Ok(()),
     }
 }
 
@@ -246,27 +249,9 @@ fn read_operands(
     }
 }
 
-/// What an assignment reads, or the call of a function whose value is assigned.
-fn read_assign(
-    place: &Place,
-    right: &RightSide,
-    frame: &Frame,
-    globals: &[Vec<i128>],
-    list: &mut Items<Access>,
-) -> Result<(), AllocError>
-    ensures { IfOk result (λ _. (P : Programs) (offset : ℕ) (fs : Callers) (k : Works) → MoveAdds
-        (assign_move P offset (place_of place.now) (right_side_of right.now) (memory_of frame.now.locals.items globals.now) (frame_of frame.now) fs k) (touches_of list.old)
-        (touches_of list.new)) }
-{
-    match right {
-        RightSide::Value(right) => read_assignment(place, right, &frame.locals, globals, list),
-        RightSide::Call(_, arguments) => read_all(arguments, &frame.locals, globals, list),
-    }
-}
-
-/// What a return reads, or the call of a function whose value is returned.
+/// What a return reads.
 fn read_return(
-    right: &Option<RightSide>,
+    right: &Option<Box<Expression>>,
     frame: &Frame,
     globals: &[Vec<i128>],
     list: &mut Items<Access>,
@@ -276,12 +261,11 @@ fn read_return(
 {
     match right {
         None => Ok(()),
-        Some(RightSide::Value(expression)) => read(expression, &frame.locals, globals, list),
-        Some(RightSide::Call(_, arguments)) => read_all(arguments, &frame.locals, globals, list),
+        Some(value) => read(value, &frame.locals, globals, list),
     }
 }
 
-/// What a statement or declarator reads.
+/// What a statement or declarator, a cut or an operand reads.
 fn read_statement(
     statement: &Statement,
     frame: &Frame,
@@ -294,27 +278,20 @@ fn read_statement(
         (touches_of list.new)) }
 {
     match statement {
-        Statement::Assign(_, place, right) => read_assign(place, right, frame, globals, list),
+        Statement::Assign(_, place, right) => {
+            read_assignment(place, right, &frame.locals, globals, list)
+        }
         Statement::Update(_, place, _, _, right) => {
             read_update(place, right, &frame.locals, globals, list)
         }
         Statement::Return(_, right) => read_return(right, frame, globals, list),
-        Statement::Call(_, _, arguments) => read_all(arguments, &frame.locals, globals, list),
+        Statement::Call(_, _, _, arguments) => read_all(arguments, &frame.locals, globals, list),
+        Statement::Keep(_, _, _, operand) => read(operand, &frame.locals, globals, list),
+        Statement::Test(_, operand) => read(operand, &frame.locals, globals, list),
+        Statement::Switch(_, _, operand, _) => read(operand, &frame.locals, globals, list),
         Statement::Print(_, _, arguments) => read_all(arguments, &frame.locals, globals, list),
         Statement::Thread(_, call) => read_operands(call, &frame.locals, globals, list),
         _ => Ok(()),
-    }
-}
-
-/// The operand of a condition that is evaluated first.
-fn first_operand(condition: &Condition) -> &Expression
-    ensures { expression_of result.now ≡ first_operand (condition_of condition.now) }
-{
-    match condition {
-        Condition::Operand(_, operand) => operand,
-        Condition::Both(first, _) => first_operand(first),
-        Condition::Either(first, _) => first_operand(first),
-        Condition::Opposite(inner) => first_operand(inner),
     }
 }
 
@@ -332,8 +309,6 @@ pub(crate) fn read_step(
         None => Ok(()),
         Some(item) => match *item {
             Item::Do(statement) => read_statement(statement, frame, globals, list),
-            Item::Ask(condition) => read(first_operand(condition), &frame.locals, globals, list),
-            Item::Store(_, place) => read_place(place, &frame.locals, globals, list),
             _ => Ok(()),
         },
     }
