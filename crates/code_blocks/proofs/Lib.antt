@@ -5,6 +5,7 @@ pub mod Finals
 pub mod Operators
 pub mod Puts
 pub mod Room
+pub mod RowNumbers
 pub mod OperationRuns
 pub mod Steps
 pub mod Stores

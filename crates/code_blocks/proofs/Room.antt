@@ -33,12 +33,12 @@ update_needs homes place operator ty e old mid found read made t a b fault first
 
 -- What a step that assigns needs at each of its parts, where k is what it takes besides the place and the right side.
 
-pub right_needs : (place : Place) (e : Expression) (k : ℕ) (old : OpenBlock) (fault : LoweringFault) → 1 ≤ k → IsFull (length old.operations + (2 * expression_weight e + 1)) fault →
+pub right_needs : (place : Place) (e : Expression) (k : ℕ) (old : OpenBlock) (fault : LoweringFault) → 1 ≤ k → IsFull (length old.operations + (3 * expression_weight e + 1)) fault →
     IsFull (length old.operations + old.steps + 4 * (place_weight place + expression_weight e + k)) fault
 right_needs place e k old fault some full is = let h = full is in omega (arith, h, some)
 
 pub place_needs : (homes : List Home) (place : Place) (e : Expression) (k : ℕ) (old mid : OpenBlock) (b : Operand) (fault : LoweringFault) → 1 ≤ k → Evaluates homes e old mid b →
-    IsFull (length mid.operations + 2 * place_weight place) fault → IsFull (length old.operations + old.steps + 4 * (place_weight place + expression_weight e + k)) fault
+    IsFull (length mid.operations + 3 * place_weight place) fault → IsFull (length old.operations + old.steps + 4 * (place_weight place + expression_weight e + k)) fault
 place_needs homes place e k old mid b fault some first full is = let h = full is in let n = first.computes.count in omega (arith, h, n, some)
 
 pub found_needs : (homes : List Home) (place : Place) (e : Expression) (k : ℕ) (old mid found : OpenBlock) (t : Target) (b : Operand) (fault : LoweringFault) → 1 ≤ k →

@@ -73,7 +73,7 @@ place_typed homes (Place.Element storage x n ty e) old new t p S fits is open_ =
       type = ap target_type p.at ∙ h.1;
     }
 
-pub place_count : (homes : List Home) (place : Place) (old new : OpenBlock) (t : Target) → Places homes place old new t → length new.operations ≤ length old.operations + 2 * place_weight place
+pub place_count : (homes : List Home) (place : Place) (old new : OpenBlock) (t : Target) → Places homes place old new t → length new.operations ≤ length old.operations + 3 * place_weight place
 place_count homes (Place.Scalar storage x ty) old new t p = let e = ap (λ (z : OpenBlock). length z.operations) p.same in omega arith
 place_count homes (Place.Element storage x n ty e) old new t p = let c = p.evaluates.computes.count in omega (arith, c)
 

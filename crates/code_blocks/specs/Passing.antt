@@ -64,5 +64,5 @@ pub record Passes (homes room : List Home) (locals : List LocalVariable) (es : L
 
 abbrev pub WorksOnArguments : List Home → List Home → List LocalVariable → List Expression → OpenBlock → OpenBlock → Type 0
 WorksOnArguments homes room locals es old new =
-    Works homes (2 * expressions_weight es + length es)
+    Works homes (3 * expressions_weight es + length es)
     (λ (S : Typing). AreExpressions S.program S.function es × ((x : ℕ) (l : LocalVariable) → slice_get locals x ≡ Some l → IsTypedHome S.types l (slice_get room x))) old new

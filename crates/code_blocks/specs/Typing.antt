@@ -46,9 +46,9 @@ pub record IsComputed (T : Types) (b : OpenBlock) (a : Operand) (ty : IntegerTyp
   pub operand : IsTypedOperand T b.operations a
   pub type : operand_type a ≡ ty
 
--- the operations of an expression are typed, at most two for each unit of its weight and one
+-- the operations of an expression are typed, at most three for each unit of its weight and one
 pub record Computes (homes : List Home) (e : Expression) (old new : OpenBlock) (a : Operand) : Type 0 where
-  pub count : length new.operations ≤ length old.operations + (2 * expression_weight e + 1)
+  pub count : length new.operations ≤ length old.operations + (3 * expression_weight e + 1)
   pub typed : (S : Typing) → Fits S homes → IsExpression S.program S.function e → IsTypedOpen S.types old → IsComputed S.types new a (type_of e)
 
 -- a block stays typed where this holds, and gets at most so many operations
@@ -67,8 +67,8 @@ WorksOnUpdate homes place operator ty e old new =
 -- values are put into the variables from n on
 abbrev pub WorksOnValue : List Home → ℕ → Expression → OpenBlock → OpenBlock → Type 0
 WorksOnValue homes n e old new =
-    Works homes (2 * expression_weight e + 1) (λ S. IsExpression S.program S.function e × (slice_get S.types.variables n ≡ Some long_int)) old new
+    Works homes (3 * expression_weight e + 1) (λ S. IsExpression S.program S.function e × (slice_get S.types.variables n ≡ Some long_int)) old new
 
 abbrev pub WorksOnValues : List Home → ℕ → List Expression → OpenBlock → OpenBlock → Type 0
 WorksOnValues homes n es old new =
-    Works homes (2 * expressions_weight es + length es) (λ S. AreExpressions S.program S.function es × HasWords S.types n (length es)) old new
+    Works homes (3 * expressions_weight es + length es) (λ S. AreExpressions S.program S.function es × HasWords S.types n (length es)) old new

@@ -45,7 +45,7 @@ pub fn pass_arguments(
 ) -> Result<(), LoweringFault>
     ensures passes { IfOk result (λ _. passing.Passes homes.now room.now locals.now (expressions_of arguments.now) block.old block.new) }
     ensures typed { IfOk result (λ _. passing.WorksOnArguments homes.now room.now locals.now (expressions_of arguments.now) block.old block.new) }
-    ensures full { IfErr result (IsFull (length block.old.operations + 2 * arguments_weight (expressions_of arguments.now))) }
+    ensures full { IfErr result (IsFull (length block.old.operations + 3 * arguments_weight (expressions_of arguments.now))) }
 {
     let [argument, arguments @ ..] = arguments else {
         return Ok(());

@@ -56,7 +56,7 @@ pub fn lower_place(
     place: &Place,
 ) -> Result<Target, LoweringFault>
     ensures places { IfOk result (λ t. assigning.Places homes.now (place_of place.now) block.old block.new t) }
-    ensures full { IfErr result (IsFull (length block.old.operations + 2 * place_weight (place_of place.now))) }
+    ensures full { IfErr result (IsFull (length block.old.operations + 3 * place_weight (place_of place.now))) }
 {
     match place {
         Place::Scalar(storage, variable, ty) => {

@@ -52,7 +52,7 @@ fn lower_value(
 ) -> Result<(), LoweringFault>
     ensures puts { IfOk result (λ _. printing.PutsValue homes.now variable ty (expression_of argument.now) block.old block.new) }
     ensures typed { IfOk result (λ _. typing.WorksOnValue homes.now variable (expression_of argument.now) block.old block.new) }
-    ensures full { IfErr result (IsFull (length block.old.operations + (2 * expression_weight (expression_of argument.now) + 1))) }
+    ensures full { IfErr result (IsFull (length block.old.operations + (3 * expression_weight (expression_of argument.now) + 1))) }
 {
     let value = lower_expression(alloc, homes, block, argument)?;
     let value = converted(alloc, &value, ty)?;
@@ -74,7 +74,7 @@ pub fn lower_values(
     ensures puts { IfOk result (λ _. printing.PutsValues homes.now first types.now (expressions_of arguments.now) block.old block.new) }
     ensures typed { IfOk result (λ _. typing.WorksOnValues homes.now first (expressions_of arguments.now) block.old block.new) }
     ensures full { IfErr result (IsFull
-        (length block.old.operations + (2 * expressions_weight (expressions_of arguments.now) + length arguments.now) + (first + length arguments.now))) }
+        (length block.old.operations + (3 * expressions_weight (expressions_of arguments.now) + length arguments.now) + (first + length arguments.now))) }
 {
     let [ty, types @ ..] = types else {
         return Ok(());

@@ -19,7 +19,7 @@ use Rattle.code_blocks.proofs.passing.+pass_arguments.Goals as goal
 
 -- what the first argument needs, where it does not fit
 first_needs : (e : ExpressionTree) (trees : List ExpressionTree) (b : OpenBlock) (fault : LoweringFault) → 1 ≤ length trees → e ≡ get_or trees 0 e →
-    IsFull (length b.operations + (2 * expression_weight (expression_of e) + 1)) fault → IsFull (length b.operations + 2 * arguments_weight (expressions_of trees)) fault
+    IsFull (length b.operations + (3 * expression_weight (expression_of e) + 1)) fault → IsFull (length b.operations + 3 * arguments_weight (expressions_of trees)) fault
 first_needs e [] b fault some is full = absurd (omega arith)
 first_needs e (e0 ∷ trees) b fault some is full = λ large.
     let h = full large in
@@ -36,7 +36,7 @@ put_operations (home.Array n) ty a old new p = ap (λ (z : OpenBlock). z.operati
 rest_needs : (homes room : List Home) (h other : Home) (ty : IntegerType) (e : ExpressionTree) (trees trees' : List ExpressionTree) (old mid put : OpenBlock) (a : Operand) (fault : LoweringFault) →
     1 ≤ length trees → e ≡ get_or trees 0 e → trees' ≡ take (length trees - 1) (drop 1 trees) → h ≡ get_or room 0 other →
     Evaluates homes (expression_of e) old mid a → PutsThere h ty a mid put →
-    IsFull (length put.operations + 2 * arguments_weight (expressions_of trees')) fault → IsFull (length old.operations + 2 * arguments_weight (expressions_of trees)) fault
+    IsFull (length put.operations + 3 * arguments_weight (expressions_of trees')) fault → IsFull (length old.operations + 3 * arguments_weight (expressions_of trees)) fault
 rest_needs homes room h other ty e [] trees' old mid put a fault some is rest place first puts full = absurd (omega arith)
 rest_needs homes room h other ty e (e0 ∷ trees) trees' old mid put a fault some is rest place first puts full = λ large.
     let l = full large in
