@@ -1,10 +1,11 @@
 -- The rooms that the functions are given are a housing.
-use Rattle.std.proofs.Common.{◌≡◌, ℕ, zero, suc, ◌+◌, List, [], ◌∷◌, length, Option, Some, None, refl, sym, ap, ◌∙◌, subst, arith}
+use Rattle.std.proofs.Common.{◌≡◌, ℕ, zero, suc, ◌+◌, ◌*◌, List, [], ◌∷◌, length, Option, Some, None, refl, sym, ap, ◌∙◌, subst, arith}
 use Rattle.std.specs.Prelude.{slice_get}
 use Rattle.std.specs.List.{AllByRecursion}
 use Rattle.c_program.specs.declared.tree.LocalVariable.{LocalVariable}
 use Rattle.c_program.specs.Tree.{Function, Program}
 use Rattle.c_program.specs.Limits.{local_elements, print_sites}
+use Rattle.c_program.specs.Weight.{function_weight}
 use Rattle.c_program.specs.Resolved.{IsResolved}
 use Rattle.code_following.specs.Typed.{IsNameIfAny}
 use Rattle.code_blocks.specs.declared.fault.LoweringFault.{LoweringFault}
@@ -70,10 +71,10 @@ module _ (P : Program) (root : ℕ) (resolved : IsResolved P) (H : Rooms) (place
   }
 
 pub housed_full : (P : Program) (root : ℕ) (fault : LoweringFault) → IsFull (length (all_locals (reached_functions P root)) + prints P.functions) fault → IsResolved P →
-    IsFull (local_elements P.functions root + print_sites P) fault
+    IsFull (local_elements P.functions root + 3 * function_weight P.functions root + print_sites P) fault
 housed_full P root fault full resolved =
     let few = locals_few P root resolved in
-    full_more fault (length (all_locals (reached_functions P root)) + prints P.functions) (local_elements P.functions root + print_sites P) (omega (arith, few)) full
+    full_more fault (length (all_locals (reached_functions P root)) + prints P.functions) (local_elements P.functions root + 3 * function_weight P.functions root + print_sites P) (omega (arith, few)) full
 
 -- a home is a local's
 pub local_there : (P : Program) (r : ℕ) (H : Rooms) → IsHousing P r H → (g : ℕ) (f : Function) → Runs P r g → slice_get P.functions g ≡ Some f → (x : ℕ) (h : Home) →

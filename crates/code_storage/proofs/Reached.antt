@@ -1,19 +1,19 @@
 -- Which functions a thread function reaches: those that calls lead to, and no more locals than the program's weight of them counts.
-use Rattle.std.proofs.Common.{◌≡◌, ℕ, zero, suc, ◌+◌, ◌-◌, ◌<◌, ◌≤◌, Bool, true, false, if◌then◌else◌, List, [], ◌∷◌, length, Option, Some, None, refl, sym, ap, ◌∙◌, subst}
+use Rattle.std.proofs.Common.{◌≡◌, ℕ, zero, suc, ◌+◌, ◌*◌, ◌-◌, ◌<◌, ◌≤◌, Bool, true, false, if◌then◌else◌, List, [], ◌∷◌, length, Option, Some, None, refl, sym, ap, ◌∙◌, subst}
 use Rattle.std.proofs.Common.{arith, sum_by, drop, ⊎_elim, inl, inr, length-append}
-use Rattle.std.specs.Prelude.{replicate, slice_get, slice_set, unwrap_or, Contains, ◌⊎◌}
+use Rattle.std.specs.Prelude.{take, replicate, slice_get, slice_set, unwrap_or, Contains, ◌⊎◌}
 use Rattle.std.specs.List.{AllByRecursion}
 use Rattle.std.proofs.lemmas.Bool.Decides.{eqb_tells}
 use Rattle.std.proofs.lemmas.List.Elements.{Contains-append_left, Contains-append_right, Contains-append_cases, Contains-push}
 use Rattle.std.proofs.lemmas.List.{length-set, drop_all, length-replicate}
-use Rattle.std.proofs.lemmas.List.Sums.{sum_by-cons, sum_by-le-sum_by}
+use Rattle.std.proofs.lemmas.List.Sums.{sum_by-cons}
 use Rattle.std.proofs.lemmas.Option.{slice_get_within}
 use Rattle.lists.proofs.Places.{set_other, set_same, in_one, in_none}
 use Rattle.c_program.specs.declared.tree.LocalVariable.{LocalVariable}
 use Rattle.c_program.specs.Tree.{Function, Program}
 use Rattle.c_program.specs.Limits.{own_elements, local_elements}
 use Rattle.c_program.specs.Calls.{calls_of, Calls, Reaches, Directly, Through, IsAcyclic}
-use Rattle.c_program.specs.Weight.{with_callees, inlined}
+use Rattle.c_program.specs.Weight.{with_callees, inlined, own_weight, function_weight}
 use Rattle.c_program.specs.Resolved.{IsFunction, IsResolved}
 use Rattle.code_storage.specs.Reaching.{has, callees, mark_all, mark_from, marks_of, kept, with_marks}
 use Rattle.code_storage.specs.Locals.{all_locals}
@@ -241,24 +241,33 @@ module _ (fs : List Function) where
       by rest true = omega arith
       by rest false = found rest (slice_get fs g) refl
 
--- a lesser amount comes to less
-module _ (amount more : Function → ℕ) (fs : List Function) (less : (g : ℕ) (f : Function) → slice_get fs g ≡ Some f → amount f ≤ more f) where
-  inlined_less : (d g : ℕ) → inlined amount fs d g ≤ inlined more fs d g
+sums_less : (f g h : ℕ → ℕ) (xs : List ℕ) → ((x : ℕ) → f x ≤ g x + 3 * h x) → sum_by f xs ≤ sum_by g xs + 3 * sum_by h xs
+sums_less f g h [] less = omega arith
+sums_less f g h (x ∷ xs) less =
+    let a = sum_by-cons f x xs in let b = sum_by-cons g x xs in let c = sum_by-cons h x xs in
+    let one = less x in let rest = sums_less f g h xs less in omega (arith, a, b, c, one, rest)
+
+-- an amount that is at most another and a third three times comes to no more than they
+module _ (amount more other : Function → ℕ) (fs : List Function) (less : (g : ℕ) (f : Function) → slice_get fs g ≡ Some f → amount f ≤ more f + 3 * other f) where
+  inlined_less : (d g : ℕ) → inlined amount fs d g ≤ inlined more fs d g + 3 * inlined other fs d g
   inlined_less zero g = omega arith
   inlined_less (suc d) g = by (λ h. inlined_less d h) (slice_get fs g) refl
     where
-      by : ((h : ℕ) → inlined amount fs d h ≤ inlined more fs d h) → (o : Option Function) → slice_get fs g ≡ o → with_callees amount (inlined amount fs d) o ≤ with_callees more (inlined more fs d) o
+      by : ((h : ℕ) → inlined amount fs d h ≤ inlined more fs d h + 3 * inlined other fs d h) → (o : Option Function) → slice_get fs g ≡ o →
+          with_callees amount (inlined amount fs d) o ≤ with_callees more (inlined more fs d) o + 3 * with_callees other (inlined other fs d) o
       by rest None at = omega arith
       by rest (Some f) at =
           let own = less g f at in
-          let all = sum_by-le-sum_by (inlined amount fs d) (inlined more fs d) (calls_of f.body) rest in
+          let all = sums_less (inlined amount fs d) (inlined more fs d) (inlined other fs d) (calls_of f.body) rest in
           omega (arith, own, all)
 
-elements_many : (ls : List LocalVariable) → AllByRecursion (λ (l : LocalVariable). 0 < l.length) ls → length ls ≤ sum_by (λ (l : LocalVariable). l.length) ls
-elements_many [] all = omega arith
-elements_many (l ∷ ls) all =
-    let s = sum_by-cons (λ (k : LocalVariable). k.length) l ls in
-    let h = elements_many ls all.1 in
+-- so many locals have as many elements
+taken_many : (n : ℕ) (ls : List LocalVariable) → AllByRecursion (λ (l : LocalVariable). 0 < l.length) ls → n ≤ length ls → n ≤ sum_by (λ (l : LocalVariable). l.length) (take n ls)
+taken_many zero ls all le = omega arith
+taken_many (suc n) [] all le = absurd (omega arith)
+taken_many (suc n) (l ∷ ls) all le =
+    let s = sum_by-cons (λ (k : LocalVariable). k.length) l (take n ls) in
+    let h = taken_many n ls all.1 (omega arith) in
     let own = all.0 in
     omega (arith, s, h, own)
 
@@ -267,16 +276,21 @@ is_function P [] n f all at = absurd cc
 is_function P (g ∷ gs) zero f all at = subst (IsFunction P) (let same : g ≡ f = cc in same) all.0
 is_function P (g ∷ gs) (suc n) f all at = is_function P gs n f all.1 at
 
-pub locals_few : (P : Program) (root : ℕ) → IsResolved P → length (all_locals (with_marks (marks_of P.functions root) P.functions)) ≤ local_elements P.functions root
+pub locals_few : (P : Program) (root : ℕ) → IsResolved P → length (all_locals (with_marks (marks_of P.functions root) P.functions)) ≤ local_elements P.functions root + 3 * function_weight P.functions root
 locals_few P root resolved =
     let counted = from_few P.functions (length P.functions) (replicate (length P.functions) false) root in
     let none = none_counted (length P.functions) P.functions in
-    let less = inlined_less own_locals own_elements P.functions
-    (λ g f at. elements_many f.locals (is_function P P.functions g f resolved.functions at).lengths) (length P.functions) root in
+    let less = inlined_less own_locals own_elements own_weight P.functions
+    (λ g f at.
+    let is = is_function P P.functions g f resolved.functions at in
+    let many = taken_many f.declared_locals f.locals is.lengths is.declared_ in
+    let few = is.few in
+    omega (arith, many, few)) (length P.functions) root in
     let is : length (all_locals (with_marks (marks_of P.functions root) P.functions))
     ≡ length (all_locals (with_marks (mark_from P.functions (length P.functions) (replicate (length P.functions) false) root) P.functions)) = refl in
     let most : local_elements P.functions root ≡ inlined own_elements P.functions (length P.functions) root = refl in
-    omega (arith, counted, none, less, is, most)
+    let weight : function_weight P.functions root ≡ inlined own_weight P.functions (length P.functions) root = refl in
+    omega (arith, counted, none, less, is, most, weight)
 
 -- ---- one function after another
 

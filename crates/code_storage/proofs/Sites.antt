@@ -28,7 +28,15 @@ formats_length (Statement.For first condition last body) =
 formats_length Statement.Break = refl
 formats_length Statement.Continue = refl
 formats_length (Statement.Return offset right) = refl
-formats_length (Statement.Call offset function arguments) = refl
+formats_length (Statement.Call offset into function arguments) = refl
+formats_length (Statement.Keep offset slot ty operand) = refl
+formats_length (Statement.Truth slot condition) = refl
+formats_length (Statement.Test offset operand) = refl
+formats_length (Statement.Both first second) = refl
+formats_length (Statement.Either first second) = refl
+formats_length (Statement.Opposite inner) = refl
+formats_length (Statement.Switch offset ty operand body) = formats_length body
+formats_length (Statement.Label value operators) = refl
 formats_length (Statement.Print offset format arguments) = refl
 formats_length (Statement.Thread offset call) = refl
 

@@ -1,10 +1,11 @@
 -- Where the locals of a thread's functions stand in its code.
-use Rattle.std.specs.Prelude.{◌≡◌, ◌≢◌, ℕ, ◌+◌, ◌<◌, ◌≤◌, List, [], length, Option, Some, None, slice_get, ◌⊎◌}
+use Rattle.std.specs.Prelude.{◌≡◌, ◌≢◌, ℕ, ◌+◌, ◌*◌, ◌<◌, ◌≤◌, List, [], length, Option, Some, None, slice_get, ◌⊎◌}
 use Rattle.std.specs.List.{AllByRecursion}
 use Rattle.c_program.specs.declared.tree.LocalVariable.{LocalVariable}
 use Rattle.c_program.specs.Tree.{Function, Program}
 use Rattle.c_program.specs.Calls.{Reaches}
 use Rattle.c_program.specs.Limits.{local_elements}
+use Rattle.c_program.specs.Weight.{function_weight}
 use Rattle.block_ir.specs.declared.code.Array.{Array as CodeArray}
 use Rattle.code_following.specs.Typed.{Types, IsLocalArray, IsNameIfAny}
 use Rattle.code_blocks.specs.declared.homes.Home.{Home}
@@ -66,8 +67,8 @@ pub record IsHousing (P : Program) (r : ℕ) (H : Rooms) : Type 0 where
   pub arrays_apart : (g h x y a : ℕ) → slice_get (homes_in H g) x ≡ Some (home.Array a) → slice_get (homes_in H h) y ≡ Some (home.Array a) → g ≡ h
   -- the printf calls of each function are numbered as the program's are
   pub sites : (g : ℕ) (f : Function) → slice_get P.functions g ≡ Some f → HasSites P f.body (site_in H g)
-  -- there is no more than the locals
-  pub few : length H.variables + length H.arrays ≤ local_elements P.functions r
+  -- there is no more than the locals that are declared, and what is kept
+  pub few : length H.variables + length H.arrays ≤ local_elements P.functions r + 3 * function_weight P.functions r
   pub arrays : (a : ℕ) (array : CodeArray) → slice_get H.arrays a ≡ Some array → IsLocalArray P array
 
 -- NAMES: each variable has the name of the local that stands in it

@@ -1,12 +1,12 @@
 // How many printf calls statements have, and how many words they need.
 
 ghost use Rattle.std.specs.Prelude.{◌≡◌, ◌+◌, map, IfOk, IfErr};
-ghost use Rattle.c_program.specs.Plain.{function_of, right_side_of, statement_of, thread_call_of};
+ghost use Rattle.c_program.specs.Plain.{function_of, statement_of, thread_call_of};
 ghost use Rattle.c_program.specs.Limits.{print_count};
 ghost use Rattle.code_blocks.specs.Room.{IsFull};
 ghost use Rattle.code_storage.specs.Values as values;
 
-use c_program::tree::{Function, RightSide, Statement, ThreadCall};
+use c_program::tree::{Function, Statement, ThreadCall};
 use code_blocks::fault::LoweringFault;
 
 /// The sum, and `TooLarge` where it has no number of 32 bits.
@@ -39,6 +39,7 @@ pub(crate) fn count_prints(statement: &Statement, before: u32) -> Result<u32, Lo
             let head = count_prints(last, count_prints(first, count)?)?;
             count_prints(body, head)
         }
+        Statement::Switch(_, _, _, body) => count_prints(body, count),
         Statement::Print(_, _, _) => sum_of(count, 1),
         _ => Ok(count),
     }
@@ -52,15 +53,6 @@ pub fn print_count(statement: &Statement) -> Result<u32, LoweringFault>
     count_prints(statement, 0)
 }
 
-fn right_values(right: &RightSide) -> usize
-    ensures { result ≡ values.right_values (right_side_of right.now) }
-{
-    match right {
-        RightSide::Value(_) => 0,
-        RightSide::Call(_, _) => 1,
-    }
-}
-
 /// The operands of a pthread call: the number of an object, and the argument of a create or the count of a barrier.
 fn operand_count(call: &ThreadCall) -> usize
     ensures { result ≡ values.operand_count (thread_call_of call.now) }
@@ -71,7 +63,7 @@ fn operand_count(call: &ThreadCall) -> usize
     }
 }
 
-/// The most values that a printf of the statement has, or operands a pthread call, or 1 for a call.
+/// The most values that a printf of the statement has, or operands a pthread call, or 1 for a switch.
 pub fn most_values(statement: &Statement) -> usize
     ensures { result ≡ values.most_values (statement_of statement.now) }
 {
@@ -93,8 +85,7 @@ pub fn most_values(statement: &Statement) -> usize
             head.max(most_values(body))
         }
         Statement::Print(_, _, arguments) => arguments.len(),
-        Statement::Assign(_, _, right) | Statement::Return(_, Some(right)) => right_values(right),
-        Statement::Call(_, _, _) => 1,
+        Statement::Switch(_, _, _, body) => most_values(body).max(1),
         Statement::Thread(_, call) => operand_count(call),
         _ => 0,
     };

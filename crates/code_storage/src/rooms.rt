@@ -1,10 +1,11 @@
 // Where the locals of a program's functions stand in the code of a thread. A thread has at most one call of a function at a
 // time, since no call leads back to its caller: so each function that it reaches has one room, whichever call it is.
 
-ghost use Rattle.std.specs.Prelude.{◌≡◌, ◌+◌, [], ◌∷◌, ◌++◌, List, length, map, slice_get, string_bytes, IfOk, IfErr, OnOk};
+ghost use Rattle.std.specs.Prelude.{◌≡◌, ◌+◌, ◌*◌, [], ◌∷◌, ◌++◌, List, length, map, slice_get, string_bytes, IfOk, IfErr, OnOk};
 ghost use Rattle.c_program.specs.declared.tree.LocalVariable as tree;
 ghost use Rattle.c_program.specs.Plain.{function_of, program_of, statement_of};
 ghost use Rattle.c_program.specs.Limits.{local_elements, print_count, print_sites};
+ghost use Rattle.c_program.specs.Weight.{function_weight};
 ghost use Rattle.c_program.specs.Resolved.{IsResolved};
 ghost use Rattle.c_program.specs.Tree as program;
 ghost use Rattle.code_storage.specs.Housing as housing;
@@ -137,7 +138,7 @@ pub fn rooms_of(alloc: Global, program: &Program, root: usize) -> Result<Housing
     ensures housing { IfOk result (λ h. IsResolved (program_of program.now) → housing.IsHousing (program_of program.now) root h.rooms) }
     ensures names { IfOk result (λ h. IsResolved (program_of program.now) → housing.AreNames (program_of program.now) root h.rooms (map string_bytes h.names)) }
     ensures full { IfErr result (λ fault. IsResolved (program_of program.now) →
-        IsFull (local_elements (program_of program.now).functions root + print_sites (program_of program.now)) fault) }
+        IsFull (local_elements (program_of program.now).functions root + 3 * function_weight (program_of program.now).functions root + print_sites (program_of program.now)) fault) }
 {
     let functions = program.functions.as_slice();
     let marks = marks_of(alloc, functions, root)?;
