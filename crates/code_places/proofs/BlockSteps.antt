@@ -6,7 +6,7 @@ use Rattle.c_program.specs.declared.tree.Storage.TheVariants.{Automatic, Static}
 use Rattle.c_program.specs.Tree.{Expression, Statement, Function, Program}
 use Rattle.c_program.specs.Limits.{print_count}
 use Rattle.code_places.specs.Weighing.{inlined_weight}
-use Rattle.c_program.specs.Resolved.{IsStatement}
+use Rattle.c_program.specs.Resolved.{Around, IsStatement}
 use Rattle.thread_semantics.specs.Memory.{Location, Memory, Evaluation, Gives, Fails, and_then, with_element}
 use Rattle.thread_semantics.specs.Value.{value, values}
 use Rattle.thread_semantics.specs.Work.{Work, Do, Onward, settled}
@@ -127,7 +127,7 @@ module _ (P : Program) (W : Whole) (homes : List Home) (size : ℕ) (Kept : Keep
 module _ (P : Program) (s : Statement) (offset : ℕ) (F : Memory → Evaluation Assignment) (old new : Lowering) (a : Assigns old.homes F old.block new.block)
     (same : new ≡ record old { block = new.block })
     (moves : (P : Program) (m : Memory) (f : Frame) (fs : List Frame) (k : List Work) → statement_move P m f fs k s ≡ stored offset (F m) f fs k)
-    (there : (P : Program) (f : Function) (in_loop : Bool) (m : Memory) → IsStatement P f in_loop s → HasShape f.locals m.locals → (x : Assignment) (ls : List Location) → F m ≡ Gives x ls →
+    (there : (P : Program) (f : Function) (around : Around) (m : Memory) → IsStatement P f around s → HasShape f.locals m.locals → (x : Assignment) (ls : List Location) → F m ≡ Gives x ls →
     IsThere x.target.storage m.locals x.target.variable x.target.index) where
   module _ (W : Whole) (homes : List Home) (size : ℕ) (k : List Work) (b : Assigns homes F old.block new.block) (suits : Suits P W homes size s old)
       (variables : ℕ → ℤ) (r : Running) (f : Frame) (fs : List Frame) (globals : List (List ℤ)) (mid : IsMid W.setting homes nothing_kept old.block variables r f fs globals)
@@ -157,7 +157,7 @@ module _ (P : Program) (s : Statement) (offset : ℕ) (F : Memory → Evaluation
       done : Assigned homes old.block.current new.block.current variables seen r ran x ls
       done =
           b.does variables r seen x ls suits.good.sound.below mid.values homed mid.holds gives
-          (there W.setting.program W.setting.function suits.in_loop seen suits.resolved mid.shape x ls gives)
+          (there W.setting.program W.setting.function suits.around seen suits.resolved mid.shape x ls gives)
 
     after_stored : (E : Evaluation Assignment) → F seen ≡ E → AfterMove (stored offset E f fs k) globals Cont
     after_stored (Gives x ls) e = stored_goes P W homes size nothing_kept k old new.block b.operations suits.seated variables r f fs globals mid Cont then_ lengths x ls (done x ls e)

@@ -1,5 +1,5 @@
 -- Callers keep their locals while the code of another call runs.
-use Rattle.std.proofs.Common.{◌≡◌, ℕ, List, [], ◌∷◌, length, ℤ, Option, Some, None, refl, sym, ap, ◌∙◌, subst, arith}
+use Rattle.std.proofs.Common.{◌≡◌, ℕ, ◌<◌, List, [], ◌∷◌, length, ℤ, Option, Some, None, refl, sym, ap, ◌∙◌, subst, arith}
 use Rattle.std.specs.Prelude.{slice_get}
 use Rattle.std.specs.List.{AllByRecursion}
 use Rattle.c_program.specs.declared.tree.LocalVariable.{LocalVariable}
@@ -15,7 +15,7 @@ use Rattle.code_storage.specs.Housing.{IsHomeOf, homes_in, IsHousing}
 use Rattle.code_storage.specs.Objects.{AreObjects}
 use Rattle.code_places.specs.Resuming.{home_value, HoldLocals, Caller, IsHeld, AreHeld}
 use Rattle.code_places.specs.Control.{Whole}
-use Rattle.code_places.specs.Seats.{IsWaiting, LeadsBack, IsSeated, HasWord, IsSeatedTyping}
+use Rattle.code_places.specs.Seats.{IsWaiting, AreWaiting, LeadsBack, IsSeated, HasWord, IsSeatedTyping}
 use Rattle.code_blocks.specs.Typing.{Typing}
 use Rattle.code_blocks.proofs.Cells.{row_of}
 use Rattle.code_places.proofs.Shapes.{local_at}
@@ -60,6 +60,19 @@ module _ (P : Program) (root : ℕ) (H : Rooms) (housed : IsHousing P root H) (r
   callers_kept (c ∷ cs) [] all held = absurd held
   callers_kept (c ∷ cs) (f ∷ fs) all held = (caller_kept c f all.0 held.0, callers_kept cs fs all.1 held.1)
 
+waiting_more : (P : Program) (root : ℕ) (H : Rooms) (rank : ℕ → ℕ) (low high : ℕ) → rank low < rank high → (cs : List Caller) → AllByRecursion (IsWaiting P root H rank high) cs →
+    AllByRecursion (IsWaiting P root H rank low) cs
+waiting_more P root H rank low high less [] all = tt
+waiting_more P root H rank low high less (c ∷ cs) all = (
+  record { found = all.0.found; runs = all.0.runs; homes = all.0.homes; above = (let x = all.0.above in omega (arith, x, less)) },
+  waiting_more P root H rank low high less cs all.1,
+)
+
+-- all calls that wait are above the one at hand
+pub all_waiting : (P : Program) (root : ℕ) (H : Rooms) (rank : ℕ → ℕ) (number : ℕ) (cs : List Caller) → AreWaiting P root H rank number cs → AllByRecursion (IsWaiting P root H rank number) cs
+all_waiting P root H rank number [] all = tt
+all_waiting P root H rank number (c ∷ cs) all = (all.0, waiting_more P root H rank number c.number all.0.above cs (all_waiting P root H rank c.number cs all.1))
+
 -- the same, of code that is seated
 pub seat_kept : (P : Program) (W : Whole) (homes : List Home) (size : ℕ) (c : Lowering) (variables after : ℕ → ℤ) (arrays cells : Cells) (fs : List Frame) → IsSeated P W homes size c →
     Spares homes size variables after arrays cells → AreHeld W.setting.callers variables arrays fs → AreHeld W.setting.callers after cells fs
@@ -67,7 +80,8 @@ seat_kept P W homes size c variables after arrays cells fs seated spares held =
     callers_kept W.setting.program seated.root seated.housing seated.housed seated.resolved.acyclic.rank W.setting.number variables after arrays cells
     (subst (λ n. Spares (homes_in seated.housing W.setting.number) n variables after arrays cells) seated.size_is
     (subst (λ hs. Spares hs size variables after arrays cells) seated.homes_are spares))
-    W.setting.callers fs seated.waiting held
+    W.setting.callers fs
+    (all_waiting W.setting.program seated.root seated.housing seated.resolved.acyclic.rank W.setting.number W.setting.callers seated.waiting) held
 
 -- the seat of code that keeps it
 pub seat_on : (P : Program) (W : Whole) (homes : List Home) (size : ℕ) (old new : Lowering) → new.back ≡ old.back → new.rooms ≡ old.rooms → new.objects ≡
@@ -103,6 +117,6 @@ typed_seat_on P S size old new back rooms objects s = record {
   rooms = rooms ∙ s.rooms;
   fits = s.fits;
   words = s.words;
-  back = subst (HasWord S.types size) (sym back) s.back;
+  back = subst (HasWord S.types) (sym back) s.back;
   objects = subst (AreObjects S.program) (sym objects) s.objects;
 }

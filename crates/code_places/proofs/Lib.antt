@@ -1,6 +1,7 @@
 pub mod LabelSteps
 pub mod LabelTargets
 pub mod CodeGrowth
+pub mod KeptValues
 pub mod LabelStages
 pub mod NewLabel
 pub mod OpenLabels

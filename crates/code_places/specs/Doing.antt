@@ -4,7 +4,7 @@ use Rattle.hls_ints.specs.Types.{long_int}
 use Rattle.c_program.specs.Tree.{Statement, Program}
 use Rattle.c_program.specs.Limits.{print_count}
 use Rattle.c_program.specs.Calls.{calls_of}
-use Rattle.c_program.specs.Resolved.{IsStatement}
+use Rattle.c_program.specs.Resolved.{Around, IsStatement}
 use Rattle.thread_semantics.specs.Work.{Work, Do, settled, Onward, Leaving, Turning}
 use Rattle.block_ir.specs.declared.code.ThreadCode.{ThreadCode}
 use Rattle.code_blocks.specs.declared.homes.Home.{Home}
@@ -98,8 +98,8 @@ pub record Suits (P : Program) (W : Whole) (homes : List Home) (size : ℕ) (s :
   pub homes_ : c.homes ≡ homes
   pub good : IsGood size c
   pub locals : AreHomes W.setting.function.locals homes size
-  pub in_loop : Bool
-  pub resolved : IsStatement W.setting.program W.setting.function in_loop s
+  pub around : Around
+  pub resolved : IsStatement W.setting.program W.setting.function around s
   pub sites : HasSites W.setting.program s c.site
   pub calls : (g : ℕ) → Contains (calls_of s) g → Contains (calls_of W.setting.function.body) g
 
@@ -109,8 +109,8 @@ pub record SuitsTyping (P : Program) (S : Typing) (size : ℕ) (s : Statement) (
   pub fits : Fits S c.homes
   pub words : HasWords S.types size (most_values s)
   pub good : IsGood size c
-  pub in_loop : Bool
-  pub resolved : IsStatement S.program S.function in_loop s
+  pub around : Around
+  pub resolved : IsStatement S.program S.function around s
   pub sites : HasSites S.program s c.site
   pub calls : (g : ℕ) → Contains (calls_of s) g → Contains (calls_of S.function.body) g
 

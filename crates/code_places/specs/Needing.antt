@@ -1,27 +1,24 @@
 -- What code in the making needs, where it is too large.
-use Rattle.std.specs.Prelude.{◌≡◌, ℕ, ◌+◌, ◌*◌, ◌<◌, true, List, length, Contains}
-use Rattle.c_program.specs.Tree.{Expression, Condition, Statement, Function, Program}
+use Rattle.std.specs.Prelude.{◌≡◌, ℕ, ◌+◌, ◌*◌, ◌<◌, true, List, length, Option, Contains}
+use Rattle.c_program.specs.Tree.{Expression, Statement, Function, Program}
 use Rattle.c_program.specs.Calls.{calls_of, IsAcyclic}
-use Rattle.c_program.specs.Weight.{condition_weight, arguments_weight, function_weight}
-use Rattle.c_program.specs.Resolved.{IsCondition, IsCall}
+use Rattle.c_program.specs.Weight.{arguments_weight, function_weight}
+use Rattle.c_program.specs.Resolved.{IsCondition, IsKeptCall}
 use Rattle.code_following.specs.Following.{print_formats}
 use Rattle.code_blocks.specs.declared.fault.LoweringFault.{LoweringFault}
 use Rattle.code_places.specs.declared.lowering.Lowering.{Lowering}
-use Rattle.code_blocks.specs.Typing.{Typing, Fits, HasWords}
+use Rattle.code_blocks.specs.Typing.{Typing, Fits}
 use Rattle.code_places.specs.Weighing.{inlined_weight}
 use Rattle.code_places.specs.Seats.{IsSeatedTyping}
 use Rattle.code_places.specs.Apart.{IsTypedNow, IsGood}
 use Rattle.code_places.specs.Doing.{SuitsTyping}
 use Rattle.code_blocks.specs.Room.{IsFull}
 
--- behind typed code of statements that weigh w, code of a part that weighs so much, and more
-abbrev pub IsFullIn : ℕ → ℕ → (Typing → Type 0) → Lowering → LoweringFault → Type 0
-IsFullIn weight more Is c fault =
-    (S : Typing) (w size : ℕ) → Fits S c.homes → Is S → IsGood size c → IsTypedNow S w c → IsFull (5 * (w + weight) + more) fault
-
--- the same of a condition
-abbrev pub IsFullAt : Condition → ℕ → Lowering → LoweringFault → Type 0
-IsFullAt d more c fault = IsFullIn (condition_weight d + 1) more (λ S. IsCondition S.program S.function d) c fault
+-- behind typed code of statements that weigh w, code of a condition, and more
+abbrev pub IsFullAt : Statement → ℕ → Lowering → LoweringFault → Type 0
+IsFullAt d more c fault =
+    (S : Typing) (w size : ℕ) → Fits S c.homes → IsCondition S.program S.function d → IsGood size c → IsTypedNow S w c →
+    IsFull (5 * (w + (inlined_weight S.program d + 1)) + more) fault
 
 -- calls from a function are less than so deep
 abbrev pub IsDeep : Program → Function → ℕ → Type 0
@@ -38,8 +35,8 @@ IsFullFor P depth s c fault =
     IsTypedNow S w c → IsFull (needed S size (w + inlined_weight S.program s)) fault
 
 -- the same of a call of the function g in the function that is lowered
-abbrev pub IsFullCall : Program → ℕ → ℕ → List Expression → Lowering → LoweringFault → Type 0
-IsFullCall P depth g es c fault =
-    (S : Typing) (w size : ℕ) → IsSeatedTyping P S size c → IsDeep S.program S.function depth → Fits S c.homes → HasWords S.types size 1 →
-    IsGood size c → IsCall S.program S.function g es → Contains (calls_of S.function.body) g → IsTypedNow S w c →
+abbrev pub IsFullCall : Program → ℕ → Option ℕ → ℕ → List Expression → Lowering → LoweringFault → Type 0
+IsFullCall P depth into g es c fault =
+    (S : Typing) (w size : ℕ) → IsSeatedTyping P S size c → IsDeep S.program S.function depth → Fits S c.homes → IsGood size c →
+    IsKeptCall S.program S.function into g es → Contains (calls_of S.function.body) g → IsTypedNow S w c →
     IsFull (needed S size (w + (arguments_weight es + function_weight S.program.functions g))) fault

@@ -3,7 +3,7 @@ use Rattle.std.specs.Prelude.{◌≡◌, ℕ, ◌+◌, ◌<◌, ◌≤◌, List,
 use Rattle.c_program.specs.declared.tree.LocalVariable.{LocalVariable}
 use Rattle.c_program.specs.Tree.{Function, Program}
 use Rattle.thread_semantics.specs.Memory.{element}
-use Rattle.thread_semantics.specs.Work.{Work, Drop, Onward, settled}
+use Rattle.thread_semantics.specs.Work.{Work, Take, Onward, settled}
 use Rattle.thread_semantics.specs.State.{Frame}
 use Rattle.block_ir.specs.declared.block.Operation.{Operation}
 use Rattle.block_ir.specs.declared.block.Block.{Block}
@@ -17,7 +17,6 @@ use Rattle.code_blocks.specs.declared.open_block.OpenBlock.{OpenBlock}
 use Rattle.code_blocks.specs.Needs.{AreBelow}
 use Rattle.code_blocks.specs.Evaluating.{Holds, held_by}
 use Rattle.code_blocks.specs.Closing.{HasNoted, IsFresh}
-use Rattle.code_blocks.specs.Printing.{HoldWords}
 
 -- a call's locals have as many elements as they were declared with
 abbrev pub HasShape : List LocalVariable → List (List (Option ℤ)) → Type 0
@@ -62,7 +61,7 @@ in_call S number function callers = record S { number = number; function = funct
 
 -- what a caller goes on with, once the call that it waits for has returned
 abbrev pub going_again : List Work → List Work
-going_again (Drop ∷ k) = settled Onward k
+going_again (Take into ∷ k) = settled Onward k
 going_again k = k
 
 -- the caller waits, and its locals stand there
@@ -85,10 +84,6 @@ Keeping = (ℕ → ℤ) → List ℤ → Type 0
 abbrev pub nothing_kept : Keeping
 nothing_kept variables kept = Unit {0}
 
--- the variables from n on hold them
-abbrev pub words_held : ℕ → Keeping
-words_held n variables kept = HoldWords variables n kept
-
 -- a call and its callers between two blocks
 pub record Stands (S : Setting) (homes : List Home) (Kept : Keeping) (variables : ℕ → ℤ) (arrays : Cells) (f : Frame) (fs : List Frame) : Type 0 where
   pub number : f.function ≡ S.number
@@ -101,7 +96,7 @@ pub record Stands (S : Setting) (homes : List Home) (Kept : Keeping) (variables 
 abbrev pub Resumes : Program → List Stage → ℕ → Caller → List Caller → ℕ → Type 0
 Resumes P stages word c cs n =
     (variables : ℕ → ℤ) (arrays : Cells) (f : Frame) (fs : List Frame) → f.work ≡ going_again c.work →
-    Stands (calling P stages word c cs) c.homes (words_held word) variables arrays f fs → Follows P stages n c.stage variables arrays (f ∷ fs)
+    Stands (calling P stages word c cs) c.homes nothing_kept variables arrays f fs → Follows P stages n c.stage variables arrays (f ∷ fs)
 
 -- each of these callers does, for n stages or fewer
 abbrev pub AllResume : Program → List Stage → ℕ → List Caller → ℕ → Type 0
