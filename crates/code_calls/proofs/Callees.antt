@@ -1,24 +1,25 @@
 -- Calls: the step that begins one, the code of the function that is called, and what follows in the caller.
-use Rattle.std.proofs.Common.{◌≡◌, ℕ, zero, suc, ◌+◌, ◌*◌, ◌<◌, ◌≤◌, true, false, List, [], ◌∷◌, ◌++◌, length, map, ℤ, Option, Some, None, refl, sym, ap, ◌∙◌, subst}
+use Rattle.std.proofs.Common.{◌≡◌, ℕ, zero, suc, ◌+◌, ◌*◌, ◌<◌, ◌≤◌, true, List, [], ◌∷◌, ◌++◌, length, map, ℤ, Option, Some, None, refl, sym, ap, ◌∙◌, subst}
 use Rattle.std.proofs.Common.{arith, append-nil, length-append}
 use Rattle.std.specs.Prelude.{slice_get, Contains}
-use Rattle.std.specs.List.{AllByRecursion}
+use Rattle.std.proofs.lemmas.List.Elements.{Contains-push}
 use Rattle.hls_ints.specs.Types.{long_int, wrapped}
 use Rattle.c_program.specs.declared.tree.LocalVariable.{LocalVariable}
 use Rattle.c_program.specs.Tree.{Expression, Statement, Function, Program}
-use Rattle.c_program.specs.Weight.{arguments_weight, function_weight}
+use Rattle.c_program.specs.Weight.{arguments_weight, call_weight, function_weight}
 use Rattle.c_program.specs.Calls.{calls_of, Calls as IsCalled}
-use Rattle.c_program.specs.Resolved.{IsCall, IsFunction, AreExpressions}
+use Rattle.c_program.specs.Resolved.{scalar, IsSlotIfAny, IsKeptCall, IsFunction, nowhere}
 use Rattle.thread_semantics.specs.Memory.{Location, Memory, Evaluation, Gives, Fails, element}
 use Rattle.thread_semantics.specs.Value.{values}
-use Rattle.thread_semantics.specs.Work.{Work, Do, Onward, settled}
+use Rattle.thread_semantics.specs.Work.{Work, Do, Take, Onward, settled}
 use Rattle.thread_semantics.specs.State.{Frame, fresh_locals, begun}
-use Rattle.thread_semantics.specs.Move.{moving, entered, called, statement_move, work_move}
+use Rattle.thread_semantics.specs.Move.{moving, entered, work_move}
 use Rattle.block_ir.specs.Run.{Cells, Running, operations_run}
 use Rattle.code_following.specs.Following.{reads_of, AfterMove}
 use Rattle.code_blocks.specs.declared.homes.Home.{Home}
 use Rattle.code_blocks.specs.declared.homes.Home.TheVariants as home
 use Rattle.code_blocks.specs.declared.open_block.OpenBlock.{OpenBlock}
+use Rattle.code_places.specs.declared.targets.Loop.{Loop}
 use Rattle.code_places.specs.declared.lowering.Caller.{Caller as CallerCode}
 use Rattle.code_places.specs.declared.lowering.Lowering.{Lowering}
 use Rattle.code_blocks.specs.Assigning.{HaveHomes}
@@ -26,16 +27,16 @@ use Rattle.code_storage.specs.declared.rooms.Rooms.{Rooms}
 use Rattle.code_storage.specs.Objects.{AreObjects}
 use Rattle.code_places.specs.Labels.{is_used}
 use Rattle.code_places.specs.Weighing.{inlined_weight}
-use Rattle.code_blocks.specs.Typing.{Typing, Fits, HasWords}
+use Rattle.code_blocks.specs.Typing.{Typing, IsTypedHome, Fits}
 use Rattle.code_blocks.specs.Passing.{IsPassed, ArePassed, IsReady, Passed, Passes}
 use Rattle.code_storage.specs.Housing.{IsHomeOf, AreHomes, homes_there, homes_in, site_there, site_in, Runs}
-use Rattle.code_places.specs.Resuming.{HasShape, home_value, HoldLocals, Caller, Setting, in_call, going_again, nothing_kept, words_held, IsMid, IsSound}
+use Rattle.code_places.specs.Resuming.{HasShape, home_value, HoldLocals, Caller, Setting, in_call, nothing_kept, IsMid, IsSound}
 use Rattle.code_storage.specs.Formats.{HasSites}
 use Rattle.code_places.specs.Apart.{IsTypedNow, IsGood}
 use Rattle.code_places.specs.Control.{with_label, Whole, IsIn, GoesOn}
-use Rattle.code_places.specs.Seats.{IsWaiting, LeadsBack, IsSeated, HasWord, IsSeatedTyping}
+use Rattle.code_places.specs.Seats.{AreWaiting, IsInto, LeadsBack, IsSeated, HasVariable, HasWord, IsSeatedTyping}
 use Rattle.code_places.specs.Doing.{Grows, Shifts, OnwardUpTo, Suits, SuitsTyping, Leads}
-use Rattle.code_calls.specs.Calling.{OpensCall, Calls}
+use Rattle.code_calls.specs.Calling.{variable_in, variable_for, OpensCall, Calls}
 use Rattle.code_blocks.proofs.OperationRuns.{run_length}
 use Rattle.code_blocks.proofs.Puts.{homes_more}
 use Rattle.code_blocks.proofs.Arguments.{passed_none}
@@ -46,7 +47,7 @@ use Rattle.code_places.proofs.InlinedWeight.{body_weighs}
 use Rattle.code_storage.proofs.Reached.{runs_callee, is_function}
 use Rattle.code_places.proofs.TypedGrowth.{anywhere_more, now_more}
 use Rattle.code_places.proofs.ResumedPlaces.{Goes, resume_less}
-use Rattle.code_places.proofs.KeptLocals.{callers_kept, seat_on}
+use Rattle.code_places.proofs.KeptLocals.{callers_kept, all_waiting, seat_on}
 use Rattle.code_places.proofs.LabelTargets.{begin_at, begun_idle}
 use Rattle.code_places.proofs.NewLabel.{goes_before_label}
 use Rattle.code_places.proofs.CodeGrowth.{label_relabels, begins_shifts, begun_reached}
@@ -118,20 +119,38 @@ pub locals_passed : (size : ℕ) (held : ℕ → ℤ) (arrays : Cells) (locals :
 locals_passed size held arrays locals room vs scalars homed no_array passed =
     held_there room held arrays (fresh_locals locals vs) (passed_there size held arrays locals room vs scalars homed no_array passed)
 
--- ---- functions of a program
+-- a call weighs what its arguments do, or more
+pub arguments_least : (into : Option ℕ) (es : List Expression) → arguments_weight es ≤ call_weight into es
+arguments_least None es = omega arith
+arguments_least (Some slot) es = omega arith
 
-waiting_more : (P : Program) (root : ℕ) (H : Rooms) (rank : ℕ → ℕ) (low high : ℕ) → rank low < rank high → (cs : List Caller) → AllByRecursion (IsWaiting P root H rank high) cs →
-    AllByRecursion (IsWaiting P root H rank low) cs
-waiting_more P root H rank low high less [] all = tt
-waiting_more P root H rank low high less (c ∷ cs) all = (
-  record { found = all.0.found; runs = all.0.runs; homes = all.0.homes; above = (let x = all.0.above in omega (arith, x, less)) },
-  waiting_more P root H rank low high less cs all.1,
-)
+-- ---- the variable for the value
+
+-- it is of the type of the local that keeps the value
+variable_typed : (S : Typing) (homes : List Home) → Fits S homes → (into : Option ℕ) → IsSlotIfAny S.function into → HasVariable S.types (variable_for homes into)
+variable_typed S homes fits None slot = tt
+variable_typed S homes fits (Some x) slot = by (slice_get homes x) (fits.locals x (scalar long_int) slot.local)
+  where
+    by : (o : Option Home) → IsTypedHome S.types (scalar long_int) o → HasVariable S.types (variable_in o)
+    by (Some (home.Variable n)) is = is
+    by (Some (home.Array a)) is = tt
+    by None is = absurd is
+
+-- that local stands in it
+stands_into : (f : Function) (homes : List Home) (size : ℕ) (k : List Work) → AreHomes f.locals homes size → (into : Option ℕ) → IsSlotIfAny f into →
+    IsInto homes (Take into ∷ k) (variable_for homes into)
+stands_into f homes size k are None slot = tt
+stands_into f homes size k are (Some x) slot = by (slice_get homes x) refl (are.each x (scalar long_int) slot.local)
+  where
+    by : (o : Option Home) → slice_get homes x ≡ o → IsHomeOf size (scalar long_int) o → IsInto homes (Take (Some x) ∷ k) (variable_in o)
+    by (Some (home.Variable n)) at is = at
+    by (Some (home.Array a)) at is = absurd (is refl)
+    by None at is = absurd is
 
 -- ---- a call that begins
 
-module _ (P : Program) (g : ℕ) (es : List Expression) (old begun_ : Lowering) (function : Function) (found : slice_get P.functions g ≡ Some function) (caller : CallerCode)
-    (opens : OpensCall g function es caller old begun_) (on : old.reached ≡ true) where
+module _ (P : Program) (into : Option ℕ) (g : ℕ) (es : List Expression) (old begun_ : Lowering) (function : Function) (found : slice_get P.functions g ≡ Some function) (caller : CallerCode)
+    (opens : OpensCall into g function es caller old begun_) (on : old.reached ≡ true) where
   abbrev passed_block : OpenBlock
   passed_block = record opens.passed { steps = suc opens.passed.steps }
 
@@ -162,8 +181,8 @@ module _ (P : Program) (g : ℕ) (es : List Expression) (old begun_ : Lowering) 
 
   -- types
 
-  module _ (S : Typing) (w size : ℕ) (seated : IsSeatedTyping P S size old) (fits : Fits S old.homes) (good : IsGood size old) (words : HasWords S.types size 1)
-      (passes : AreExpressions S.program S.function es) (called : Contains (calls_of S.function.body) g) (now : IsTypedNow S w old) where
+  module _ (S : Typing) (w size : ℕ) (seated : IsSeatedTyping P S size old) (fits : Fits S old.homes) (good : IsGood size old)
+      (is : IsKeptCall S.program S.function into g es) (called : Contains (calls_of S.function.body) g) (now : IsTypedNow S w old) where
     pub at_function : slice_get S.program.functions g ≡ Some function
     at_function = ap (λ (z : Program). slice_get z.functions g) seated.program ∙ found
 
@@ -183,7 +202,7 @@ module _ (P : Program) (g : ℕ) (es : List Expression) (old begun_ : Lowering) 
     pub typed_begun : IsTypedNow there (w + arguments_weight es + 1) begun_
     typed_begun =
         let room = subst (Fits there) (ap (λ (z : Lowering). z.homes) opens.new_is) seats_fit in
-        let open_ = opens.works.typed S fits (passes, λ x l at. room.locals x l at) now.block in
+        let open_ = opens.works.typed S fits (is.call.passed, λ x l at. room.locals x l at) now.block in
         subst (IsTypedNow there (w + arguments_weight es + 1)) (sym opens.new_is) (record {
           block = record { operations = open_.operations; few = open_.few; current = open_.current };
           size = (let c = opens.works.count in let f = now.size in omega (arith, c, f));
@@ -191,10 +210,8 @@ module _ (P : Program) (g : ℕ) (es : List Expression) (old begun_ : Lowering) 
           stages = λ l s e. anywhere_more S.types S.program (4 * w) (4 * (w + arguments_weight es + 1)) (omega arith) s (now.stages l s e);
         })
 
-    word_typed : HasWord S.types size begun_.back
-    word_typed =
-        subst (HasWord S.types size) (sym (ap (λ (z : Lowering). z.back) opens.new_is))
-        (subst (λ n. slice_get S.types.variables n ≡ Some long_int) (let e : size + 0 ≡ size = omega arith in e) (words 0 (omega arith)))
+    word_typed : HasWord S.types begun_.back
+    word_typed = subst (HasWord S.types) (sym (ap (λ (z : Lowering). z.back) opens.new_is)) (variable_typed S old.homes fits into is.slot)
 
     pub suits_there : SuitsTyping P there size function.body begun_
     suits_there = record {
@@ -216,7 +233,7 @@ module _ (P : Program) (g : ℕ) (es : List Expression) (old begun_ : Lowering) 
       fits = seats_fit;
       words = seated.words g function at_function;
       good = begun_good size good;
-      in_loop = false;
+      around = nowhere;
       resolved = (is_function S.program S.program.functions g function seated.resolved.functions at_function).body;
       sites = subst (HasSites S.program function.body) (sym (site_is seated.housing seated.rooms)) (seated.housed.sites g function at_function);
       calls = λ h c. c;
@@ -224,7 +241,7 @@ module _ (P : Program) (g : ℕ) (es : List Expression) (old begun_ : Lowering) 
 
 -- ---- a call
 
-module _ (P : Program) (g : ℕ) (es : List Expression) (old new : Lowering) (call : Calls P g es old new) (on : old.reached ≡ true) where
+module _ (P : Program) (into : Option ℕ) (g : ℕ) (es : List Expression) (old new : Lowering) (call : Calls P into g es old new) (on : old.reached ≡ true) where
   lead : Leads P None call.function.body call.begun call.done
   lead = call.lowers
 
@@ -240,11 +257,11 @@ module _ (P : Program) (g : ℕ) (es : List Expression) (old new : Lowering) (ca
 
   begun_whole : (W : Whole) → IsIn W call.begun → IsIn W old
   begun_whole W whole =
-      (old_stepped P g es old call.begun call.function call.found call.caller call.opens on).whole W
+      (old_stepped P into g es old call.begun call.function call.found call.caller call.opens on).whole W
       ((label_relabels stepped_).shifts.grows.whole W (subst (IsIn W) call.opens.new_is whole))
 
   good_begun : (size : ℕ) → IsGood size old → IsGood size call.begun
-  good_begun size good = begun_good P g es old call.begun call.function call.found call.caller call.opens on size good
+  good_begun size good = begun_good P into g es old call.begun call.function call.found call.caller call.opens on size good
 
   done_closed : Shifts call.done call.closes.closed
   done_closed = closes_shifts call.done call.closes.closed call.closes.closes
@@ -290,16 +307,16 @@ module _ (P : Program) (g : ℕ) (es : List Expression) (old new : Lowering) (ca
 
   -- types
 
-  module _ (S : Typing) (w size : ℕ) (seated : IsSeatedTyping P S size old) (fits : Fits S old.homes) (good : IsGood size old) (words : HasWords S.types size 1)
-      (passes : AreExpressions S.program S.function es) (called : Contains (calls_of S.function.body) g) (now : IsTypedNow S w old) where
+  module _ (S : Typing) (w size : ℕ) (seated : IsSeatedTyping P S size old) (fits : Fits S old.homes) (good : IsGood size old)
+      (is : IsKeptCall S.program S.function into g es) (called : Contains (calls_of S.function.body) g) (now : IsTypedNow S w old) where
     pub calls_typed : IsTypedNow S (w + (arguments_weight es + function_weight S.program.functions g)) new
     calls_typed =
         let total = w + arguments_weight es + 1 + inlined_weight S.program call.function.body in
-        let at = at_function P g es old call.begun call.function call.found call.caller call.opens on S w size seated fits good words passes called now in
+        let at = at_function P into g es old call.begun call.function call.found call.caller call.opens on S w size seated fits good is called now in
         let at_done =
         lead.typed (record S { function = call.function }) (w + arguments_weight es + 1) size
-        (suits_there P g es old call.begun call.function call.found call.caller call.opens on S w size seated fits good words passes called now)
-        (typed_begun P g es old call.begun call.function call.found call.caller call.opens on S w size seated fits good words passes called now) in
+        (suits_there P into g es old call.begun call.function call.found call.caller call.opens on S w size seated fits good is called now)
+        (typed_begun P into g es old call.begun call.function call.found call.caller call.opens on S w size seated fits good is called now) in
         let at_closed = done_closed.typed S total size (done_good size good) (record { block = at_done.block; size = at_done.size; steps = at_done.steps; stages = at_done.stages }) in
         let at_new = back_new.typed S total size (back_good size good) (record { block = at_closed.block; size = at_closed.size; steps = at_closed.steps; stages = at_closed.stages }) in
         let weighs = body_weighs S.program g call.function seated.resolved.acyclic at in
@@ -307,19 +324,20 @@ module _ (P : Program) (g : ℕ) (es : List Expression) (old new : Lowering) (ca
 
   -- where the thread goes on
 
-  module _ (W : Whole) (homes : List Home) (size n : ℕ) (s : Statement) (offset : ℕ) (work k : List Work) (seated : IsSeated P W homes size old) (homes_are : old.homes ≡ homes)
-      (good : IsGood size old)
-      (locals : AreHomes W.setting.function.locals homes size) (is_call : IsCall W.setting.program W.setting.function g es) (calls : Contains (calls_of W.setting.function.body) g)
-      (moves : (m : Memory) (f : Frame) (fs : List Frame) → statement_move W.setting.program m f fs k s ≡ called W.setting.program offset g es m f fs work)
-      (whole : IsIn W new) (after : (j : ℕ) → j ≤ n → GoesOn W homes (words_held W.setting.word) j new (going_again work)) where
+  module _ (W : Whole) (homes : List Home) (size n offset : ℕ) (k : List Work) (seated : IsSeated P W homes size old) (homes_are : old.homes ≡ homes) (good : IsGood size old)
+      (locals : AreHomes W.setting.function.locals homes size) (is_call : IsKeptCall W.setting.program W.setting.function into g es) (calls : Contains (calls_of W.setting.function.body) g)
+      (whole : IsIn W new) (after : (j : ℕ) → j ≤ n → GoesOn W homes nothing_kept j new (settled Onward k)) where
     abbrev Q : Program
     Q = W.setting.program
+
+    abbrev statement : Statement
+    statement = Statement.Call offset into g es
 
     found : slice_get Q.functions g ≡ Some call.function
     found = ap (λ (z : Program). slice_get z.functions g) seated.program ∙ call.found
 
-    same_function : is_call.code ≡ call.function
-    same_function = let both : Some is_call.code ≡ Some call.function = sym is_call.found ∙ found in cc
+    same_function : is_call.call.code ≡ call.function
+    same_function = let both : Some is_call.call.code ≡ Some call.function = sym is_call.call.found ∙ found in cc
 
     runs : Runs Q seated.root g
     runs = runs_callee Q seated.root W.setting.number g seated.runs (record { code = W.setting.function; found = seated.found; called = calls })
@@ -328,7 +346,7 @@ module _ (P : Program) (g : ℕ) (es : List Expression) (old new : Lowering) (ca
     is = is_function Q Q.functions g call.function seated.resolved.functions found
 
     room_is : call.opens.room ≡ homes_in seated.housing g
-    room_is = room_in P g es old call.begun call.function call.found call.caller call.opens on seated.housing seated.rooms
+    room_is = room_in P into g es old call.begun call.function call.found call.caller call.opens on seated.housing seated.rooms
 
     abbrev seats : List Home
     seats = homes_in seated.housing g
@@ -337,7 +355,7 @@ module _ (P : Program) (g : ℕ) (es : List Expression) (old new : Lowering) (ca
     falls = seated.resolved.acyclic.falls W.setting.number g (record { code = W.setting.function; found = seated.found; called = calls })
 
     abbrev waits : Caller
-    waits = record { number = W.setting.number; function = W.setting.function; homes = homes; work = work; stage = W.stage_of call.caller.label }
+    waits = record { number = W.setting.number; function = W.setting.function; homes = homes; work = Take into ∷ k; stage = W.stage_of call.caller.label }
 
     abbrev below : Setting
     below = in_call W.setting g call.function (waits ∷ W.setting.callers)
@@ -345,11 +363,8 @@ module _ (P : Program) (g : ℕ) (es : List Expression) (old new : Lowering) (ca
     abbrev V : Whole
     V = record W { setting = below }
 
-    waiting : AllByRecursion (IsWaiting Q seated.root seated.housing seated.resolved.acyclic.rank g) (waits ∷ W.setting.callers)
-    waiting = (
-      record { found = seated.found; runs = seated.runs; homes = seated.homes_are; above = falls },
-      waiting_more Q seated.root seated.housing seated.resolved.acyclic.rank g W.setting.number falls W.setting.callers seated.waiting,
-    )
+    waiting : AreWaiting Q seated.root seated.housing seated.resolved.acyclic.rank g (waits ∷ W.setting.callers)
+    waiting = (record { found = seated.found; runs = seated.runs; homes = seated.homes_are; above = falls }, seated.waiting)
 
     begun_seated : IsSeated P V seats size call.begun
     begun_seated = record {
@@ -366,7 +381,14 @@ module _ (P : Program) (g : ℕ) (es : List Expression) (old new : Lowering) (ca
       rooms = ap (λ (z : Lowering). z.rooms) call.opens.new_is ∙ seated.rooms;
       waiting = waiting;
       back = subst (LeadsBack V) (sym (ap (λ (z : Lowering). z.back) call.opens.new_is))
-          (record { caller = waits; rest = W.setting.callers; callers = refl; stage = refl; returns = refl });
+          (record {
+            caller = waits;
+            rest = W.setting.callers;
+            callers = refl;
+            stage = refl;
+            returns = refl;
+            into = subst (λ hs. IsInto homes (Take into ∷ k) (variable_for hs into)) (sym homes_are) (stands_into W.setting.function homes size k locals into is_call.slot);
+          });
       objects = subst (AreObjects Q) (sym (ap (λ (z : Lowering). z.objects) call.opens.new_is)) seated.objects;
     }
 
@@ -379,9 +401,9 @@ module _ (P : Program) (g : ℕ) (es : List Expression) (old new : Lowering) (ca
       homes_ = ap (λ (z : Lowering). z.homes) call.opens.new_is ∙ room_is;
       good = good_begun size good;
       locals = seat_homes;
-      in_loop = false;
+      around = nowhere;
       resolved = is.body;
-      sites = subst (HasSites Q call.function.body) (sym (site_is P g es old call.begun call.function call.found call.caller call.opens on seated.housing seated.rooms))
+      sites = subst (HasSites Q call.function.body) (sym (site_is P into g es old call.begun call.function call.found call.caller call.opens on seated.housing seated.rooms))
           (seated.housed.sites g call.function found);
       calls = λ h c. c;
     }
@@ -435,11 +457,11 @@ module _ (P : Program) (g : ℕ) (es : List Expression) (old new : Lowering) (ca
               omega (arith, lt, long)
 
       counted : length es ≤ length call.function.locals
-      counted = let many = is_call.count in let same = ap (λ (z : Function). z.parameters) same_function in let few = is.parameters in omega (arith, many, same, few)
+      counted = let many = is_call.call.count in let same = ap (λ (z : Function). z.parameters) same_function in let few = is.parameters in let more = is.declared_ in omega (arith, many, same, few, more)
 
       scalars : (vs : List ℤ) → length vs ≡ length es → AreScalars (length vs) call.function.locals
       scalars vs long k l lt at =
-          is.scalars k l (let many = is_call.count in let same = ap (λ (z : Function). z.parameters) same_function in omega (arith, lt, long, many, same)) at
+          is.scalars k l (let many = is_call.call.count in let same = ap (λ (z : Function). z.parameters) same_function in omega (arith, lt, long, many, same)) at
 
       homed : HaveHomes homes (length old.block.current) f.locals
       homed =
@@ -456,7 +478,7 @@ module _ (P : Program) (g : ℕ) (es : List Expression) (old new : Lowering) (ca
         inner = begun call.function g vs
 
         abbrev outer : Frame
-        outer = record f { work = work; kept = [] }
+        outer = record f { work = Take into ∷ k; kept = [] }
 
         no_array : (x : ℕ) (l : LocalVariable) → slice_get call.function.locals x ≡ Some l → l.length ≡ 1 → (a : ℕ) → slice_get seats x ≡ Some (home.Array a) → ⊥
         no_array x l at one a e = subst (IsHomeOf size l) e (seat_homes.each x l at) one
@@ -483,36 +505,52 @@ module _ (P : Program) (g : ℕ) (es : List Expression) (old new : Lowering) (ca
             },
             callers_kept Q seated.root seated.housing seated.housed seated.resolved.acyclic.rank g (held_by old.block.current variables r.values) held r.arrays ran.arrays
                 (done.spares (length seated.housing.variables)) W.setting.callers fs
-                (waiting_more Q seated.root seated.housing seated.resolved.acyclic.rank g W.setting.number falls W.setting.callers seated.waiting) mid.callers,
+                (all_waiting Q seated.root seated.housing seated.resolved.acyclic.rank g (waits ∷ W.setting.callers) waiting).1 mid.callers,
           );
         }
 
     begins_goes : (here : Passes homes seats call.function.locals es old.block call.opens.passed) →
-        Goes W.setting homes below seats nothing_kept nothing_kept old.block passed_block_ here.operations (Do s ∷ k) (settled Onward (Do call.function.body ∷ []))
+        Goes W.setting homes below seats nothing_kept nothing_kept old.block passed_block_ here.operations (Do statement ∷ k) (settled Onward (Do call.function.body ∷ []))
     begins_goes here variables r f fs globals is_work mid Cont then_ =
         subst (λ w. AfterMove (work_move Q seen_ f fs w) globals Cont) (sym is_work)
-        (subst (λ mv. AfterMove mv globals Cont) (sym (moves seen_ f fs)) (by (values es seen_) refl))
+        (by (values es seen_) refl)
       where
         seen_ : Memory
         seen_ = record { locals = f.locals; globals = globals }
 
-        by : (E : Evaluation (List ℤ)) → values es seen_ ≡ E → AfterMove (moving offset E (λ vs reads. entered (slice_get Q.functions g) g vs reads f fs work)) globals Cont
+        by : (E : Evaluation (List ℤ)) → values es seen_ ≡ E → AfterMove (moving offset E (λ vs reads. entered (slice_get Q.functions g) g vs reads f fs (Take into ∷ k))) globals Cont
         by (Fails cause) e = tt
         by (Gives vs ls) e =
-            subst (λ o. AfterMove (entered o g vs ls f fs work) globals Cont) (sym found)
-            (then_ (begun call.function g vs) (record f { work = work; kept = [] } ∷ fs) globals (reads_of ls ++ []) refl (begins_mid variables r f fs globals mid here vs ls e)
+            subst (λ o. AfterMove (entered o g vs ls f fs (Take into ∷ k)) globals Cont) (sym found)
+            (then_ (begun call.function g vs) (record f { work = Take into ∷ k; kept = [] } ∷ fs) globals (reads_of ls ++ []) refl (begins_mid variables r f fs globals mid here vs ls e)
             ((done variables r f fs globals mid here vs ls e).reads.accesses ∙ ap (λ l. r.accesses ++ l) (sym (append-nil (reads_of ls)))))
 
-    pub calls_go : OnwardUpTo W homes n old (Do s ∷ k)
+    pub calls_go : OnwardUpTo W homes n old (Do statement ∷ k)
     calls_go reached j le =
         let here = subst (λ room. Passes homes room call.function.locals es old.block call.opens.passed) room_is
         (subst (λ hs. Passes hs call.opens.room call.function.locals es old.block call.opens.passed) homes_are call.opens.passes) in
-        call_step_goes W homes g call.function (waits ∷ W.setting.callers) seats size j nothing_kept nothing_kept old stepped_ here.operations (Do s ∷ k)
+        call_step_goes W homes g call.function (waits ∷ W.setting.callers) seats size j nothing_kept nothing_kept old stepped_ here.operations (Do statement ∷ k)
         (settled Onward (Do call.function.body ∷ [])) refl here.added (ap suc here.steps) (begins_goes here)
         (λ i lt resume. (
           λ m less.
-              begin_at W homes m (going_again work) (words_held W.setting.word) call.caller.label back_in new (calls_idle size good) call.closes.begins (after m (omega arith))
+              begin_at W homes m (settled Onward k) nothing_kept call.caller.label back_in new (calls_idle size good) call.closes.begins (after m (omega arith))
               (resume_less W.setting.program W.setting.stages W.setting.word W.setting.callers m i less resume),
           resume,
         ))
         good (stepped_goes j le)
+
+-- ---- the statement
+
+pub call_lowers : (P : Program) (around : Option Loop) (s : Statement) (offset : ℕ) (into : Option ℕ) (g : ℕ) (es : List Expression) (old new : Lowering) → old.reached ≡ true →
+    s ≡ Statement.Call offset into g es → Calls P into g es old new → Leads P around s old new
+call_lowers P around s offset into g es old new on is call = rw is (record {
+  grows = calls_grows P into g es old new call on;
+  site = (let e = calls_site P into g es old new call on in omega (arith, e));
+  typed = λ S w size suits now.
+      let least = arguments_least into es in
+      now_more S (w + (arguments_weight es + function_weight S.program.functions g)) (w + inlined_weight S.program (Statement.Call offset into g es)) new (omega (arith, least))
+      (calls_typed P into g es old new call on S w size suits.seated suits.fits suits.good suits.resolved (suits.calls g (Contains-push [] g)) now);
+  leads = λ W homes size n k suits whole out after.
+      calls_go P into g es old new call on W homes size n offset k suits.seated suits.homes_ suits.good suits.locals suits.resolved (suits.calls g (Contains-push [] g)) whole
+      (after (calls_reached P into g es old new call on));
+})

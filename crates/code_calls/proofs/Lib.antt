@@ -2,7 +2,6 @@ mod PrintCode
 pub mod ReturnTargets
 pub mod ReturnCode
 pub mod Callees
-pub mod BehindCall
 mod OperandNumbers
 pub mod Overfull
 mod PthreadCode

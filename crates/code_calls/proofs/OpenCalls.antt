@@ -1,6 +1,6 @@
 -- The code of calls and of returns leaves open what was, and begins where it did.
 use Rattle.std.proofs.Common.{◌≡◌, ℕ, suc, ◌<◌, ◌≤◌, true, List, length, Option, Some, None, refl, sym, ap, ◌∙◌, subst, inl, inr, arith}
-use Rattle.c_program.specs.Tree.{Expression, Place, Function}
+use Rattle.c_program.specs.Tree.{Expression, Function}
 use Rattle.block_ir.specs.declared.operand.Operand.{Operand}
 use Rattle.code_places.specs.declared.targets.Back.{Back}
 use Rattle.code_places.specs.declared.lowering.Caller.{Caller as CallerCode}
@@ -9,11 +9,11 @@ use Rattle.code_places.specs.declared.lowering.Lowering.{Lowering}
 use Rattle.code_places.specs.Labels.{IsOpen, Advances, IsFirst}
 use Rattle.code_places.specs.Control.{with_label, Begun}
 use Rattle.code_places.specs.Doing.{IsBackTarget, Proceeds}
-use Rattle.code_calls.specs.Calling.{Delivers, Returns, StepsBack, ReturnsNothing, Closes, Hands, OpensCall, ClosesCall}
+use Rattle.code_calls.specs.Calling.{variable_for, Returns, StepsBack, ReturnsNothing, Closes, OpensCall, ClosesCall}
 use Rattle.code_places.proofs.LabelSteps.{None_, advances_refl, advances_both, first_after, labels_more}
 use Rattle.code_places.proofs.CodeGrowth.{begins_shifts, begun_reached}
 use Rattle.code_places.proofs.OpenLabels.{label_begun, begins_advance, call_first}
-use Rattle.code_places.proofs.OpenParts.{call_proceeds, back_first, back_proceeds, proceeds_same, bound_new, begun_proceeds, begun_same, back_after, none_begun}
+use Rattle.code_places.proofs.OpenParts.{call_proceeds, back_first, back_proceeds, bound_new, begun_proceeds, begun_same, back_after, none_begun}
 
 -- a step and a return of nothing
 steps_busy : (old : Lowering) (new : Lowering) (p : StepsBack old new) → 0 < p.stepped.block.steps
@@ -32,15 +32,6 @@ pub returns_proceed : (b : Back) (value : Operand) (old code new : Lowering) →
 returns_proceed b value old code new stages reached back p on around =
     back_proceeds b.label old p.stepped new (ap (λ (z : Lowering). z.stages) p.is ∙ stages) (ap (λ (z : Lowering). z.reached) p.is ∙ reached)
     (let e = ap (λ (z : Lowering). z.block.steps) p.is in omega (arith, e)) p.jumps (ap (λ (z : Lowering). z.back) p.is ∙ back) on around
-
-pub hands_proceed : (old new : Lowering) → Hands old new → old.reached ≡ true → (around : Option Loop) → Proceeds around old new
-hands_proceed old new (inl p) on around = call_proceeds old new on p.ends around
-hands_proceed old new (inr p) on around = returns_proceed p.back p.value old old new refl refl refl p.returns on around
-
--- what follows a call
-pub delivers_proceed : (place : Place) (old new : Lowering) → Delivers place old new → (around : Option Loop) → Proceeds around old new
-delivers_proceed place old new d around =
-    proceeds_same old new (ap (λ (z : Lowering). z.stages) d.is) (ap (λ (z : Lowering). z.reached) d.is) (ap (λ (z : Lowering). z.back) d.is) around
 
 pub closed_reached : (caller : CallerCode) (done new : Lowering) → ClosesCall caller done new → new.reached ≡ true
 closed_reached caller done new closes =
@@ -61,7 +52,7 @@ closes_first old new (inr p) start b = by p.returns
     by (inr q) = back_first q.back.label old q.stepped new (ap (λ (z : Lowering). z.stages) q.is) (ap (λ (z : Lowering). z.reached) q.is) (steps_busy old new q) q.jumps start b
 
 -- a call: the label where the caller goes on is new, and stays open in the code of the function
-module _ (number : ℕ) (f : Function) (es : List Expression) (caller : CallerCode) (old begun : Lowering) (opens : OpensCall number f es caller old begun)
+module _ (into : Option ℕ) (number : ℕ) (f : Function) (es : List Expression) (caller : CallerCode) (old begun : Lowering) (opens : OpensCall into number f es caller old begun)
     (open_ : IsOpen caller.label begun.stages) where
   abbrev stepped : Lowering
   stepped = record old { block = record opens.passed { steps = suc opens.passed.steps } }
@@ -69,7 +60,7 @@ module _ (number : ℕ) (f : Function) (es : List Expression) (caller : CallerCo
   begun_stages : begun.stages ≡ (with_label stepped).stages
   begun_stages = ap (λ (z : Lowering). z.stages) opens.new_is
 
-  begun_back : begun.back ≡ Some (record { label = caller.label; returns = f.returns })
+  begun_back : begun.back ≡ Some (record { label = caller.label; returns = f.returns; into = variable_for old.homes into })
   begun_back = ap (λ (z : Lowering). z.back) opens.new_is
 
   pub call_back_target : IsBackTarget begun.back begun.stages

@@ -1,12 +1,12 @@
 -- The code of a return: a step whose block leads to where the caller goes on.
-use Rattle.std.proofs.Common.{◌≡◌, ℕ, suc, ◌+◌, ◌*◌, ◌<◌, ◌≤◌, Bool, true, List, [], ◌∷◌, ◌++◌, length, ℤ, Option, Some, None, refl, sym, ap, ◌∙◌, subst, inl, inr, arith}
+use Rattle.std.proofs.Common.{◌≡◌, ℕ, suc, ◌+◌, ◌*◌, ◌≤◌, true, List, [], ◌∷◌, ◌++◌, length, ℤ, Option, Some, None, refl, sym, ap, ◌∙◌, subst, inl, inr, arith}
 use Rattle.std.proofs.Common.{append-nil}
 use Rattle.std.specs.Prelude.{slice_get, ◌⊎◌}
-use Rattle.hls_ints.specs.Types.{long_int, wrapped}
+use Rattle.hls_ints.specs.Types.{long_int}
 use Rattle.c_program.specs.declared.tree.ReturnType.{ReturnType}
 use Rattle.c_program.specs.declared.tree.ReturnType.TheVariants.{Void, Integer, Pointer}
-use Rattle.c_program.specs.Tree.{Expression, RightSide, Statement, Program}
-use Rattle.c_program.specs.Resolved.{IsExpression, IsReturn, IsStatement}
+use Rattle.c_program.specs.Tree.{Expression, Statement, Program}
+use Rattle.c_program.specs.Resolved.{IsExpression, IsReturn, Around, IsStatement}
 use Rattle.c_program.specs.Weight.{expression_weight}
 use Rattle.thread_semantics.specs.declared.cause.UndefinedCause.{UndefinedCause}
 use Rattle.thread_semantics.specs.Memory.{Location, Memory, Evaluation, Gives, Fails}
@@ -26,13 +26,12 @@ use Rattle.code_places.specs.declared.lowering.Lowering.{Lowering}
 use Rattle.code_blocks.specs.Needs.{IsBelow, AreBelow}
 use Rattle.code_blocks.specs.Evaluating.{current_value, with_more, Reads, Evaluates, held_by}
 use Rattle.code_blocks.specs.Closing.{HasNoted}
-use Rattle.code_blocks.specs.Printing.{HoldWords}
 use Rattle.code_following.specs.Typed.{IsTypedOperand}
 use Rattle.code_blocks.specs.Typing.{Typing, IsTypedOpen}
-use Rattle.code_places.specs.Resuming.{in_call, going_again, Keeping, nothing_kept, words_held, IsMid, IsSound}
+use Rattle.code_places.specs.Resuming.{in_call, going_again, Keeping, nothing_kept, IsMid, IsSound}
 use Rattle.code_places.specs.Apart.{IsTypedNow, IsGood}
 use Rattle.code_places.specs.Control.{EndsCall, Whole, IsIn, GoesOn}
-use Rattle.code_places.specs.Seats.{GoesBack, LeadsBack, IsSeated, HasWord}
+use Rattle.code_places.specs.Seats.{GoesBack, LeadsBack, IsSeated, HasVariable, HasWord}
 use Rattle.code_places.specs.Weighing.{inlined_weight}
 use Rattle.code_places.specs.Doing.{Grows, Shifts, OnwardUpTo, Leads, LowersHere}
 use Rattle.code_calls.specs.Calling.{return_of, PutsReturned, Returns, StepsBack, ReturnsNothing, Closes}
@@ -43,7 +42,7 @@ use Rattle.code_blocks.proofs.TypedAssignments.{variable_stored}
 use Rattle.code_places.proofs.TypedGrowth.{IsTypedBut, anywhere_more, now_more}
 use Rattle.code_places.proofs.CodeGrowth.{grows_both, shifts_refl, jumps_shifts, jumps_but, call_shifts}
 use Rattle.code_places.proofs.BlockSteps.{block_grows, call_goes}
-use Rattle.code_calls.proofs.ReturnTargets.{returned_goes, back_goes, IsReturned, is_returned, returned_none}
+use Rattle.code_calls.proofs.ReturnTargets.{Leaves, into_small, returned_goes, back_goes, IsReturned, is_returned, returned_none}
 
 -- ---- the outermost call
 
@@ -61,10 +60,8 @@ pub record IsReturning (P : Program) (variables : ℕ → ℤ) (r s : Running) (
   pub given : ℤ
   pub reads_ : List Location
   pub reads : Reads r s reads_
-  pub has : ℤ
-  pub has_is : operand_value variables s.values a ≡ has
-  pub same : wrapped long_int has ≡ wrapped long_int given
-  pub is : move P globals (f ∷ fs) ≡ returned P offset (given ∷ []) reads_ f fs
+  pub stands : operand_value variables s.values a ≡ given
+  pub is : move P globals (f ∷ fs) ≡ returned P offset (Some given) reads_ f fs
 
 pub record IsFaulting (P : Program) (f : Frame) (fs : List Frame) (globals : List (List ℤ)) : Type 0 where
   pub offset : ℕ
@@ -74,8 +71,8 @@ pub record IsFaulting (P : Program) (f : Frame) (fs : List Frame) (globals : Lis
 module _ (P : Program) (b : Back) (old code new : Lowering) (more : List Operation) (a : Operand) (code_is : code ≡ record old { block = code.block }) (added : code.block ≡ with_more old.block more)
     (under : AreBelow (length old.block.operations) old.block.current → IsBelow (length code.block.operations) a) (back_is : old.back ≡ Some b) (ret : Returns b a code new)
     (on : old.reached ≡ true) where
-  ir : IsReturned (length code.variables) b.returns a code.block ret.put
-  ir = is_returned (length code.variables) b.returns a code.block ret.put ret.puts
+  ir : IsReturned b.into b.returns a code.block ret.put
+  ir = is_returned b.into b.returns a code.block ret.put ret.puts
 
   abbrev stepped_block : OpenBlock
   stepped_block = record ret.put { steps = suc ret.put.steps }
@@ -111,22 +108,21 @@ module _ (P : Program) (b : Back) (old code new : Lowering) (more : List Operati
   pub value_site : new.site ≡ old.site
   value_site = (jumps_shifts b.label ret.stepped new ret.jumps).site ∙ ap (λ (z : Lowering). z.site) stepped_is
 
-  put_typed : (S : Typing) (size : ℕ) → length code.variables ≡ size → slice_get S.types.variables size ≡ Some long_int → IsTypedOperand S.types code.block.operations a →
-      IsTypedOpen S.types code.block → IsTypedOpen S.types ret.put
-  put_typed S size size_is word typed open_ = by b.returns ret.puts
+  put_typed : (S : Typing) → HasVariable S.types b.into → IsTypedOperand S.types code.block.operations a → IsTypedOpen S.types code.block → IsTypedOpen S.types ret.put
+  put_typed S variable typed open_ = by b.into b.returns variable ret.puts
     where
-      by : (returns : ReturnType) → PutsReturned (length code.variables) returns a code.block ret.put → IsTypedOpen S.types ret.put
-      by Void p = subst (IsTypedOpen S.types) (sym p) open_
-      by Pointer p = subst (IsTypedOpen S.types) (sym p) open_
-      by (Integer ty) p =
-          variable_stored S.types (length code.variables) long_int p.twice code.block ret.put p.operations p.current (ap (slice_get S.types.variables) size_is ∙ word)
+      by : (into : Option ℕ) (returns : ReturnType) → HasVariable S.types into → PutsReturned into returns a code.block ret.put → IsTypedOpen S.types ret.put
+      by None returns there p = subst (IsTypedOpen S.types) (sym p) open_
+      by (Some n) Void there p = subst (IsTypedOpen S.types) (sym p) open_
+      by (Some n) Pointer there p = subst (IsTypedOpen S.types) (sym p) open_
+      by (Some n) (Integer ty) there p =
+          variable_stored S.types n long_int p.twice code.block ret.put p.operations p.current there
           (operand_converted S.types long_int code.block.operations p.once p.twice p.second (operand_converted S.types ty code.block.operations a p.once p.first typed)) p.second.type open_
 
-  pub value_typed : (S : Typing) (w most size : ℕ) → 1 ≤ most → length code.block.operations ≤ length old.block.operations + 4 * most → HasWord S.types size (Some b) → IsTypedOpen S.types code.block →
+  pub value_typed : (S : Typing) (w most size : ℕ) → 1 ≤ most → length code.block.operations ≤ length old.block.operations + 4 * most → HasWord S.types (Some b) → IsTypedOpen S.types code.block →
       IsTypedOperand S.types code.block.operations a → IsGood size old → IsTypedNow S w old → IsTypedNow S (w + most) new
   value_typed S w most size some count word open_ typed good now =
-      let size_is : length code.variables ≡ size = ap (λ (z : Lowering). length z.variables) code_is ∙ good.variables in
-      let put_open = put_typed S size size_is word typed open_ in
+      let put_open = put_typed S word typed open_ in
       let same = ap length ir.operations in
       (jumps_shifts b.label ret.stepped new ret.jumps).typed S (w + most) size (value_stepped.good size good)
       (subst (IsTypedNow S (w + most)) (sym stepped_is) (record {
@@ -142,9 +138,6 @@ module _ (P : Program) (b : Back) (old code new : Lowering) (more : List Operati
     back : GoesBack W b
     back = back_seat P W homes size b old seated back_is
 
-    word_is : length code.variables ≡ W.setting.word
-    word_is = ap (λ (z : Lowering). length z.variables) code_is ∙ good.variables ∙ sym seated.word
-
     pub value_goes : GoesOn W homes Kept n old k
     value_goes =
         back_goes W homes size n Kept k b back old ret.stepped new more good (stepped_sounds size good.sound).noted (ap (λ (z : Lowering). z.stages) stepped_is)
@@ -155,7 +148,7 @@ module _ (P : Program) (b : Back) (old code new : Lowering) (more : List Operati
         by : (variables : ℕ → ℤ) (r : Running) (f : Frame) (fs : List Frame) (globals : List (List ℤ)) (mid : IsMid W.setting homes Kept old.block variables r f fs globals)
             (Cont : List Frame → List (List ℤ) → List Access → Type 0)
             (then_ : (g : Frame) (gs : List Frame) (left : List (List ℤ)) (made : List Access) → g.work ≡ going_again back.caller.work →
-            IsMid (in_call W.setting back.caller.number back.caller.function back.rest) back.caller.homes (words_held W.setting.word)
+            IsMid (in_call W.setting back.caller.number back.caller.function back.rest) back.caller.homes nothing_kept
             ret.stepped.block variables (operations_run variables more r) g gs left → (operations_run variables more r).accesses ≡ r.accesses ++ made → Cont (g ∷ gs) left made) →
             IsFaulting W.setting.program f fs globals ⊎ IsReturning W.setting.program variables r (operations_run variables more r) a f fs globals →
             AfterMove (move W.setting.program globals (f ∷ fs)) globals Cont
@@ -163,23 +156,24 @@ module _ (P : Program) (b : Back) (old code new : Lowering) (more : List Operati
         by variables r f fs globals mid Cont then_ (inr h) =
             let s = operations_run variables more r in
             let seen : Memory = record { locals = f.locals; globals = globals } in
-            let known : length code.variables < length code.block.current =
-            (let all = good.sound.size in let same = ap (λ (z : OpenBlock). length z.current) added in let v = good.variables in let c = ap (λ (z : Lowering). length z.variables) code_is in
-            omega (arith, all, same, v, c)) in
-            let word = ir.there variables s.values h.has h.given known h.has_is h.same in
+            let current : (i : ℕ) → held_by ret.stepped.block.current variables s.values i ≡ held_by ret.put.current variables s.values i =
+            (λ i. ap (λ (z : OpenBlock). current_value (slice_get z.current i) variables s.values i) block_is) in
             subst (λ mv. AfterMove mv globals Cont) (sym h.is)
-            (returned_goes P W homes size b old ret.stepped.block more Kept seated back variables r f fs globals mid Cont then_ (h.given ∷ []) h.reads_ h.reads
+            (returned_goes P W homes size b old ret.stepped.block more Kept seated back variables r f fs globals mid Cont then_ (Some h.given) h.reads_ h.reads
             (length_on homes old.block code.block more added variables r mid.values ∙ ap length (sym (ap (λ (z : OpenBlock). z.operations) block_is ∙ ir.operations)))
+            (subst (λ ty. Leaves size b.into (returned_value ty (Some h.given)) (held_by old.block.current variables r.values) (held_by ret.stepped.block.current variables s.values)) back.returns
             (record {
-              variables_ = λ i lt none.
-                  ap (λ (z : OpenBlock). current_value (slice_get z.current i) variables s.values i) block_is
-                  ∙ ap (λ o. current_value o variables s.values i) (ir.other i (let v = good.variables in let c = ap (λ (z : Lowering). length z.variables) code_is in omega (arith, lt, v, c)))
+              put = λ n u at given.
+                  current n
+                  ∙ ir.there variables s.values h.given u n at
+                  (let below = into_small P W homes size b old seated back n at in
+                  let all = good.sound.size in let same = ap (λ (z : OpenBlock). length z.current) added in omega (arith, below, all, same))
+                  h.stands given;
+              others = λ i lt free.
+                  current i
+                  ∙ ap (λ o. current_value o variables s.values i) (ir.other h.given i free)
                   ∙ read_held homes old.block code.block more added variables r seen h.reads_ good.sound.below mid.values h.reads i;
-              arrays_ = λ c none. ap (λ cells. cells c) h.reads.arrays;
-            })
-            (subst (λ (z : OpenBlock). HoldWords (held_by z.current variables s.values) W.setting.word (returned_value W.setting.function.returns (h.given ∷ []))) (sym block_is)
-            (subst (λ ty. HoldWords (held_by ret.put.current variables s.values) W.setting.word (returned_value ty (h.given ∷ []))) back.returns
-            (subst (λ m. HoldWords (held_by ret.put.current variables s.values) m (returned_value b.returns (h.given ∷ []))) word_is word)))
+            }))
             h.offset)
 
 -- ---- a return of nothing
@@ -207,7 +201,7 @@ module _ (old new : Lowering) (p : StepsBack old new) where
       }
 
   steps_back_goes : (P : Program) (W : Whole) (homes : List Home) (size n : ℕ) (k : List Work) → IsGood size old → IsSeated P W homes size old → IsIn W new → (offset : Frame → ℕ) →
-      ((f : Frame) (fs : List Frame) (globals : List (List ℤ)) → f.work ≡ k → move W.setting.program globals (f ∷ fs) ≡ returned W.setting.program (offset f) [] [] f fs) →
+      ((f : Frame) (fs : List Frame) (globals : List (List ℤ)) → f.work ≡ k → move W.setting.program globals (f ∷ fs) ≡ returned W.setting.program (offset f) None [] f fs) →
       GoesOn W homes nothing_kept n old k
   steps_back_goes P W homes size n k good seated whole offset moves =
       let back = back_seat P W homes size p.back old seated p.is_back in
@@ -215,13 +209,12 @@ module _ (old new : Lowering) (p : StepsBack old new) where
       (ap (λ (z : OpenBlock). z.operations) nothing_is ∙ sym (append-nil old.block.operations)) (ap (λ (z : OpenBlock). z.steps) nothing_is) p.jumps whole
       (λ variables r f fs globals is mid Cont then_.
       subst (λ mv. AfterMove mv globals Cont) (sym (moves f fs globals is))
-      (returned_goes P W homes size p.back old p.stepped.block [] nothing_kept seated back variables r f fs globals mid Cont then_ [] [] (reads_none r [] refl)
+      (returned_goes P W homes size p.back old p.stepped.block [] nothing_kept seated back variables r f fs globals mid Cont then_ None [] (reads_none r [] refl)
       (mid.values ∙ ap (λ (z : OpenBlock). length z.operations) (sym nothing_is))
       (record {
-        variables_ = λ i lt none. ap (λ (z : OpenBlock). current_value (slice_get z.current i) variables r.values i) nothing_is;
-        arrays_ = λ c none. refl;
-      })
-      (subst (HoldWords (held_by p.stepped.block.current variables r.values) W.setting.word) (sym (returned_none W.setting.function.returns)) tt) (offset f)))
+        put = λ n u at given. absurd (let none : None ≡ Some u = sym (returned_none W.setting.function.returns) ∙ given in cc);
+        others = λ i lt free. ap (λ (z : OpenBlock). current_value (slice_get z.current i) variables r.values i) nothing_is;
+      }) (offset f)))
 
 pub nothing_shifts : (old new : Lowering) → old.reached ≡ true → ReturnsNothing old new → Shifts old new
 nothing_shifts old new on (inl p) = call_shifts old new p.ends
@@ -229,7 +222,7 @@ nothing_shifts old new on (inr p) = steps_back_shifts old new p on
 
 pub nothing_goes : (P : Program) (W : Whole) (homes : List Home) (size n : ℕ) (k : List Work) (old new : Lowering) → ReturnsNothing old new → IsGood size old →
     IsSeated P W homes size old → IsIn W new →
-    (offset : Frame → ℕ) → ((f : Frame) (fs : List Frame) (globals : List (List ℤ)) → f.work ≡ k → move W.setting.program globals (f ∷ fs) ≡ returned W.setting.program (offset f) [] [] f fs) →
+    (offset : Frame → ℕ) → ((f : Frame) (fs : List Frame) (globals : List (List ℤ)) → f.work ≡ k → move W.setting.program globals (f ∷ fs) ≡ returned W.setting.program (offset f) None [] f fs) →
     OnwardUpTo W homes n old k
 nothing_goes P W homes size n k old new (inl p) good seated whole offset moves =
     call_goes W homes size n nothing_kept k old new p.ends good whole (outermost_seat P W homes size old seated p.outermost)
@@ -265,7 +258,7 @@ empty_return_at P old new returns offset around = λ on. record {
 return_ends : (P : Program) (m : Memory) (f : Frame) (k : List Work) (offset : ℕ) (e : Expression) → IsEnd (statement_move P m f [] k (return_of offset e))
 return_ends P m f k offset e = by (value e m)
   where
-    by : (E : Evaluation ℤ) → IsEnd (moving offset E (λ v reads. returned P offset (v ∷ []) reads f []))
+    by : (E : Evaluation ℤ) → IsEnd (moving offset E (λ v reads. returned P offset (Some v) reads f []))
     by (Gives v reads) = tt
     by (Fails cause) = tt
 
@@ -292,20 +285,18 @@ module _ (P : Program) (b : Back) (old code new : Lowering) (e : Expression) (a 
       seen : Memory
       seen = record { locals = f.locals; globals = globals }
 
-      is : move W.setting.program globals (f ∷ fs) ≡ moving offset (value e seen) (λ v reads. returned W.setting.program offset (v ∷ []) reads f fs)
+      is : move W.setting.program globals (f ∷ fs) ≡ moving offset (value e seen) (λ v reads. returned W.setting.program offset (Some v) reads f fs)
       is = ap (λ w. work_move W.setting.program seen f fs w) work
 
       by : (E : Evaluation ℤ) → value e seen ≡ E → IsFaulting W.setting.program f fs globals ⊎ IsReturning W.setting.program variables r (operations_run variables here.operations r) a f fs globals
-      by (Fails cause) q = inl (record { offset = offset; cause = cause; is = is ∙ ap (λ E. moving offset E (λ v reads. returned W.setting.program offset (v ∷ []) reads f fs)) q })
+      by (Fails cause) q = inl (record { offset = offset; cause = cause; is = is ∙ ap (λ E. moving offset E (λ v reads. returned W.setting.program offset (Some v) reads f fs)) q })
       by (Gives v ls) q = inr (record {
         offset = offset;
         given = v;
         reads_ = ls;
         reads = here.reads variables r seen v ls good.sound.below mid.values mid.holds q;
-        has = v;
-        has_is = here.gives variables r seen v ls good.sound.below mid.values mid.holds q;
-        same = refl;
-        is = is ∙ ap (λ E. moving offset E (λ v reads. returned W.setting.program offset (v ∷ []) reads f fs)) q;
+        stands = here.gives variables r seen v ls good.sound.below mid.values mid.holds q;
+        is = is ∙ ap (λ E. moving offset E (λ v reads. returned W.setting.program offset (Some v) reads f fs)) q;
       })
 
   pub return_leads : Leads P around (return_of offset e) old new
@@ -313,21 +304,21 @@ module _ (P : Program) (b : Back) (old code new : Lowering) (e : Expression) (a 
     grows = value_grows P b old code new first.operations a code_is first.added first.below back_is ret on;
     site = (let x = value_site P b old code new first.operations a code_is first.added first.below back_is ret on in omega (arith, x));
     typed = λ S w size suits now.
-        let i = first.computes.typed S suits.fits (typed_right S suits.in_loop suits.resolved) now.block in
+        let i = first.computes.typed S suits.fits (typed_right S suits.around suits.resolved) now.block in
         value_typed P b old code new first.operations a code_is first.added first.below back_is ret on S w (expression_weight e + 1) size (omega arith)
         (let c = first.computes.count in omega (arith, c))
-        (subst (HasWord S.types size) back_is suits.seated.back) i.block i.operand suits.good now;
+        (subst (HasWord S.types) back_is suits.seated.back) i.block i.operand suits.good now;
     leads = λ W homes size n k suits whole out after reached j le.
         let here = subst (λ hs. Evaluates hs e old.block code.block a) suits.homes_ first in
         value_goes P b old code new here.operations a code_is here.added here.below back_is ret on W homes size j nothing_kept (Do (return_of offset e) ∷ k) suits.good suits.seated whole
         (returns_out W homes size k here suits.good);
   }
     where
-      typed_right : (S : Typing) (in_loop : Bool) → IsStatement S.program S.function in_loop (return_of offset e) →
+      typed_right : (S : Typing) (around_ : Around) → IsStatement S.program S.function around_ (return_of offset e) →
           IsExpression S.program S.function e
-      typed_right S in_loop is = by S.function.returns is
+      typed_right S around_ is = by S.function.returns is
         where
-          by : (returns : ReturnType) → IsReturn S.program S.function returns (Some (RightSide.Value e)) →
+          by : (returns : ReturnType) → IsReturn S.program S.function returns (Some e) →
               IsExpression S.program S.function e
           by Void h = absurd h
           by (Integer ty) h = h

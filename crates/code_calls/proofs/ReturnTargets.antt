@@ -7,8 +7,8 @@ use Rattle.hls_ints.specs.Types.{IntegerType, long_int, wrapped}
 use Rattle.c_program.specs.declared.tree.ReturnType.{ReturnType}
 use Rattle.c_program.specs.declared.tree.ReturnType.TheVariants.{Void, Integer, Pointer}
 use Rattle.c_program.specs.Tree.{Program}
-use Rattle.thread_semantics.specs.Memory.{Location, element}
-use Rattle.thread_semantics.specs.Work.{Work, Drop}
+use Rattle.thread_semantics.specs.Memory.{Location}
+use Rattle.thread_semantics.specs.Work.{Work, Take}
 use Rattle.thread_semantics.specs.State.{Frame}
 use Rattle.thread_semantics.specs.Move.{return_type, returned_value, resumed, returned}
 use Rattle.block_ir.specs.declared.operand.Operand.{Operand}
@@ -17,7 +17,7 @@ use Rattle.block_ir.specs.declared.block.Next.{Next}
 use Rattle.block_ir.specs.declared.block.Next.TheVariants.{Jump}
 use Rattle.block_ir.specs.declared.block.Block.{Block}
 use Rattle.block_ir.specs.declared.code.Stage.TheVariants as stage
-use Rattle.block_ir.specs.Run.{Access, Running, operand_value, operations_run, leads_to, variables_after, stage_after}
+use Rattle.block_ir.specs.Run.{Cells, Access, Running, operand_value, operations_run, leads_to, variables_after, stage_after}
 use Rattle.code_following.specs.Following.{reads_of, AfterMove, Follows}
 use Rattle.code_blocks.specs.declared.homes.Home.{Home}
 use Rattle.code_blocks.specs.declared.homes.Home.TheVariants as home
@@ -26,40 +26,23 @@ use Rattle.code_places.specs.declared.targets.Back.{Back}
 use Rattle.code_places.specs.declared.stages.Stages.{Stages}
 use Rattle.code_places.specs.declared.lowering.Lowering.{Lowering}
 use Rattle.code_blocks.specs.Needs.{IsBelow, AreBelow}
-use Rattle.code_blocks.specs.Evaluating.{current_operand, current_value, local_value, Reads, held_by}
-use Rattle.code_blocks.specs.Assigning.{Spares}
+use Rattle.code_blocks.specs.Evaluating.{current_value, local_value, Reads, held_by}
 use Rattle.code_blocks.specs.Closing.{HasNoted}
-use Rattle.code_blocks.specs.Printing.{HoldWords}
+use Rattle.code_storage.specs.Housing.{IsHomeOf, homes_in}
 use Rattle.code_places.specs.Labels.{IsHere, led_next}
 use Rattle.code_places.proofs.LabelSteps.{pushed_here}
-use Rattle.code_places.specs.Resuming.{HasShape, home_value, in_call, going_again, IsHeld, AreHeld, Keeping, words_held, AllResume, IsMid, InBlock}
+use Rattle.code_places.specs.Resuming.{home_value, calling, in_call, going_again, AreHeld, Keeping, nothing_kept, Stands, AllResume, IsMid, InBlock}
 use Rattle.code_places.specs.Apart.{IsGood}
 use Rattle.code_places.specs.Control.{marked, LeadsOn, EndsBusy, Jumps, Whole, IsIn, GoesOn}
-use Rattle.code_places.specs.Seats.{GoesBack, IsSeated}
-use Rattle.code_calls.specs.Calling.{PutsReturned}
-use Rattle.code_blocks.proofs.Conversions.{from_word}
+use Rattle.code_places.specs.Seats.{AreWaiting, IsInto, GoesBack, IsSeated}
+use Rattle.code_calls.specs.Calling.{PutsWord, PutsReturned}
 use Rattle.code_blocks.proofs.Stores.{conversion_right}
-use Rattle.code_blocks.proofs.Puts.{same_source, wrapped_twice}
+use Rattle.code_blocks.proofs.Puts.{same_source}
+use Rattle.code_storage.proofs.Housed.{local_there}
 use Rattle.code_places.proofs.ResumedPlaces.{Goes}
 use Rattle.code_places.proofs.LabelTargets.{mid_stands, pushed_at, goes_of_in}
-use Rattle.code_places.proofs.KeptLocals.{seat_kept}
-
--- a caller that goes on
-resumed_work : (vs : List ℤ) (k : List Work) (f : Frame) → (resumed vs k f).work ≡ going_again k
-resumed_work vs (Drop ∷ k) f = refl
-resumed_work vs k f = refl
-
-resumed_locals : (vs : List ℤ) (k : List Work) (f : Frame) → (resumed vs k f).locals ≡ f.locals
-resumed_locals vs (Drop ∷ k) f = refl
-resumed_locals vs k f = refl
-
-resumed_number : (vs : List ℤ) (k : List Work) (f : Frame) → (resumed vs k f).function ≡ f.function
-resumed_number vs (Drop ∷ k) f = refl
-resumed_number vs k f = refl
-
-resumed_kept : (held : ℕ → ℤ) (n : ℕ) (vs : List ℤ) (k : List Work) (f : Frame) → HoldWords held n vs → HoldWords held n (resumed vs k f).kept
-resumed_kept held n vs (Drop ∷ k) f h = tt
-resumed_kept held n vs k f h = h
+use Rattle.code_places.proofs.KeptLocals.{callers_kept, all_waiting}
+use Rattle.code_places.proofs.KeptValues.{returned_stands, dropped_stands, nothing_stands}
 
 pub home_local : (current : List (Option Operand)) (variables : ℕ → ℤ) (s : Running) (x j : ℕ) (o : Option Home) →
     home_value o (held_by current variables s.values) s.arrays x j ≡ local_value o current variables s x j
@@ -67,66 +50,127 @@ home_local current variables s x j (Some (home.Array a)) = refl
 home_local current variables s x j (Some (home.Variable n)) = refl
 home_local current variables s x j None = refl
 
--- the call at hand returns these values: the caller goes on
+-- what a return leaves in the variables: the value, if there is one and the caller keeps it, in the variable for it, and in the others
+-- what they held
+pub record Leaves (size : ℕ) (into : Option ℕ) (given : Option ℤ) (before after : ℕ → ℤ) : Type 0 where
+  pub put : (n : ℕ) (u : ℤ) → into ≡ Some n → given ≡ Some u → after n ≡ wrapped long_int u
+  pub others : (m : ℕ) → m < size → ((u : ℤ) → into ≡ Some m → given ≡ Some u → ⊥) → after m ≡ before m
+
+-- the caller of the call at hand
+module _ (P : Program) (W : Whole) (homes : List Home) (size : ℕ) (b : Back) (c : Lowering) (seated : IsSeated P W homes size c) (back : GoesBack W b) where
+  abbrev rank : ℕ → ℕ
+  rank = seated.resolved.acyclic.rank
+
+  waiting : AreWaiting W.setting.program seated.root seated.housing rank W.setting.number (back.caller ∷ back.rest)
+  waiting = subst (AreWaiting W.setting.program seated.root seated.housing rank W.setting.number) back.callers seated.waiting
+
+  slot_small : (slot n : ℕ) → slice_get back.caller.homes slot ≡ Some (home.Variable n) → n < size
+  slot_small slot n at =
+      let there : slice_get (homes_in seated.housing back.caller.number) slot ≡ Some (home.Variable n) = ap (λ hs. slice_get hs slot) (sym waiting.0.homes) ∙ at in
+      let l = local_there W.setting.program seated.root seated.housing seated.housed back.caller.number back.caller.function waiting.0.runs waiting.0.found slot (home.Variable n) there in
+      let fit = subst (IsHomeOf (length seated.housing.variables) l.0) there
+      ((seated.housed.homes back.caller.number back.caller.function waiting.0.runs waiting.0.found).each slot l.0 l.1) in
+      let below = fit.1 in let long = seated.size_is in omega (arith, below, long)
+
+  -- the variable for a value is a local's
+  pub into_small : (n : ℕ) → b.into ≡ Some n → n < size
+  into_small n is = by back.caller.work b.into is back.into
+    where
+      by : (w : List Work) (into : Option ℕ) → into ≡ Some n → IsInto back.caller.homes w into → n < size
+      by (Take (Some slot) ∷ k) (Some m) at kept = let same : m ≡ n = cc in subst (λ i. i < size) same (slot_small slot m kept)
+      by (Take None ∷ k) None at kept = absurd cc
+      by w into at kept = absurd kept
+
+  module _ (given : Option ℤ) (before after : ℕ → ℤ) (arrays : Cells) (leaves : Leaves size b.into given before after) (g : Frame) (gs : List Frame)
+      (held : AreHeld (back.caller ∷ back.rest) before arrays (g ∷ gs)) where
+    abbrev Resumed : Option ℤ → Type 0
+    Resumed v = Stands (calling W.setting.program W.setting.stages W.setting.word back.caller back.rest) back.caller.homes nothing_kept after arrays (resumed v g.work g) gs
+        × ((resumed v g.work g).work ≡ going_again back.caller.work)
+
+    unchanged : ((m : ℕ) (u : ℤ) → b.into ≡ Some m → given ≡ Some u → ⊥) → AreHeld (back.caller ∷ back.rest) after arrays (g ∷ gs)
+    unchanged none =
+        callers_kept W.setting.program seated.root seated.housing seated.housed rank W.setting.number before after arrays arrays
+        (record { variables_ = λ m lt free. leaves.others m (let long = seated.size_is in omega (arith, lt, long)) (none m); arrays_ = λ a free. refl })
+        (back.caller ∷ back.rest) (g ∷ gs)
+        (all_waiting W.setting.program seated.root seated.housing rank W.setting.number (back.caller ∷ back.rest) waiting) held
+
+    -- it goes on with the value, or without one
+    pub caller_stands : Resumed given
+    caller_stands = by back.caller.work b.into given refl refl refl back.into
+      where
+        by : (w : List Work) (into : Option ℕ) (v : Option ℤ) → back.caller.work ≡ w → b.into ≡ into → given ≡ v → IsInto back.caller.homes w into → Resumed v
+        by (Take (Some slot) ∷ k) (Some n) (Some u) work into v kept =
+            returned_stands W.setting.program seated.root seated.housing seated.housed rank W.setting.number back.caller back.rest waiting slot n kept u before after arrays
+            (leaves.put n u into v) (λ m lt apart. leaves.others m (let long = seated.size_is in omega (arith, lt, long)) (λ x at is. apart (let both : Some m ≡ Some n = sym at ∙ into in cc)))
+            W.setting.stages W.setting.word k g gs work held
+        by (Take (Some slot) ∷ k) (Some n) None work into v kept =
+            nothing_stands W.setting.program back.caller back.rest after arrays W.setting.stages W.setting.word k g gs (unchanged (λ m u at is. absurd (let none : None ≡ Some u = sym v ∙ is in cc)))
+            slot work
+        by (Take None ∷ k) None v work into is kept =
+            dropped_stands W.setting.program back.caller back.rest after arrays W.setting.stages W.setting.word k g gs (unchanged (λ m u at any. absurd (let none : None ≡ Some m = sym into ∙ at in cc)))
+            v work
+        by w into v work is any kept = absurd kept
+
+-- the call at hand returns this value, or none: the caller goes on
 module _ (P : Program) (W : Whole) (homes : List Home) (size : ℕ) (b : Back) (old : Lowering) (new : OpenBlock) (more : List Operation) (Kept : Keeping) (seated : IsSeated P W homes size old)
     (back : GoesBack W b) (variables : ℕ → ℤ) (r : Running) (f : Frame) (fs : List Frame) (globals : List (List ℤ)) (mid : IsMid W.setting homes Kept old.block variables r f fs globals)
     (Cont : List Frame → List (List ℤ) → List Access → Type 0)
     (then_ : (g : Frame) (gs : List Frame) (left : List (List ℤ)) (made : List Access) → g.work ≡ going_again back.caller.work →
-    IsMid (in_call W.setting back.caller.number back.caller.function back.rest) back.caller.homes (words_held W.setting.word) new variables (operations_run variables more r) g gs left →
+    IsMid (in_call W.setting back.caller.number back.caller.function back.rest) back.caller.homes nothing_kept new variables (operations_run variables more r) g gs left →
     (operations_run variables more r).accesses ≡ r.accesses ++ made → Cont (g ∷ gs) left made)
-    (vs : List ℤ) (ls : List Location) (reads : Reads r (operations_run variables more r) ls) (long : length (operations_run variables more r).values ≡ length new.operations)
-    (spares : Spares homes size (held_by old.block.current variables r.values) (held_by new.current variables (operations_run variables more r).values) r.arrays
-    (operations_run variables more r).arrays)
-    (word : HoldWords (held_by new.current variables (operations_run variables more r).values) W.setting.word (returned_value W.setting.function.returns vs)) where
+    (v : Option ℤ) (ls : List Location) (reads : Reads r (operations_run variables more r) ls) (long : length (operations_run variables more r).values ≡ length new.operations)
+    (leaves : Leaves size b.into (returned_value W.setting.function.returns v) (held_by old.block.current variables r.values)
+    (held_by new.current variables (operations_run variables more r).values)) where
   abbrev s : Running
   s = operations_run variables more r
 
   abbrev after : ℕ → ℤ
   after = held_by new.current variables s.values
 
-  held : AreHeld (back.caller ∷ back.rest) after s.arrays fs
+  held : AreHeld (back.caller ∷ back.rest) (held_by old.block.current variables r.values) s.arrays fs
   held =
-      subst (λ cs. AreHeld cs after s.arrays fs) back.callers
-      (seat_kept P W homes size old (held_by old.block.current variables r.values) after r.arrays s.arrays fs seated spares mid.callers)
+      subst (λ cs. AreHeld cs (held_by old.block.current variables r.values) s.arrays fs) back.callers
+      (subst (λ cells. AreHeld W.setting.callers (held_by old.block.current variables r.values) cells fs) (sym reads.arrays) mid.callers)
 
-  abbrev given : List ℤ
-  given = returned_value (return_type (slice_get W.setting.program.functions f.function)) vs
+  abbrev given : Option ℤ
+  given = returned_value (return_type (slice_get W.setting.program.functions f.function)) v
 
-  given_is : given ≡ returned_value W.setting.function.returns vs
+  given_is : returned_value W.setting.function.returns v ≡ given
   given_is =
-      ap (λ n. returned_value (return_type (slice_get W.setting.program.functions n)) vs) mid.number
-      ∙ ap (λ o. returned_value (return_type o) vs) seated.found
+      sym (ap (λ n. returned_value (return_type (slice_get W.setting.program.functions n)) v) mid.number
+      ∙ ap (λ o. returned_value (return_type o) v) seated.found)
 
-  caller_mid : (g : Frame) (gs : List Frame) → IsHeld back.caller after s.arrays g → AreHeld back.rest after s.arrays gs →
-      IsMid (in_call W.setting back.caller.number back.caller.function back.rest) back.caller.homes (words_held W.setting.word) new variables s (resumed given g.work g) gs globals
-  caller_mid g gs h rest = record {
-    number = resumed_number given g.work g ∙ h.number;
-    shape = subst (λ rows. HasShape back.caller.function.locals rows) (sym (resumed_locals given g.work g)) h.shape;
+  caller_mid : (g : Frame) (gs : List Frame) →
+      Stands (calling W.setting.program W.setting.stages W.setting.word back.caller back.rest) back.caller.homes nothing_kept after s.arrays g gs →
+      IsMid (in_call W.setting back.caller.number back.caller.function back.rest) back.caller.homes nothing_kept new variables s g gs globals
+  caller_mid g gs h = record {
+    number = h.number;
+    shape = h.shape;
     values = long;
     holds = record {
-      locals = λ x j v e.
-          sym (home_local new.current variables s x j (slice_get back.caller.homes x))
-          ∙ h.locals x j v (ap (λ rows. element rows x j) (sym (resumed_locals given g.work g)) ∙ e);
-      globals = λ x j v e. ap (λ cells. cells x j) reads.globals ∙ mid.holds.globals x j v e;
+      locals = λ x j u e. sym (home_local new.current variables s x j (slice_get back.caller.homes x)) ∙ h.locals x j u e;
+      globals = λ x j u e. ap (λ cells. cells x j) reads.globals ∙ mid.holds.globals x j u e;
     };
-    kept = resumed_kept after W.setting.word given g.work g (subst (HoldWords after W.setting.word) (sym given_is) word);
-    callers = rest;
+    kept = tt;
+    callers = h.callers;
   }
 
-  pub returned_goes : (offset : ℕ) → AfterMove (returned W.setting.program offset vs ls f fs) globals Cont
+  pub returned_goes : (offset : ℕ) → AfterMove (returned W.setting.program offset v ls f fs) globals Cont
   returned_goes offset = by fs held
     where
-      by : (gs : List Frame) → AreHeld (back.caller ∷ back.rest) after s.arrays gs → AfterMove (returned W.setting.program offset vs ls f gs) globals Cont
+      by : (gs : List Frame) → AreHeld (back.caller ∷ back.rest) (held_by old.block.current variables r.values) s.arrays gs → AfterMove (returned W.setting.program offset v ls f gs) globals Cont
       by [] h = absurd h
       by (g ∷ gs) h =
-          then_ (resumed given g.work g) gs globals (reads_of ls ++ []) (resumed_work given g.work g ∙ ap going_again h.0.work) (caller_mid g gs h.0 h.1)
+          let on = caller_stands P W homes size b old seated back given (held_by old.block.current variables r.values) after s.arrays
+          (subst (λ o. Leaves size b.into o (held_by old.block.current variables r.values) after) given_is leaves) g gs h in
+          then_ (resumed given g.work g) gs globals (reads_of ls ++ []) on.1 (caller_mid (resumed given g.work g) gs on.0)
           (reads.accesses ∙ ap (λ l. r.accesses ++ l) (sym (append-nil (reads_of ls))))
 
 -- a block whose last step returns leads to where the caller goes on
 module _ (W : Whole) (homes : List Home) (size n : ℕ) (Kept : Keeping) (k : List Work) (b : Back) (back : GoesBack W b) (old stepped new : Lowering) (more : List Operation)
     (good : IsGood size old) (noted : HasNoted stepped.block) (same : stepped.stages ≡ old.stages) (added : stepped.block.operations ≡ old.block.operations ++ more)
     (steps : stepped.block.steps ≡ suc old.block.steps) (jumps : Jumps b.label stepped new) (whole : IsIn W new)
-    (goes : Goes W.setting homes (in_call W.setting back.caller.number back.caller.function back.rest) back.caller.homes Kept (words_held W.setting.word) old.block stepped.block more k
+    (goes : Goes W.setting homes (in_call W.setting back.caller.number back.caller.function back.rest) back.caller.homes Kept nothing_kept old.block stepped.block more k
     (going_again back.caller.work)) where
   module _ (p : EndsBusy b.label (marked b.label stepped) new) where
     abbrev final : Block
@@ -158,7 +202,7 @@ module _ (W : Whole) (homes : List Home) (size n : ℕ) (Kept : Keeping) (k : Li
                 ((subst (λ cs. AllResume W.setting.program W.setting.stages W.setting.word cs j) back.callers resume).0 j (omega arith)
                 (variables_after final variables (operations_run variables more r)) (operations_run variables more r).arrays g gs is'
                 (mid_stands W homes n k (Jump b.label) (marked b.label stepped) new noted p.busy p.ends whole variables (operations_run variables more r)
-                (in_call W.setting back.caller.number back.caller.function back.rest) back.caller.homes (words_held W.setting.word) g gs left mid')),
+                (in_call W.setting back.caller.number back.caller.function back.rest) back.caller.homes nothing_kept g gs left mid')),
           ));
     }
 
@@ -176,32 +220,31 @@ module _ (W : Whole) (homes : List Home) (size n : ℕ) (Kept : Keeping) (k : Li
       by (inl p) = absurd (let idle = p.idle in omega (arith, idle, steps))
       by (inr p) = at_end p
 
--- what is returned stands in the word
-pub record IsReturned (word : ℕ) (returns : ReturnType) (a : Operand) (old new : OpenBlock) : Type 0 where
+-- what is returned stands in the variable for it
+pub record IsReturned (into : Option ℕ) (returns : ReturnType) (a : Operand) (old new : OpenBlock) : Type 0 where
   pub operations : new.operations ≡ old.operations
   pub size : length new.current ≡ length old.current
   pub steps : new.steps ≡ old.steps
   pub noted : HasNoted old → HasNoted new
   pub below : (k : ℕ) → IsBelow k a → AreBelow k old.current → AreBelow k new.current
-  pub other : (i : ℕ) → i < word → slice_get new.current i ≡ slice_get old.current i
-  pub there : (variables : ℕ → ℤ) (vs : List ℤ) (x v : ℤ) → word < length old.current → operand_value variables vs a ≡ x → wrapped long_int x ≡ wrapped long_int v →
-      HoldWords (held_by new.current variables vs) word (returned_value returns (v ∷ []))
+  pub other : (v : ℤ) (i : ℕ) → ((u : ℤ) → into ≡ Some i → returned_value returns (Some v) ≡ Some u → ⊥) → slice_get new.current i ≡ slice_get old.current i
+  pub there : (variables : ℕ → ℤ) (vs : List ℤ) (v u : ℤ) (n : ℕ) → into ≡ Some n → n < length old.current → operand_value variables vs a ≡ v → returned_value returns (Some v) ≡ Some u →
+      held_by new.current variables vs n ≡ wrapped long_int u
 
-nothing_returned : (word : ℕ) (returns : ReturnType) (a : Operand) (old new : OpenBlock) → new ≡ old → ((v : ℤ) → returned_value returns (v ∷ []) ≡ []) → IsReturned word returns a old new
-nothing_returned word returns a old new p none = record {
+nothing_returned : (into : Option ℕ) (returns : ReturnType) (a : Operand) (old new : OpenBlock) → new ≡ old →
+    ((v u : ℤ) (n : ℕ) → into ≡ Some n → returned_value returns (Some v) ≡ Some u → ⊥) → IsReturned into returns a old new
+nothing_returned into returns a old new p none = record {
   operations = ap (λ (z : OpenBlock). z.operations) p;
   size = ap (λ (z : OpenBlock). length z.current) p;
   steps = ap (λ (z : OpenBlock). z.steps) p;
   noted = λ h. subst HasNoted (sym p) h;
   below = λ k under fits. subst (λ (z : OpenBlock). AreBelow k z.current) (sym p) fits;
-  other = λ i lt. ap (λ (z : OpenBlock). slice_get z.current i) p;
-  there = λ variables vs x v known is same. subst (HoldWords (held_by new.current variables vs) word) (sym (none v)) tt;
+  other = λ v i free. ap (λ (z : OpenBlock). slice_get z.current i) p;
+  there = λ variables vs v u n into_is known is given. absurd (none v u n into_is given);
 }
 
-pub is_returned : (word : ℕ) (returns : ReturnType) (a : Operand) (old new : OpenBlock) → PutsReturned word returns a old new → IsReturned word returns a old new
-is_returned word Void a old new p = nothing_returned word Void a old new p (λ v. refl)
-is_returned word Pointer a old new p = nothing_returned word Pointer a old new p (λ v. refl)
-is_returned word (Integer ty) a old new p = record {
+word_returned : (word : ℕ) (ty : IntegerType) (a : Operand) (old new : OpenBlock) → PutsWord word ty a old new → IsReturned (Some word) (Integer ty) a old new
+word_returned word ty a old new p = record {
   operations = p.operations;
   size = ap length p.current ∙ length-set old.current word (Some p.twice);
   steps = p.steps;
@@ -211,32 +254,25 @@ is_returned word (Integer ty) a old new p = record {
       (λ q. let same : o ≡ p.twice = cc in subst (IsBelow k) (sym same) (same_source k a p.twice (p.second.source ∙ p.first.source) under))
       (λ q. fits x o q.1)
       (set_element old.current word x (Some p.twice) (Some o) (ap (λ c. slice_get c x) (sym p.current) ∙ e));
-  other = λ i lt. ap (λ c. slice_get c i) p.current ∙ set_other old.current word i (Some p.twice) (λ same. omega arith);
-  there = λ variables vs x v known is same.
-      let one : operand_value variables vs p.once ≡ wrapped ty x = conversion_right variables vs ty a p.once x p.first is in
-      let two : operand_value variables vs p.twice ≡ wrapped long_int (wrapped ty x) = conversion_right variables vs long_int p.once p.twice (wrapped ty x) p.second one in (
-        ap (wrapped long_int)
-            (ap (λ c. current_value (slice_get c word) variables vs word) p.current
-            ∙ ap (λ o. current_value o variables vs word) (set_same old.current word (Some p.twice) known) ∙ two)
-            ∙ wrapped_twice long_int (wrapped ty x) ∙ ap (wrapped long_int) (from_word ty x v same),
-        tt,
-      );
+  other = λ v i free. ap (λ c. slice_get c i) p.current ∙ set_other old.current word i (Some p.twice) (λ same. free (wrapped ty v) (ap Some (sym same)) refl);
+  there = λ variables vs v u n at known is given.
+      let same : word ≡ n = cc in
+      let value : wrapped ty v ≡ u = cc in
+      let one : operand_value variables vs p.once ≡ wrapped ty v = conversion_right variables vs ty a p.once v p.first is in
+      let two : operand_value variables vs p.twice ≡ wrapped long_int (wrapped ty v) = conversion_right variables vs long_int p.once p.twice (wrapped ty v) p.second one in
+      subst (λ m. held_by new.current variables vs m ≡ wrapped long_int u) same
+      (ap (λ c. current_value (slice_get c word) variables vs word) p.current
+      ∙ ap (λ o. current_value o variables vs word) (set_same old.current word (Some p.twice) (subst (λ m. m < length old.current) (sym same) known)) ∙ two
+      ∙ ap (wrapped long_int) value);
 }
 
-pub returned_none : (returns : ReturnType) → returned_value returns [] ≡ []
+pub is_returned : (into : Option ℕ) (returns : ReturnType) (a : Operand) (old new : OpenBlock) → PutsReturned into returns a old new → IsReturned into returns a old new
+is_returned None returns a old new p = nothing_returned None returns a old new p (λ v u n at given. absurd cc)
+is_returned (Some word) Void a old new p = nothing_returned (Some word) Void a old new p (λ v u n at given. absurd cc)
+is_returned (Some word) Pointer a old new p = nothing_returned (Some word) Pointer a old new p (λ v u n at given. absurd cc)
+is_returned (Some word) (Integer ty) a old new p = word_returned word ty a old new p
+
+pub returned_none : (returns : ReturnType) → returned_value returns None ≡ None
 returned_none Void = refl
 returned_none (Integer ty) = refl
 returned_none Pointer = refl
-
--- a variable's value by now
-pub operand_held : (current : List (Option Operand)) (variables : ℕ → ℤ) (values : List ℤ) (n : ℕ) (ty : IntegerType) (o : Option (Option Operand)) →
-    operand_value variables values (current_operand o n ty) ≡ current_value o variables values n
-operand_held current variables values n ty (Some (Some o)) = refl
-operand_held current variables values n ty (Some None) = refl
-operand_held current variables values n ty None = refl
-
-pub operand_below : (k : ℕ) (current : List (Option Operand)) (n : ℕ) (ty : IntegerType) (o : Option (Option Operand)) → slice_get current n ≡ o → AreBelow k current →
-    IsBelow k (current_operand o n ty)
-operand_below k current n ty (Some (Some o)) e fits = fits n o e
-operand_below k current n ty (Some None) e fits = tt
-operand_below k current n ty None e fits = tt

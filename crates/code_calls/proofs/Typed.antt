@@ -133,7 +133,7 @@ weight_is (ThreadCall.BarrierWait barrier) = omega arith
 
 -- the operations of an object's number
 pub number_count : (homes : List Home) (n first : ℕ) (place : ObjectPlace) (old new : OpenBlock) → PutsNumber homes n first place old new →
-    length new.operations ≤ length old.operations + (2 * object_place_weight place + 3)
+    length new.operations ≤ length old.operations + (4 * object_place_weight place + 3)
 number_count homes n first (ObjectPlace.Single object) old new same = let e = ap (λ (b : OpenBlock). length b.operations) same in omega (arith, e)
 number_count homes n first (ObjectPlace.Element object length_ index) old new w = let c = w.works.count in omega (arith, c)
 

@@ -1,27 +1,25 @@
 -- Calls of functions, and returns.
-use Rattle.std.specs.Prelude.{◌≡◌, ℕ, suc, ◌^◌, ◌<◌, true, List, length, Some, None, slice_get, slice_set, ◌⊎◌}
+use Rattle.std.specs.Prelude.{◌≡◌, ℕ, suc, true, List, Option, Some, None, slice_get, slice_set, ◌⊎◌}
 use Rattle.hls_ints.specs.Types.{IntegerType, long_int}
 use Rattle.c_program.specs.declared.tree.ReturnType.{ReturnType}
-use Rattle.c_program.specs.declared.tree.ReturnType.TheVariants.{Void, Integer, Pointer}
-use Rattle.c_program.specs.Tree.{Expression, Place, RightSide, Statement, Function, Program}
+use Rattle.c_program.specs.declared.tree.ReturnType.TheVariants.{Integer}
+use Rattle.c_program.specs.Tree.{Expression, Statement, Function, Program}
 use Rattle.block_ir.specs.declared.operand.Operand.{Operand}
 use Rattle.code_blocks.specs.declared.homes.Home.{Home}
-use Rattle.code_blocks.specs.declared.places.Target.{Target}
+use Rattle.code_blocks.specs.declared.homes.Home.TheVariants as home
 use Rattle.code_blocks.specs.declared.open_block.OpenBlock.{OpenBlock}
 use Rattle.code_places.specs.declared.targets.Back.{Back}
 use Rattle.code_places.specs.declared.lowering.Caller.{Caller}
 use Rattle.code_places.specs.declared.lowering.Lowering.{Lowering}
 use Rattle.code_blocks.specs.Needs.{IsConverted}
-use Rattle.code_blocks.specs.Evaluating.{current_operand}
 use Rattle.code_blocks.specs.Closing.{HasNoted}
-use Rattle.code_blocks.specs.Assigning.{Stores, Places}
 use Rattle.code_storage.specs.Housing.{homes_there, site_there}
 use Rattle.code_blocks.specs.Passing.{Passes, WorksOnArguments}
 use Rattle.code_places.specs.Control.{with_label, Jumps, Begins, EndsCall, StaysOff}
 use Rattle.code_places.specs.Doing.{Proceeds, Leads}
 
 abbrev pub return_of : ℕ → Expression → Statement
-return_of offset e = Statement.Return offset (Some (RightSide.Value e))
+return_of offset e = Statement.Return offset (Some e)
 
 -- ---- returns
 
@@ -36,16 +34,15 @@ pub record PutsWord (word : ℕ) (ty : IntegerType) (value : Operand) (old new :
   pub steps : new.steps ≡ old.steps
   pub noted : HasNoted old → HasNoted new
 
--- what a function that returns nothing returns is left
-abbrev pub PutsReturned : ℕ → ReturnType → Operand → OpenBlock → OpenBlock → Type 0
-PutsReturned word (Integer ty) value old new = PutsWord word ty value old new
-PutsReturned word Void value old new = new ≡ old
-PutsReturned word Pointer value old new = new ≡ old
+-- the value stands in the variable where the caller keeps it; one that is not kept, or of a function that returns none, is left
+abbrev pub PutsReturned : Option ℕ → ReturnType → Operand → OpenBlock → OpenBlock → Type 0
+PutsReturned (Some variable) (Integer ty) value old new = PutsWord variable ty value old new
+PutsReturned into returns value old new = new ≡ old
 
 -- a step that returns a value to the caller
 pub record Returns (b : Back) (value : Operand) (old new : Lowering) : Type 0 where
   pub put : OpenBlock
-  pub puts : PutsReturned (length old.variables) b.returns value old.block put
+  pub puts : PutsReturned b.into b.returns value old.block put
   pub stepped : Lowering
   pub is : stepped ≡ record old { block = record put { steps = suc put.steps } }
   pub jumps : Jumps b.label stepped new
@@ -82,8 +79,18 @@ pub record LowersBody (P : Program) (s : Statement) (old new : Lowering) : Type 
 
 -- ---- calls
 
+-- the variable in which a local stands that is no array
+abbrev pub variable_in : Option Home → Option ℕ
+variable_in (Some (home.Variable n)) = Some n
+variable_in h = None
+
+-- the variable for the value of a call, which is kept in that local, if it is kept
+abbrev pub variable_for : List Home → Option ℕ → Option ℕ
+variable_for homes None = None
+variable_for homes (Some slot) = variable_in (slice_get homes slot)
+
 -- the arguments are passed, and the code goes on in the function
-pub record OpensCall (number : ℕ) (f : Function) (es : List Expression) (caller : Caller) (old new : Lowering) : Type 0 where
+pub record OpensCall (into : Option ℕ) (number : ℕ) (f : Function) (es : List Expression) (caller : Caller) (old new : Lowering) : Type 0 where
   pub room : List Home
   pub room_is : room ≡ homes_there (slice_get old.rooms number)
   pub passed : OpenBlock
@@ -92,7 +99,7 @@ pub record OpensCall (number : ℕ) (f : Function) (es : List Expression) (calle
   pub caller_is : caller ≡ record { homes = old.homes; back = old.back; site = old.site; label = caller.label }
   pub new_is : new ≡ record (with_label (record old { block = record passed { steps = suc passed.steps } })) {
     homes = room;
-    back = Some (record { label = caller.label; returns = f.returns });
+    back = Some (record { label = caller.label; returns = f.returns; into = variable_for old.homes into });
     site = site_there (slice_get old.rooms number);
   }
 
@@ -103,37 +110,12 @@ pub record ClosesCall (caller : Caller) (old new : Lowering) : Type 0 where
   pub begins : Begins caller.label (record closed { homes = caller.homes; back = caller.back; site = caller.site }) new
 
 -- the code of a call was added, up to where the caller goes on
-pub record Calls (P : Program) (number : ℕ) (es : List Expression) (old new : Lowering) : Type 0 where
+pub record Calls (P : Program) (into : Option ℕ) (number : ℕ) (es : List Expression) (old new : Lowering) : Type 0 where
   pub function : Function
   pub found : slice_get P.functions number ≡ Some function
   pub caller : Caller
   pub begun : Lowering
-  pub opens : OpensCall number function es caller old begun
+  pub opens : OpensCall into number function es caller old begun
   pub done : Lowering
   pub lowers : Leads P None function.body begun done
   pub closes : ClosesCall caller done new
-
--- ---- what follows a call
-
--- a step that stores the value of the call
-pub record Delivers (place : Place) (old new : Lowering) : Type 0 where
-  pub value : Operand
-  pub value_is : value ≡ current_operand (slice_get old.block.current (length old.variables)) (length old.variables) long_int
-  pub placed : OpenBlock
-  pub target : Target
-  pub places : Places old.homes place old.block placed target
-  pub stored : OpenBlock
-  pub stores : Stores target value placed stored
-  pub few : length placed.operations < 2 ^ 32 → length stored.operations < 2 ^ 32
-  pub is : new ≡ record old { block = record stored { steps = suc stored.steps } }
-
--- a step that returns it
-pub record HandsBack (old new : Lowering) : Type 0 where
-  pub back : Back
-  pub is_back : old.back ≡ Some back
-  pub value : Operand
-  pub value_is : value ≡ current_operand (slice_get old.block.current (length old.variables)) (length old.variables) long_int
-  pub returns : Returns back value old new
-
-abbrev pub Hands : Lowering → Lowering → Type 0
-Hands old new = EndsOutermost old new ⊎ HandsBack old new

@@ -37,7 +37,7 @@ fn element_number(
 ) -> Result<Operand, LoweringFault>
     ensures value { IfOk result (λ a. (object length : ℕ) → evaluating.Evaluates homes.now
         (acts.number_expression first (tree.ObjectPlace.Element object length (expression_of index.now))) block.old block.new a) }
-    ensures full { IfErr result (IsFull (length block.old.operations + (2 * expression_weight (expression_of index.now) + 2))) }
+    ensures full { IfErr result (IsFull (length block.old.operations + (3 * expression_weight (expression_of index.now) + 2))) }
 {
     let left = {
         let value = lower_expression(alloc, homes, block, index)?;
@@ -78,7 +78,7 @@ fn lower_object(
 ) -> Result<ActOperand, LoweringFault>
     ensures operand { IfOk result (λ o. o ≡ acts.number_operand variable first (object_place_of place.now)) }
     ensures puts { IfOk result (λ _. acts.PutsNumber homes.now variable first (object_place_of place.now) block.old block.new) }
-    ensures full { IfErr result (IsFull (length block.old.operations + 2 * object_place_weight (object_place_of place.now))) }
+    ensures full { IfErr result (IsFull (length block.old.operations + 3 * object_place_weight (object_place_of place.now))) }
 {
     match place {
         ObjectPlace::Single(_) => Ok(ActOperand::Constant(CType::LONG, i128::from(first))),
@@ -160,7 +160,7 @@ fn lower_value(
     call: &ThreadCall,
 ) -> Result<(), LoweringFault>
     ensures puts { IfOk result (λ _. acts.PutsIfAny homes.now variable (acts.values_of (thread_call_of call.now)) block.old block.new) }
-    ensures full { IfErr result (IsFull (length block.old.operations + (2 * thread_call_weight (thread_call_of call.now) + 1))) }
+    ensures full { IfErr result (IsFull (length block.old.operations + (3 * expressions_weight (acts.values_of (thread_call_of call.now)) + 1))) }
 {
     let Some(value) = value_of(call) else {
         return Ok(());
@@ -256,7 +256,7 @@ pub fn lower_print(
         (tree.Statement.Print offset (pieces_of format.now) (expressions_of arguments.now)) code.old code.new) }
     ensures full { IfErr result (IsFull
         (length code.old.block.operations + code.old.block.steps + length code.old.variables + code.old.site
-        + (2 * expressions_weight (expressions_of arguments.now) + 2 * length arguments.now + 1))) }
+        + (3 * expressions_weight (expressions_of arguments.now) + 2 * length arguments.now + 1))) }
 {
     let first = code.first_word()?;
     {

@@ -20,26 +20,29 @@ use code_places::targets::Back;
 use hls_ints::CType;
 use std::alloc::{AllocError, Global};
 
-/// The value that a caller gets, if any, stands in the variable for it.
+/// The value that a caller gets, if any, stands in the variable where the caller keeps it.
 fn put_returned(
     alloc: Global,
     block: &mut OpenBlock,
-    word: u32,
+    into: Option<u32>,
     returns: ReturnType,
     value: &Operand,
 ) -> Result<(), AllocError>
-    ensures { IfOk result (λ _. calling.PutsReturned word returns value.now block.old block.new) }
+    ensures { IfOk result (λ _. calling.PutsReturned into returns value.now block.old block.new) }
 {
+    let Some(variable) = into else {
+        return Ok(());
+    };
     if let ReturnType::Integer(ty) = returns {
         let value = converted(alloc, value, ty)?;
         let value = converted(alloc, &value, CType::LONG)?;
-        block.set(word, value)?;
+        block.set(variable, value)?;
     }
     Ok(())
 }
 
 /// A step that returns the value to the caller.
-pub fn return_value(
+fn return_value(
     alloc: Global,
     code: &mut Lowering,
     back: Back,
@@ -47,10 +50,9 @@ pub fn return_value(
 ) -> Result<(), LoweringFault>
     requires { IsTarget back.label code.old.stages }
     ensures returns { OnOk result (calling.Returns back value.now code.old code.new) }
-    ensures full { IfErr result (IsFull (length code.old.variables + code.old.block.steps + 1)) }
+    ensures full { IfErr result (IsFull (code.old.block.steps + 1)) }
 {
-    let word = code.first_word()?;
-    put_returned(alloc, &mut code.block, word, back.returns, value)?;
+    put_returned(alloc, &mut code.block, back.into, back.returns, value)?;
     code.block.step()?;
     code.jump(alloc, back.label)?;
     Ok(())
@@ -98,7 +100,7 @@ pub fn lower_return(
     ensures labels { OnOk result ((around : _) → doing.Proceeds around code.old code.new) }
     ensures lowers { OnOk result ((offset : ℕ) (P : _) (around : _) → doing.LowersHere P around (calling.return_of offset (expression_of right.now)) code.old code.new) }
     ensures full { IfErr result (IsFull
-        (length code.old.block.operations + code.old.block.steps + length code.old.variables + (2 * expression_weight (expression_of right.now) + 1))) }
+        (length code.old.block.operations + code.old.block.steps + (3 * expression_weight (expression_of right.now) + 1))) }
 {
     match code.back {
         None => {

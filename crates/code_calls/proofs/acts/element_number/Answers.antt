@@ -26,8 +26,8 @@ returns-in_err-value c =
       value = rw p.1 tt;
       full =
           rw (p.1, p.2)
-          (full_more _ (length c.args.block.now.operations + (2 * expression_weight (expression_of c.args.index.now) + 1))
-          (length c.args.block.now.operations + (2 * expression_weight (expression_of c.args.index.now) + 2)) (omega arith) c.in_err-value.ensures.full);
+          (full_more _ (length c.args.block.now.operations + (3 * expression_weight (expression_of c.args.index.now) + 1))
+          (length c.args.block.now.operations + (3 * expression_weight (expression_of c.args.index.now) + 2)) (omega arith) c.in_err-value.ensures.full);
     }
 
 pub returns-in_err-left : goal.returns-in_err-left
@@ -44,5 +44,5 @@ returns-in_err-number c =
       full =
           rw (p.1, p.2)
           (full_more _ (length c.lower_expression.new.block.operations + 1)
-          (length c.args.block.now.operations + (2 * expression_weight (expression_of c.args.index.now) + 2)) (omega (arith, count)) c.in_err-number.ensures.full);
+          (length c.args.block.now.operations + (3 * expression_weight (expression_of c.args.index.now) + 2)) (omega (arith, count)) c.in_err-number.ensures.full);
     }

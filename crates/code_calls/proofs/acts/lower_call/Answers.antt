@@ -1,8 +1,9 @@
 use Rattle.std.proofs.Common.{◌+◌, ◌*◌, length, ap, arith}
 use Rattle.std.proofs.lemmas.Result.{err_from_is_err_and}
 use Rattle.c_program.specs.Plain.{object_place_of, thread_call_of}
-use Rattle.c_program.specs.Weight.{object_place_weight, thread_call_weight}
+use Rattle.c_program.specs.Weight.{expressions_weight, object_place_weight, thread_call_weight}
 use Rattle.code_blocks.proofs.Room.{full_more}
+use Rattle.code_calls.specs.Acts.{values_of}
 use Rattle.code_calls.proofs.ReadyOperands.{call_prepares, call_works, call_act}
 use Rattle.code_calls.proofs.Typed.{weight_is, number_count}
 use Rattle.code_calls.proofs.acts.lower_call.Goals as goal
@@ -35,7 +36,7 @@ returns-in_err-object c =
       typed = rw p.1 tt;
       full =
           rw (p.1, p.2)
-          (full_more _ (length c.args.block.now.operations + 2 * object_place_weight (object_place_of c.place_of.result.now))
+          (full_more _ (length c.args.block.now.operations + 3 * object_place_weight (object_place_of c.place_of.result.now))
           (length c.args.block.now.operations + c.args.first + 4 * (thread_call_weight (thread_call_of c.args.call.now) + 1)) (omega (arith, weighs, place)) c.in_err-object.ensures.full);
     }
 
@@ -64,6 +65,6 @@ returns-in_err-lower_value c =
       typed = rw p.1 tt;
       full =
           rw (p.1, p.2)
-          (full_more _ (length c.lower_object.new.block.operations + (2 * thread_call_weight (thread_call_of c.args.call.now) + 1))
+          (full_more _ (length c.lower_object.new.block.operations + (3 * expressions_weight (values_of (thread_call_of c.args.call.now)) + 1))
           (length c.args.block.now.operations + c.args.first + 4 * (thread_call_weight (thread_call_of c.args.call.now) + 1)) (omega (arith, weighs, place, count)) c.in_err-lower_value.ensures.full);
     }

@@ -31,8 +31,8 @@ returns-in_err-number-in-Element c =
       puts = rw p.1 tt;
       full =
           rw (p.1, p.2)
-          (full_more _ (length c.args.block.now.operations + (2 * expression_weight (expression_of c.deref.result.now) + 2))
-          (length c.args.block.now.operations + 2 * object_place_weight (object_place_of c.args.place.now)) (omega (arith, weighs)) c.in_err-number-in-Element.ensures.full);
+          (full_more _ (length c.args.block.now.operations + (3 * expression_weight (expression_of c.deref.result.now) + 2))
+          (length c.args.block.now.operations + 3 * object_place_weight (object_place_of c.args.place.now)) (omega (arith, weighs)) c.in_err-number-in-Element.ensures.full);
     }
 
 pub returns-in_err-put_word-in-Element : goal.returns-in_err-put_word-in-Element

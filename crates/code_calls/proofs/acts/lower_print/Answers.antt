@@ -44,7 +44,7 @@ returns-in_err-first c =
           rw (p.1, p.2)
           (full_more _ (length c.args.code.now.variables + 1)
           (length c.args.code.now.block.operations + c.args.code.now.block.steps + length c.args.code.now.variables + c.args.code.now.site
-          + (2 * expressions_weight (expressions_of c.args.arguments.now) + 2 * length c.args.arguments.now + 1))
+          + (3 * expressions_weight (expressions_of c.args.arguments.now) + 2 * length c.args.arguments.now + 1))
           (omega arith) c.in_err-first.ensures.full);
     }
 
@@ -61,9 +61,9 @@ returns-in_err-lower_values c =
       lowers = rw p.1 tt;
       full =
           rw (p.1, p.2)
-          (full_more _ (length c.args.code.now.block.operations + (2 * expressions_weight (expressions_of c.args.arguments.now) + length c.args.arguments.now) + (c.in_ok-first.first + length c.args.arguments.now))
+          (full_more _ (length c.args.code.now.block.operations + (3 * expressions_weight (expressions_of c.args.arguments.now) + length c.args.arguments.now) + (c.in_ok-first.first + length c.args.arguments.now))
           (length c.args.code.now.block.operations + c.args.code.now.block.steps + length c.args.code.now.variables + c.args.code.now.site
-          + (2 * expressions_weight (expressions_of c.args.arguments.now) + 2 * length c.args.arguments.now + 1))
+          + (3 * expressions_weight (expressions_of c.args.arguments.now) + 2 * length c.args.arguments.now + 1))
           (let word = c.in_ok-first.ensures.word in omega (arith, word)) c.in_err-lower_values.ensures.full);
     }
 
@@ -77,7 +77,7 @@ returns-in_err-step c =
           rw (p.1, p.2)
           (full_more _ (c.lower_values.new.block.steps + 1)
           (length c.args.code.now.block.operations + c.args.code.now.block.steps + length c.args.code.now.variables + c.args.code.now.site
-          + (2 * expressions_weight (expressions_of c.args.arguments.now) + 2 * length c.args.arguments.now + 1))
+          + (3 * expressions_weight (expressions_of c.args.arguments.now) + 2 * length c.args.arguments.now + 1))
           (let steps = c.in_ok-lower_values.ensures.puts.steps in omega (arith, steps)) c.in_err-step.ensures.full);
     }
 
@@ -91,7 +91,7 @@ returns-in_err-values c =
           rw (p.1, p.2)
           (full_more _ (c.in_ok-first.first + length c.args.arguments.now)
           (length c.args.code.now.block.operations + c.args.code.now.block.steps + length c.args.code.now.variables + c.args.code.now.site
-          + (2 * expressions_weight (expressions_of c.args.arguments.now) + 2 * length c.args.arguments.now + 1))
+          + (3 * expressions_weight (expressions_of c.args.arguments.now) + 2 * length c.args.arguments.now + 1))
           (let word = c.in_ok-first.ensures.word in omega (arith, word)) c.in_err-values.ensures.full);
     }
 
@@ -105,7 +105,7 @@ returns-in_err-skip_sites c =
           rw (p.1, p.2)
           (full_more _ (c.args.code.now.site + 1)
           (length c.args.code.now.block.operations + c.args.code.now.block.steps + length c.args.code.now.variables + c.args.code.now.site
-          + (2 * expressions_weight (expressions_of c.args.arguments.now) + 2 * length c.args.arguments.now + 1))
+          + (3 * expressions_weight (expressions_of c.args.arguments.now) + 2 * length c.args.arguments.now + 1))
           (omega arith) c.in_err-skip_sites.ensures.full);
     }
 

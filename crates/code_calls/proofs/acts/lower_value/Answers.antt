@@ -2,11 +2,10 @@ use Rattle.std.proofs.Common.{◌≡◌, ◌+◌, ◌*◌, [], length, ap, ◌�
 use Rattle.std.proofs.lemmas.List.Sums.{sum_by-cons}
 use Rattle.std.proofs.lemmas.Result.{err_from_is_err_and}
 use Rattle.c_program.specs.Plain.{expression_of, thread_call_of}
-use Rattle.c_program.specs.Weight.{expression_weight, expressions_weight, thread_call_weight}
+use Rattle.c_program.specs.Weight.{expression_weight, expressions_weight}
 use Rattle.code_blocks.proofs.Room.{full_more}
 use Rattle.code_calls.specs.Acts.{values_of}
 use Rattle.code_calls.proofs.ReadyOperands.{none_put, value_put, puts_word}
-use Rattle.code_calls.proofs.Typed.{weight_is}
 use Rattle.code_calls.proofs.acts.lower_value.Goals as goal
 
 pub returns-in_default : goal.returns-in_default
@@ -30,14 +29,13 @@ returns-in_err-value c =
     let p = err_from_is_err_and c.from_residual.result c.from_residual.ensures.1 in
     let call = thread_call_of c.args.call.now in
     let e = expression_of c.in-Some.value.now in
-    let weighs = weight_is call in
     let sum : expressions_weight (values_of call) ≡ expression_weight e + expressions_weight [] = ap expressions_weight c.in-Some.ensures.some ∙ sum_by-cons expression_weight e [] in
     record {
       puts = rw p.1 tt;
       full =
           rw (p.1, p.2)
-          (full_more _ (length c.args.block.now.operations + (2 * expression_weight e + 1))
-          (length c.args.block.now.operations + (2 * thread_call_weight call + 1)) (omega (arith, weighs, sum)) c.in_err-value.ensures.full);
+          (full_more _ (length c.args.block.now.operations + (3 * expression_weight e + 1))
+          (length c.args.block.now.operations + (3 * expressions_weight (values_of call) + 1)) (omega (arith, sum)) c.in_err-value.ensures.full);
     }
 
 pub returns-in_err-put_word : goal.returns-in_err-put_word

@@ -38,8 +38,8 @@ returns-in_ok-value-in-Some c =
           IfErr-weaker c.return_value.result _ _
           (λ fault.
           let steps = ap (λ (z : OpenBlock). z.steps) c.in_ok-value-in-Some.ensures.value.added in
-          full_more fault (length c.args.code.now.variables + c.lower_expression.new.block.steps + 1)
-          (length c.args.code.now.block.operations + c.args.code.now.block.steps + length c.args.code.now.variables + (2 * expression_weight (expression_of c.args.right.now) + 1))
+          full_more fault (c.lower_expression.new.block.steps + 1)
+          (length c.args.code.now.block.operations + c.args.code.now.block.steps + (3 * expression_weight (expression_of c.args.right.now) + 1))
           (omega (arith, steps)))
           c.return_value.ensures.full;
     }
@@ -55,7 +55,7 @@ returns-in_err-value-in-Some c =
     record {
       labels = rw p.1 tt;
       lowers = rw p.1 tt;
-      full = rw (p.1, p.2) (full_more _ (length c.args.code.now.block.operations + (2 * expression_weight (expression_of c.args.right.now) + 1))
-          (length c.args.code.now.block.operations + c.args.code.now.block.steps + length c.args.code.now.variables + (2 * expression_weight (expression_of c.args.right.now) + 1))
+      full = rw (p.1, p.2) (full_more _ (length c.args.code.now.block.operations + (3 * expression_weight (expression_of c.args.right.now) + 1))
+          (length c.args.code.now.block.operations + c.args.code.now.block.steps + (3 * expression_weight (expression_of c.args.right.now) + 1))
           (omega arith) c.in_err-value-in-Some.ensures.full);
     }
