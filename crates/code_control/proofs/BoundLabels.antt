@@ -1,7 +1,7 @@
 -- The labels of an if and of loops get their places.
 use Rattle.std.proofs.Common.{◌≡◌, ℕ, suc, ◌<◌, [], ◌∷◌, length, None, sym, ap, ◌∙◌, subst, inl, inr, arith, length-append}
 use Rattle.std.proofs.lemmas.Option.{slice_get_within}
-use Rattle.c_program.specs.Tree.{Condition}
+use Rattle.c_program.specs.Tree.{Statement}
 use Rattle.code_control.specs.declared.branching.ChoiceLabels.{ChoiceLabels}
 use Rattle.code_control.specs.declared.branching.LoopLabels.{LoopLabels}
 use Rattle.code_places.specs.declared.stages.Stages.{Stages}
@@ -79,7 +79,7 @@ loop_new l a b c two relabels more =
 pub open_target : (label : ℕ) (s : Stages) → IsOpen label s → IsTarget label s
 open_target label s o = inl o
 
-pub choice_open : (d : Condition) (l : ChoiceLabels) (old labelled decided : Lowering) → AreChoice l old labelled → Decides d l.if_true l.if_false labelled decided → IsOpen l.if_true decided.stages
+pub choice_open : (d : Statement) (l : ChoiceLabels) (old labelled decided : Lowering) → AreChoice l old labelled → Decides d l.if_true l.if_false labelled decided → IsOpen l.if_true decided.stages
 choice_open d l old labelled decided labels decides = decides.advances.open_ l.if_true (λ m. m) labels.if_true.open_
 
 pub leaps_open : (label other : ℕ) (old new : Lowering) → Leaps label old new → IsOpen other old.stages → IsOpen other new.stages
@@ -89,14 +89,14 @@ pub begun_new : (l : LoopLabels) (label : ℕ) (old begun : Lowering) → (opens
 begun_new l label old begun opens lt n =
     record { after = n.after; open_ = (begins_advance l.head opens.labelled begun opens.begins).open_ label (λ e. absurd (omega (arith, lt, e))) n.open_ }
 
-pub body_open : (d : Condition) (l : LoopLabels) (old begun decided : Lowering) → OpensLoop l old begun → Decides d l.body l.leaving begun decided → IsOpen l.body decided.stages
+pub body_open : (d : Statement) (l : LoopLabels) (old begun decided : Lowering) → OpensLoop l old begun → Decides d l.body l.leaving begun decided → IsOpen l.body decided.stages
 body_open d l old begun decided opens decides = decides.advances.open_ l.body (λ m. m) (begun_new l l.body old begun opens opens.labels.first opens.labels.body).open_
 
-pub asks_advance : (d : Condition) (l : LoopLabels) (old new : Lowering) → Asks d l old new → Advances None_ old.stages new.stages
+pub asks_advance : (d : Statement) (l : LoopLabels) (old new : Lowering) → Asks d l old new → Advances None_ old.stages new.stages
 asks_advance d l old new (inl p) = subst (λ (z : Lowering). Advances None_ old.stages z.stages) (sym p.same) (advances_refl None_ old.stages)
 asks_advance d l old new (inr p) = p.decides.advances
 
-pub leaving_open : (d : Condition) (l : LoopLabels) (old turned asked : Lowering) → l.turning < l.leaving → IsOpen l.leaving old.stages → Binds l.turning old turned → Asks d l turned asked →
+pub leaving_open : (d : Statement) (l : LoopLabels) (old turned asked : Lowering) → l.turning < l.leaving → IsOpen l.leaving old.stages → Binds l.turning old turned → Asks d l turned asked →
     IsOpen l.leaving asked.stages
 leaving_open d l old turned asked lt o binds asks =
     (asks_advance d l turned asked asks).open_ l.leaving (λ m. m) ((binds_advance l.turning old turned binds).open_ l.leaving (λ e. absurd (omega (arith, lt, e))) o)

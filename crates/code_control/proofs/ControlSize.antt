@@ -2,11 +2,11 @@
 use Rattle.std.proofs.Common.{◌≡◌, ℕ, ◌+◌, ◌*◌, ◌≤◌, true, false, [], ◌++◌, length, None, Some, refl, sym, ap, ◌∙◌, subst, arith, append-nil, append_assoc, length-append}
 use Rattle.std.specs.Prelude.{Option, Contains}
 use Rattle.std.proofs.lemmas.List.Elements.{Contains-append_left, Contains-append_right}
-use Rattle.c_program.specs.Tree.{Expression, Condition, Statement, Program}
+use Rattle.c_program.specs.Tree.{Expression, Statement, Program}
 use Rattle.c_program.specs.Limits.{print_count}
 use Rattle.c_program.specs.Calls.{calls_of}
-use Rattle.c_program.specs.Weight.{expression_weight, condition_weight}
-use Rattle.c_program.specs.Resolved.{IsCondition, IsStatement}
+use Rattle.c_program.specs.Weight.{expression_weight}
+use Rattle.c_program.specs.Resolved.{IsCondition, Around, IsStatement, nowhere, within, in_loop}
 use Rattle.thread_semantics.specs.Work.{Loop as WorkLoop, while_loop}
 use Rattle.code_following.specs.Following.{formats_of, print_formats}
 use Rattle.code_places.specs.declared.targets.Loop.{Loop}
@@ -35,35 +35,35 @@ use Rattle.code_control.proofs.BoundLabels.{labels_of}
 -- Conditions.
 
 -- the place before the condition is another
-pub shifted_at : (d : Condition) (more : ℕ) (old mid : Lowering) (fault : LoweringFault) → Shifts old mid → IsFullAt d more mid fault → IsFullAt d more old fault
+pub shifted_at : (d : Statement) (more : ℕ) (old mid : Lowering) (fault : LoweringFault) → Shifts old mid → IsFullAt d more mid fault → IsFullAt d more old fault
 shifted_at d more old mid fault shifts full = λ S w size fits is good now.
     full S w size (subst (Fits S) (sym shifts.grows.homes) fits) is (shifts.grows.good size good) (shifts.typed S w size good now)
 
-pub opposite_at : (d inner : Condition) (c : Lowering) (fault : LoweringFault) → d ≡ Condition.Opposite inner → IsFullAt inner 0 c fault → IsFullAt d 0 c fault
+pub opposite_at : (d inner : Statement) (c : Lowering) (fault : LoweringFault) → d ≡ Statement.Opposite inner → IsFullAt inner 0 c fault → IsFullAt d 0 c fault
 opposite_at d inner c fault is full = rw is (λ S w size fits ok good now.
-    full_more fault (5 * (w + (condition_weight inner + 1)) + 0) (5 * (w + (condition_weight inner + 1 + 1)) + 0) (omega arith) (full S w size fits ok good now))
+    full_more fault (5 * (w + (inlined_weight S.program inner + 1)) + 0) (5 * (w + (inlined_weight S.program inner + 1 + 1)) + 0) (omega arith) (full S w size fits ok good now))
 
 -- the operand of a condition of one
-pub operand_at : (d : Condition) (offset : ℕ) (e : Expression) (c : Lowering) (fault : LoweringFault) → d ≡ Condition.Operand offset e →
-    IsFull (length c.block.operations + c.block.steps + (2 * expression_weight e + 1)) fault → IsFullAt d 0 c fault
-operand_at d offset e c fault is full = rw is (λ S w size fits ok good now.
+pub test_at : (d : Statement) (offset : ℕ) (e : Expression) (c : Lowering) (fault : LoweringFault) → d ≡ Statement.Test offset e →
+    IsFull (length c.block.operations + c.block.steps + (3 * expression_weight e + 1)) fault → IsFullAt d 0 c fault
+test_at d offset e c fault is full = rw is (λ S w size fits ok good now.
     let operations = now.size in
     let steps = now.steps in
-    full_more fault (length c.block.operations + c.block.steps + (2 * expression_weight e + 1)) (5 * (w + (expression_weight e + 1)) + 0) (omega (arith, operations, steps)) full)
+    full_more fault (length c.block.operations + c.block.steps + (3 * expression_weight e + 1)) (5 * (w + (expression_weight e + 1)) + 0) (omega (arith, operations, steps)) full)
 
 labelled : (old a : Lowering) → a ≡ with_label old → Shifts old a
 labelled old a label = subst (Shifts old) (sym label) (label_relabels old).shifts
 
 -- the first operand of a condition of two
-pub first_at : (e c d : Condition) (old a : Lowering) (fault : LoweringFault) → condition_weight e ≡ condition_weight c + condition_weight d + 1 →
+pub first_at : (e c d : Statement) (old a : Lowering) (fault : LoweringFault) → ((P : Program) → inlined_weight P e ≡ inlined_weight P c + inlined_weight P d + 1) →
     ((S : Typing) → IsCondition S.program S.function e → IsCondition S.program S.function c × IsCondition S.program S.function d) → a ≡ with_label old →
     IsFullAt c 0 a fault → IsFullAt e 0 old fault
 first_at e c d old a fault weighs parts label full = λ S w size fits ok good now.
-    full_more fault (5 * (w + (condition_weight c + 1)) + 0) (5 * (w + (condition_weight e + 1)) + 0) (omega (arith, weighs))
+    full_more fault (5 * (w + (inlined_weight S.program c + 1)) + 0) (5 * (w + (inlined_weight S.program e + 1)) + 0) (let sum = weighs S.program in omega (arith, sum))
     (shifted_at c 0 old a fault (labelled old a label) full S w size fits (parts S ok).0 good now)
 
 -- the second, behind the first
-pub second_at : (e c d : Condition) (next x y : ℕ) (old a m b : Lowering) (fault : LoweringFault) → condition_weight e ≡ condition_weight c + condition_weight d + 1 →
+pub second_at : (e c d : Statement) (next x y : ℕ) (old a m b : Lowering) (fault : LoweringFault) → ((P : Program) → inlined_weight P e ≡ inlined_weight P c + inlined_weight P d + 1) →
     ((S : Typing) → IsCondition S.program S.function e → IsCondition S.program S.function c × IsCondition S.program S.function d) → a ≡ with_label old →
     Decides c x y a m → Begins next m b → IsFullAt d 0 b fault → IsFullAt e 0 old fault
 second_at e c d next x y old a m b fault weighs parts label first begins full = λ S w size fits ok good now.
@@ -74,21 +74,22 @@ second_at e c d next x y old a m b fault weighs parts label first begins full = 
     let good_m = to_m.good size good_a in
     let fits_a = subst (Fits S) (sym to_a.grows.homes) fits in
     let now_m = first.typed S w size fits_a (parts S ok).0 good_a (to_a.typed S w size good now) in
-    full_more fault (5 * (w + (condition_weight c + 1) + (condition_weight d + 1)) + 0) (5 * (w + (condition_weight e + 1)) + 0) (omega (arith, weighs))
-    (full S (w + (condition_weight c + 1)) size (subst (Fits S) (sym (to_b.grows.homes ∙ to_m.homes)) fits_a) (parts S ok).1 (to_b.grows.good size good_m)
-    (to_b.typed S (w + (condition_weight c + 1)) size good_m now_m))
+    full_more fault (5 * (w + (inlined_weight S.program c + 1) + (inlined_weight S.program d + 1)) + 0) (5 * (w + (inlined_weight S.program e + 1)) + 0)
+    (let sum = weighs S.program in omega (arith, sum))
+    (full S (w + (inlined_weight S.program c + 1)) size (subst (Fits S) (sym (to_b.grows.homes ∙ to_m.homes)) fits_a) (parts S ok).1 (to_b.grows.good size good_m)
+    (to_b.typed S (w + (inlined_weight S.program c + 1)) size good_m now_m))
 
 -- the parts of loops
 
-pub turn_at : (d : Condition) (l : LoopLabels) (old begun : Lowering) (fault : LoweringFault) → OpensLoop l old begun → IsFullAt d 0 begun fault → IsFullAt d 0 old fault
+pub turn_at : (d : Statement) (l : LoopLabels) (old begun : Lowering) (fault : LoweringFault) → OpensLoop l old begun → IsFullAt d 0 begun fault → IsFullAt d 0 old fault
 turn_at d l old begun fault opens full = shifted_at d 0 old begun fault (loop_shifts l old begun opens) full
 
-pub bound_at : (d : Condition) (label : ℕ) (old turned : Lowering) (fault : LoweringFault) → Binds label old turned → IsFullAt d 0 turned fault → IsFullAt d 0 old fault
+pub bound_at : (d : Statement) (label : ℕ) (old turned : Lowering) (fault : LoweringFault) → Binds label old turned → IsFullAt d 0 turned fault → IsFullAt d 0 old fault
 bound_at d label old turned fault binds full = shifted_at d 0 old turned fault (binds_shifts label old turned binds) full
 
-pub sited_at : (d : Condition) (more n : ℕ) (c mid : Lowering) (fault : LoweringFault) → mid ≡ at_site n c → IsFullAt d 0 mid fault → IsFullAt d more c fault
+pub sited_at : (d : Statement) (more n : ℕ) (c mid : Lowering) (fault : LoweringFault) → mid ≡ at_site n c → IsFullAt d 0 mid fault → IsFullAt d more c fault
 sited_at d more n c mid fault is full = λ S w size fits ok good now.
-    full_more fault (5 * (w + (condition_weight d + 1)) + 0) (5 * (w + (condition_weight d + 1)) + more) (omega arith)
+    full_more fault (5 * (w + (inlined_weight S.program d + 1)) + 0) (5 * (w + (inlined_weight S.program d + 1)) + more) (omega arith)
     (subst (λ (z : Lowering). IsFullAt d 0 z fault) is full S w size fits ok ((site_grows n c).good size good) (site_typed n c S w now))
 
 -- Statements that have no others in them.
@@ -117,32 +118,32 @@ module _ (P : Program) (depth : ℕ) where
   -- a part of a statement, behind code that weighs so much
   module _ (s t : Statement) (old c : Lowering) (fault : LoweringFault) (full : IsFullFor P depth t c fault) (grows : Grows old c) (S : Typing) (w v size : ℕ) (suits : SuitsTyping P S size s old)
       (deep : IsDeep S.program S.function depth) where
-    part_for : (in_loop : _) → ((g : ℕ) → Contains (calls_of t) g → Contains (calls_of s) g) → most_values t ≤ most_values s →
-        IsStatement S.program S.function in_loop t → HasSites S.program t c.site → IsTypedNow S v c →
+    part_for : (around : Around) → ((g : ℕ) → Contains (calls_of t) g → Contains (calls_of s) g) → most_values t ≤ most_values s →
+        IsStatement S.program S.function around t → HasSites S.program t c.site → IsTypedNow S v c →
         v + inlined_weight S.program t ≤ w + inlined_weight S.program s → IsFull (needed S size (w + inlined_weight S.program s)) fault
-    part_for in_loop calls most resolved sites now le =
+    part_for around calls most resolved sites now le =
         full_more fault (needed S size (v + inlined_weight S.program t)) (needed S size (w + inlined_weight S.program s)) (omega (arith, le))
-        (full S v size (typing_part P S size s t old c grows suits in_loop most resolved sites calls) deep now)
+        (full S v size (typing_part P S size s t old c grows suits around most resolved sites calls) deep now)
 
   -- a condition in a statement
-  condition_for : (s : Statement) (d : Condition) (more : ℕ) (c : Lowering) (fault : LoweringFault) → IsFullAt d more c fault → (S : Typing) (w v size : ℕ) → Fits S c.homes →
-      IsCondition S.program S.function d → IsGood size c → IsTypedNow S v c → v + condition_weight d + 1 ≤ w + inlined_weight S.program s → more ≤ length (print_formats S.program) →
+  condition_for : (s : Statement) (d : Statement) (more : ℕ) (c : Lowering) (fault : LoweringFault) → IsFullAt d more c fault → (S : Typing) (w v size : ℕ) → Fits S c.homes →
+      IsCondition S.program S.function d → IsGood size c → IsTypedNow S v c → v + inlined_weight S.program d + 1 ≤ w + inlined_weight S.program s → more ≤ length (print_formats S.program) →
       IsFull (needed S size (w + inlined_weight S.program s)) fault
   condition_for s d more c fault full S w v size fits is good now le few =
-      full_more fault (5 * (v + (condition_weight d + 1)) + more) (needed S size (w + inlined_weight S.program s)) (omega (arith, le, few)) (full S v size fits is good now)
+      full_more fault (5 * (v + (inlined_weight S.program d + 1)) + more) (needed S size (w + inlined_weight S.program s)) (omega (arith, le, few)) (full S v size fits is good now)
 
   pub sequence_first : (a b : Statement) (old : Lowering) (fault : LoweringFault) → IsFullFor P depth a old fault → IsFullFor P depth (Statement.Sequence a b) old fault
   sequence_first a b old fault full = λ S w size suits deep now.
-      part_for (Statement.Sequence a b) a old old fault full (grows_refl old) S w w size suits deep suits.in_loop
+      part_for (Statement.Sequence a b) a old old fault full (grows_refl old) S w w size suits deep suits.around
       (Contains-append_left (calls_of a) (calls_of b)) (omega arith) suits.resolved.0
       (part_sites S.program (Statement.Sequence a b) a [] (formats_of b) old.site old.site suits.sites refl (omega arith)) now (omega arith)
 
   pub sequence_rest : (around : Option Loop) (a b : Statement) (old mid : Lowering) (fault : LoweringFault) → Leads P around a old mid → IsFullFor P depth b mid fault →
       IsFullFor P depth (Statement.Sequence a b) old fault
   sequence_rest around a b old mid fault first full = λ S w size suits deep now.
-      let before = typing_part P S size (Statement.Sequence a b) a old old (grows_refl old) suits suits.in_loop (omega arith) suits.resolved.0
+      let before = typing_part P S size (Statement.Sequence a b) a old old (grows_refl old) suits suits.around (omega arith) suits.resolved.0
       (part_sites S.program (Statement.Sequence a b) a [] (formats_of b) old.site old.site suits.sites refl (omega arith)) (Contains-append_left (calls_of a) (calls_of b)) in
-      part_for (Statement.Sequence a b) b old mid fault full first.grows S w (w + inlined_weight S.program a) size suits deep suits.in_loop
+      part_for (Statement.Sequence a b) b old mid fault full first.grows S w (w + inlined_weight S.program a) size suits deep suits.around
       (Contains-append_right (calls_of a) (calls_of b)) (omega arith) suits.resolved.1
       (part_sites S.program (Statement.Sequence a b) b (formats_of a) [] old.site mid.site suits.sites (ap (λ l. formats_of a ++ l) (sym (append-nil (formats_of b))))
       (let l = formats_length a in let e = first.site in omega (arith, l, e)))
@@ -150,19 +151,25 @@ module _ (P : Program) (depth : ℕ) where
 
   pub block_for : (s body : Statement) (old : Lowering) (fault : LoweringFault) → s ≡ Statement.Block body → IsFullFor P depth body old fault → IsFullFor P depth s old fault
   block_for s body old fault is full = rw is (λ S w size suits deep now.
-      part_for (Statement.Block body) body old old fault full (grows_refl old) S w w size suits deep suits.in_loop (λ g c. c) (omega arith) suits.resolved
+      part_for (Statement.Block body) body old old fault full (grows_refl old) S w w size suits deep (within suits.around) (λ g c. c) (omega arith) suits.resolved
       (part_sites S.program (Statement.Block body) body [] [] old.site old.site suits.sites (sym (append-nil (formats_of body))) (omega arith)) now (omega arith))
 
   -- an if
 
-  pub choice_condition : (s : Statement) (d : Condition) (one other : Statement) (old : Lowering) (fault : LoweringFault) → s ≡ Statement.If d one other → IsFullAt d 0 old fault →
+  pub choice_condition : (s : Statement) (d : Statement) (one other : Statement) (old : Lowering) (fault : LoweringFault) → s ≡ Statement.If d one other → IsFullAt d 0 old fault →
       IsFullFor P depth s old fault
   choice_condition s d one other old fault is full = rw is (λ S w size suits deep now.
       condition_for (Statement.If d one other) d 0 old fault full S w w size suits.fits suits.resolved.0 suits.good now (omega arith) (omega arith))
 
-  module _ (around : Option Loop) (d : Condition) (l : ChoiceLabels) (one other : Statement) (old a : Lowering) (opens : OpensChoice d l old a) where
+  module _ (around : Option Loop) (d : Statement) (l : ChoiceLabels) (one other : Statement) (old a : Lowering) (opens : OpensChoice d l old a) where
     abbrev choice : Statement
     choice = Statement.If d one other
+
+    one_called : (g : ℕ) → Contains (calls_of one) g → Contains (calls_of choice) g
+    one_called g c = Contains-append_right (calls_of d) (calls_of one ++ calls_of other) g (Contains-append_left (calls_of one) (calls_of other) g c)
+
+    other_called : (g : ℕ) → Contains (calls_of other) g → Contains (calls_of choice) g
+    other_called g c = Contains-append_right (calls_of d) (calls_of one ++ calls_of other) g (Contains-append_right (calls_of one) (calls_of other) g c)
 
     to_decided : Grows opens.labelled opens.decided
     to_decided = decides_grows d l.if_true l.if_false opens.labelled opens.decided opens.decides
@@ -182,16 +189,16 @@ module _ (P : Program) (depth : ℕ) where
     one_sites : (Q : Program) → HasSites Q choice old.site → HasSites Q one a.site
     one_sites Q sites = part_sites Q choice one [] (formats_of other) old.site a.site sites refl (let x = a_site in omega (arith, x))
 
-    at_a : (S : Typing) (w size : ℕ) → SuitsTyping P S size choice old → IsTypedNow S w old → IsTypedNow S (w + (condition_weight d + 1)) a
+    at_a : (S : Typing) (w size : ℕ) → SuitsTyping P S size choice old → IsTypedNow S w old → IsTypedNow S (w + (inlined_weight S.program d + 1)) a
     at_a S w size suits now =
         let good = opens.relabels.shifts.grows.good size suits.good in
-        decided_a.typed S (w + (condition_weight d + 1)) size (to_decided.good size good)
+        decided_a.typed S (w + (inlined_weight S.program d + 1)) size (to_decided.good size good)
         (opens.decides.typed S w size (subst (Fits S) (sym opens.relabels.shifts.grows.homes) suits.fits) suits.resolved.0 good (opens.relabels.shifts.typed S w size suits.good now))
 
     pub choice_one : (fault : LoweringFault) → IsFullFor P depth one a fault → IsFullFor P depth choice old fault
     choice_one fault full = λ S w size suits deep now.
-        part_for choice one old a fault full old_a S w (w + (condition_weight d + 1)) size suits deep suits.in_loop
-        (Contains-append_left (calls_of one) (calls_of other)) (omega arith) suits.resolved.1
+        part_for choice one old a fault full old_a S w (w + (inlined_weight S.program d + 1)) size suits deep (within suits.around)
+        one_called (omega arith) suits.resolved.1
         (one_sites S.program suits.sites) (at_a S w size suits now) (omega arith)
 
     module _ (b e : Lowering) (first : Leads P around one a b) (turns : TurnsChoice l b e) where
@@ -203,47 +210,48 @@ module _ (P : Program) (depth : ℕ) where
 
       pub choice_other : (fault : LoweringFault) → IsFullFor P depth other e fault → IsFullFor P depth choice old fault
       choice_other fault full = λ S w size suits deep now.
-          let v = w + (condition_weight d + 1) in
-          let at_b = first.typed S v size (typing_part P S size choice one old a old_a suits suits.in_loop (omega arith) suits.resolved.1 (one_sites S.program suits.sites)
-          (Contains-append_left (calls_of one) (calls_of other))) (at_a S w size suits now) in
+          let v = w + (inlined_weight S.program d + 1) in
+          let at_b = first.typed S v size (typing_part P S size choice one old a old_a suits (within suits.around) (omega arith) suits.resolved.1 (one_sites S.program suits.sites)
+          one_called) (at_a S w size suits now) in
           let old_b = grows_both old a b old_a first.grows in
           let good_b = old_b.good size suits.good in
           let at_e = to_e.typed S (v + inlined_weight S.program one) size (to_mid.grows.good size good_b) (to_mid.typed S (v + inlined_weight S.program one) size good_b at_b) in
           part_for choice other old e fault full (grows_both old turns.mid e (grows_both old b turns.mid old_b to_mid.grows) to_e.grows) S w
-          (v + inlined_weight S.program one) size suits deep suits.in_loop
-          (Contains-append_right (calls_of one) (calls_of other)) (omega arith) suits.resolved.2
+          (v + inlined_weight S.program one) size suits deep (within suits.around)
+          other_called (omega arith) suits.resolved.2
           (part_sites S.program choice other (formats_of one) [] old.site e.site suits.sites (ap (λ z. formats_of one ++ z) (sym (append-nil (formats_of other))))
           (let c = formats_length one in let x = a_site in let y = first.site in let z = to_e.site ∙ to_mid.site in omega (arith, c, x, y, z)))
           at_e (omega arith)
 
-  pub one_for : (around : Option Loop) (s : Statement) (d : Condition) (one other : Statement) (l : ChoiceLabels) (old a : Lowering) (fault : LoweringFault) → s ≡ Statement.If d one other →
+  pub one_for : (around : Option Loop) (s : Statement) (d : Statement) (one other : Statement) (l : ChoiceLabels) (old a : Lowering) (fault : LoweringFault) → s ≡ Statement.If d one other →
       OpensChoice d l old a → IsFullFor P depth one a fault → IsFullFor P depth s old fault
   one_for around s d one other l old a fault is opens full = rw is (choice_one around d l one other old a opens fault full)
 
-  pub other_for : (around : Option Loop) (s : Statement) (d : Condition) (one other : Statement) (l : ChoiceLabels) (old a b e : Lowering) (fault : LoweringFault) → s ≡ Statement.If d one other →
+  pub other_for : (around : Option Loop) (s : Statement) (d : Statement) (one other : Statement) (l : ChoiceLabels) (old a b e : Lowering) (fault : LoweringFault) → s ≡ Statement.If d one other →
       OpensChoice d l old a → Leads P around one a b → TurnsChoice l b e → IsFullFor P depth other e fault → IsFullFor P depth s old fault
   other_for around s d one other l old a b e fault is opens lowers turns full = rw is (choice_other around d l one other old a opens b e lowers turns fault full)
 
   -- while
 
-  pub while_condition : (s : Statement) (d : Condition) (body : Statement) (old : Lowering) (fault : LoweringFault) → s ≡ Statement.While d body → IsFullAt d 0 old fault →
+  pub while_condition : (s : Statement) (d : Statement) (body : Statement) (old : Lowering) (fault : LoweringFault) → s ≡ Statement.While d body → IsFullAt d 0 old fault →
       IsFullFor P depth s old fault
   while_condition s d body old fault is full = rw is (λ S w size suits deep now.
       condition_for (Statement.While d body) d 0 old fault full S w w size suits.fits suits.resolved.0 suits.good now (omega arith) (omega arith))
 
-  pub while_body : (s : Statement) (d : Condition) (body : Statement) (l : LoopLabels) (old a : Lowering) (fault : LoweringFault) → s ≡ Statement.While d body → OpensTurn d l old a →
+  pub while_body : (s : Statement) (d : Statement) (body : Statement) (l : LoopLabels) (old a : Lowering) (fault : LoweringFault) → s ≡ Statement.While d body → OpensTurn d l old a →
       IsFullFor P depth body a fault → IsFullFor P depth s old fault
   while_body s d body l old a fault is opens full = rw is (λ S w size suits deep now.
       let loop = while_loop d body in
       let now_a = turn_typed loop l old a opens S w size suits.fits suits.resolved.0 suits.good now in
-      part_for (Statement.While d body) body old a fault full (turn_grows loop l old a opens) S w (w + (condition_weight d + 1)) size suits deep true (λ g c. c) (omega arith) suits.resolved.1
+      part_for (Statement.While d body) body old a fault full (turn_grows loop l old a opens) S w (w + (inlined_weight S.program d + 1)) size suits deep in_loop
+      (Contains-append_right (calls_of d) (calls_of body)) (omega arith) suits.resolved.1
       (part_sites S.program (Statement.While d body) body [] [] old.site a.site suits.sites (sym (append-nil (formats_of body)))
       (let x = turn_site loop l old a opens in omega (arith, x)))
       now_a (omega arith))
 
   -- do
 
-  module _ (d : Condition) (body : Statement) (l : LoopLabels) (old a : Lowering) (opens : OpensLoop l old a) where
+  module _ (d : Statement) (body : Statement) (l : LoopLabels) (old a : Lowering) (opens : OpensLoop l old a) where
     abbrev do_ : Statement
     do_ = Statement.DoWhile body d
 
@@ -255,45 +263,56 @@ module _ (P : Program) (depth : ℕ) where
 
     pub do_inner : (fault : LoweringFault) → IsFullFor P depth body a fault → IsFullFor P depth do_ old fault
     do_inner fault full = λ S w size suits deep now.
-        part_for do_ body old a fault full to_a.grows S w w size suits deep true (λ g c. c) (omega arith) suits.resolved.0 (do_sites S.program suits.sites)
+        part_for do_ body old a fault full to_a.grows S w w size suits deep in_loop (Contains-append_left (calls_of body) (calls_of d)) (omega arith) suits.resolved.0 (do_sites S.program suits.sites)
         (to_a.typed S w size suits.good now) (omega arith)
 
     pub do_asks : (b : Lowering) (fault : LoweringFault) → Leads P (Some (labels_of l)) body a b → IsFullAt d 0 b fault → IsFullFor P depth do_ old fault
     do_asks b fault inner full = λ S w size suits deep now.
-        let now_b = inner.typed S w size (typing_part P S size do_ body old a to_a.grows suits true (omega arith) suits.resolved.0 (do_sites S.program suits.sites) (λ g c. c))
+        let now_b = inner.typed S w size (typing_part P S size do_ body old a to_a.grows suits in_loop (omega arith) suits.resolved.0 (do_sites S.program suits.sites)
+        (Contains-append_left (calls_of body) (calls_of d)))
         (to_a.typed S w size suits.good now) in
         let old_b = grows_both old a b to_a.grows inner.grows in
         condition_for do_ d 0 b fault full S w (w + inlined_weight S.program body) size (subst (Fits S) (sym old_b.homes) suits.fits) suits.resolved.1 (old_b.good size suits.good) now_b (omega arith)
         (omega arith)
 
-  pub do_body : (s : Statement) (d : Condition) (body : Statement) (l : LoopLabels) (old a : Lowering) (fault : LoweringFault) → s ≡ Statement.DoWhile body d → OpensLoop l old a →
+  pub do_body : (s : Statement) (d : Statement) (body : Statement) (l : LoopLabels) (old a : Lowering) (fault : LoweringFault) → s ≡ Statement.DoWhile body d → OpensLoop l old a →
       IsFullFor P depth body a fault → IsFullFor P depth s old fault
   do_body s d body l old a fault is opens full = rw is (do_inner d body l old a opens fault full)
 
-  pub do_condition : (s : Statement) (d : Condition) (body : Statement) (l : LoopLabels) (old a b : Lowering) (fault : LoweringFault) → s ≡ Statement.DoWhile body d → OpensLoop l old a →
+  pub do_condition : (s : Statement) (d : Statement) (body : Statement) (l : LoopLabels) (old a b : Lowering) (fault : LoweringFault) → s ≡ Statement.DoWhile body d → OpensLoop l old a →
       Leads P (Some (labels_of l)) body a b → IsFullAt d 0 b fault → IsFullFor P depth s old fault
   do_condition s d body l old a b fault is opens lowers full = rw is (do_asks d body l old a opens b fault lowers full)
 
   -- for
 
-  module _ (first_ : Statement) (d : Condition) (last body : Statement) (old : Lowering) where
+  module _ (first_ : Statement) (d : Statement) (last body : Statement) (old : Lowering) where
     abbrev for_ : Statement
     for_ = Statement.For first_ d last body
+
+    last_called : (g : ℕ) → Contains (calls_of last) g → Contains (calls_of for_) g
+    last_called g c =
+        Contains-append_right (calls_of first_) (calls_of d ++ (calls_of last ++ calls_of body)) g
+        (Contains-append_right (calls_of d) (calls_of last ++ calls_of body) g (Contains-append_left (calls_of last) (calls_of body) g c))
+
+    body_called : (g : ℕ) → Contains (calls_of body) g → Contains (calls_of for_) g
+    body_called g c =
+        Contains-append_right (calls_of first_) (calls_of d ++ (calls_of last ++ calls_of body)) g
+        (Contains-append_right (calls_of d) (calls_of last ++ calls_of body) g (Contains-append_right (calls_of last) (calls_of body) g c))
 
     first_sites : (Q : Program) → HasSites Q for_ old.site → HasSites Q first_ old.site
     first_sites Q sites = part_sites Q for_ first_ [] (formats_of last ++ formats_of body) old.site old.site sites refl (omega arith)
 
     pub for_begins : (fault : LoweringFault) → IsFullFor P depth first_ old fault → IsFullFor P depth for_ old fault
     for_begins fault full = λ S w size suits deep now.
-        part_for for_ first_ old old fault full (grows_refl old) S w w size suits deep false
-        (Contains-append_left (calls_of first_) (calls_of last ++ calls_of body)) (omega arith) suits.resolved.0 (first_sites S.program suits.sites) now (omega arith)
+        part_for for_ first_ old old fault full (grows_refl old) S w w size suits deep nowhere
+        (Contains-append_left (calls_of first_) (calls_of d ++ (calls_of last ++ calls_of body))) (omega arith) suits.resolved.0 (first_sites S.program suits.sites) now (omega arith)
 
     module _ (a0 : Lowering) (first : Leads P None first_ old a0) where
       at_a0 : (S : Typing) (w size : ℕ) → SuitsTyping P S size for_ old → IsTypedNow S w old →
           IsTypedNow S (w + inlined_weight S.program first_) a0
       at_a0 S w size suits now =
-          first.typed S w size (typing_part P S size for_ first_ old old (grows_refl old) suits false (omega arith) suits.resolved.0
-          (first_sites S.program suits.sites) (Contains-append_left (calls_of first_) (calls_of last ++ calls_of body))) now
+          first.typed S w size (typing_part P S size for_ first_ old old (grows_refl old) suits nowhere (omega arith) suits.resolved.0
+          (first_sites S.program suits.sites) (Contains-append_left (calls_of first_) (calls_of d ++ (calls_of last ++ calls_of body)))) now
 
       pub for_opens : (fault : LoweringFault) → IsFullAt d (a0.site + print_count last) a0 fault → IsFullFor P depth for_ old fault
       for_opens fault full = λ S w size suits deep now.
@@ -316,7 +335,7 @@ module _ (P : Program) (depth : ℕ) where
         for_old_a = grows_both old skipped a old_skipped (turn_grows loop l skipped a opens)
 
         for_at_a : (S : Typing) (w size : ℕ) → SuitsTyping P S size for_ old → IsTypedNow S w old →
-            IsTypedNow S (w + inlined_weight S.program first_ + (condition_weight d + 1)) a
+            IsTypedNow S (w + inlined_weight S.program first_ + (inlined_weight S.program d + 1)) a
         for_at_a S w size suits now =
             turn_typed loop l skipped a opens S (w + inlined_weight S.program first_) size (subst (Fits S) (sym old_skipped.homes) suits.fits) suits.resolved.1
             (old_skipped.good size suits.good)
@@ -330,8 +349,8 @@ module _ (P : Program) (depth : ℕ) where
 
         pub for_goes : (fault : LoweringFault) → IsFullFor P depth body a fault → IsFullFor P depth for_ old fault
         for_goes fault full = λ S w size suits deep now.
-            part_for for_ body old a fault full for_old_a S w (w + inlined_weight S.program first_ + (condition_weight d + 1)) size suits deep true
-            (λ g c. Contains-append_right (calls_of first_) (calls_of last ++ calls_of body) g (Contains-append_right (calls_of last) (calls_of body) g c)) (omega arith) suits.resolved.3
+            part_for for_ body old a fault full for_old_a S w (w + inlined_weight S.program first_ + (inlined_weight S.program d + 1)) size suits deep in_loop
+            body_called (omega arith) suits.resolved.3
             (body_sites S.program suits.sites) (for_at_a S w size suits now) (omega arith)
 
         module _ (b c : Lowering) (inner : Leads P (Some (labels_of l)) body a b) (turns : Binds l.turning (at_site a0.site b) c) where
@@ -340,33 +359,33 @@ module _ (P : Program) (depth : ℕ) where
 
           pub for_turns : (fault : LoweringFault) → IsFullFor P depth last c fault → IsFullFor P depth for_ old fault
           for_turns fault full = λ S w size suits deep now.
-              let v = w + inlined_weight S.program first_ + (condition_weight d + 1) in
-              let now_b = inner.typed S v size (typing_part P S size for_ body old a for_old_a suits true (omega arith) suits.resolved.3 (body_sites S.program suits.sites)
-              (λ g c. Contains-append_right (calls_of first_) (calls_of last ++ calls_of body) g (Contains-append_right (calls_of last) (calls_of body) g c)))
+              let v = w + inlined_weight S.program first_ + (inlined_weight S.program d + 1) in
+              let now_b = inner.typed S v size (typing_part P S size for_ body old a for_old_a suits in_loop (omega arith) suits.resolved.3 (body_sites S.program suits.sites)
+              body_called)
               (for_at_a S w size suits now) in
               let old_b = grows_both old a b for_old_a inner.grows in
               let old_sited = grows_both old b (at_site a0.site b) old_b (site_grows a0.site b) in
               let now_c = sited_c.typed S (v + inlined_weight S.program body) size (old_sited.good size suits.good) (site_typed a0.site b S (v + inlined_weight S.program body) now_b) in
-              part_for for_ last old c fault full (grows_both old (at_site a0.site b) c old_sited sited_c.grows) S w (v + inlined_weight S.program body) size suits deep false
-              (λ g c. Contains-append_right (calls_of first_) (calls_of last ++ calls_of body) g (Contains-append_left (calls_of last) (calls_of body) g c)) (omega arith)
+              part_for for_ last old c fault full (grows_both old (at_site a0.site b) c old_sited sited_c.grows) S w (v + inlined_weight S.program body) size suits deep nowhere
+              last_called (omega arith)
               suits.resolved.2
               (part_sites S.program for_ last (formats_of first_) (formats_of body) old.site c.site suits.sites refl
               (let x = formats_length first_ in let y = sited_c.site in let z = first.site in omega (arith, x, y, z)))
               now_c (omega arith)
 
-  pub for_first : (s first_ : Statement) (d : Condition) (last body : Statement) (old : Lowering) (fault : LoweringFault) → s ≡ Statement.For first_ d last body → IsFullFor P depth first_ old fault →
+  pub for_first : (s first_ : Statement) (d : Statement) (last body : Statement) (old : Lowering) (fault : LoweringFault) → s ≡ Statement.For first_ d last body → IsFullFor P depth first_ old fault →
       IsFullFor P depth s old fault
   for_first s first_ d last body old fault is full = rw is (for_begins first_ d last body old fault full)
 
-  pub for_condition : (s first_ : Statement) (d : Condition) (last body : Statement) (old a0 : Lowering) (fault : LoweringFault) → s ≡ Statement.For first_ d last body →
+  pub for_condition : (s first_ : Statement) (d : Statement) (last body : Statement) (old a0 : Lowering) (fault : LoweringFault) → s ≡ Statement.For first_ d last body →
       Leads P None first_ old a0 → IsFullAt d (a0.site + print_count last) a0 fault → IsFullFor P depth s old fault
   for_condition s first_ d last body old a0 fault is first full = rw is (for_opens first_ d last body old a0 first fault full)
 
-  pub for_body : (s first_ : Statement) (d : Condition) (last body : Statement) (l : LoopLabels) (old a0 a : Lowering) (fault : LoweringFault) → s ≡ Statement.For first_ d last body →
+  pub for_body : (s first_ : Statement) (d : Statement) (last body : Statement) (l : LoopLabels) (old a0 a : Lowering) (fault : LoweringFault) → s ≡ Statement.For first_ d last body →
       Leads P None first_ old a0 → OpensTurn d l (at_site (a0.site + print_count last) a0) a → IsFullFor P depth body a fault → IsFullFor P depth s old fault
   for_body s first_ d last body l old a0 a fault is first opens full = rw is (for_goes first_ d last body old a0 first l a opens fault full)
 
-  pub for_last : (s first_ : Statement) (d : Condition) (last body : Statement) (l : LoopLabels) (old a0 a b c : Lowering) (last_site : ℕ) (fault : LoweringFault) →
+  pub for_last : (s first_ : Statement) (d : Statement) (last body : Statement) (l : LoopLabels) (old a0 a b c : Lowering) (last_site : ℕ) (fault : LoweringFault) →
       s ≡ Statement.For first_ d last body → Leads P None first_ old a0 → OpensTurn d l (at_site (a0.site + print_count last) a0) a → Leads P (Some (labels_of l)) body a b →
       last_site ≡ a0.site → Binds l.turning (at_site last_site b) c → IsFullFor P depth last c fault → IsFullFor P depth s old fault
   for_last s first_ d last body l old a0 a b c last_site fault is first opens inner site turns full =

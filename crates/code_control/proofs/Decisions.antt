@@ -2,17 +2,18 @@
 use Rattle.std.proofs.Common.{◌≡◌, ℕ, suc, ◌+◌, ◌*◌, ◌<◌, Bool, true, false, not, List, [], ◌∷◌, ◌++◌, length, ℤ, Some, None, refl, sym, ap, ◌∙◌, subst, inl, inr, arith}
 use Rattle.std.proofs.Common.{append-nil}
 use Rattle.std.specs.Prelude.{if◌then◌else◌, slice_get}
+use Rattle.std.proofs.lemmas.Bool.{and_parts, and_from}
 use Rattle.std.proofs.lemmas.Option.{slice_get_within}
 use Rattle.lists.proofs.Places.{get_front}
 use Rattle.hls_ints.specs.Operators.{is_zero}
-use Rattle.c_program.specs.Tree.{Expression, Condition}
-use Rattle.c_program.specs.Weight.{expression_weight, condition_weight}
+use Rattle.c_program.specs.Tree.{Expression, Statement, Program}
+use Rattle.c_program.specs.Weight.{expression_weight}
 use Rattle.c_program.specs.Resolved.{IsExpression, IsCondition}
 use Rattle.thread_semantics.specs.Memory.{Location, Memory, Evaluation, Gives, Fails}
 use Rattle.thread_semantics.specs.Value.{value}
-use Rattle.thread_semantics.specs.Work.{Work, Ask, first_operand, first_offset, waiting_parts, decided, ThenOpposite, ThenBoth, ThenEither}
+use Rattle.thread_semantics.specs.Work.{Work, Do, Going, Onward, opened, settled, decided, ThenOpposite, ThenBoth, ThenEither}
 use Rattle.thread_semantics.specs.State.{Frame}
-use Rattle.thread_semantics.specs.Move.{operand_move, work_move}
+use Rattle.thread_semantics.specs.Move.{operand_move, truth_in, work_move}
 use Rattle.block_ir.specs.declared.operand.Operand.{Operand}
 use Rattle.block_ir.specs.declared.block.Next.{Next}
 use Rattle.block_ir.specs.declared.block.Next.TheVariants.{Branch}
@@ -31,7 +32,8 @@ use Rattle.code_places.specs.Apart.{IsTypedNow, IsGood}
 use Rattle.code_places.specs.Resuming.{nothing_kept, AreHeld, CallersResume, IsMid, Comes, InBlock, IsSound}
 use Rattle.code_places.specs.Labels.{IsHere, led_next, led, with_used, is_used, IsAt, Advances, IsFirst}
 use Rattle.code_places.specs.Control.{marked, Begun, EndsAt, Begins, Branches, Keeps, StaysTyped, with_label, Whole, IsIn, AtLabel, GoesOn}
-use Rattle.code_control.specs.Deciding.{side, Tests, Decides}
+use Rattle.code_control.specs.Deciding.{is_asked, side, IsNotKept, Tests, Decides}
+use Rattle.code_places.specs.Weighing.{inlined_weight}
 use Rattle.code_blocks.proofs.Steps.{hold_on, read_held}
 use Rattle.code_blocks.proofs.OperationRuns.{same_function}
 use Rattle.code_places.proofs.LabelTargets.{whole_placed, begin_at, after_held, after_local, whole_pushed, pushed_at, goes_of_in}
@@ -42,20 +44,23 @@ use Rattle.code_places.proofs.OpenLabels.{marks_keep, is_marked, pushed_begun, l
 use Rattle.code_places.proofs.NewLabel.{label_keeps, goes_before_label}
 
 -- a step that evaluates the first operand of a condition, at the end of a block that leads to a label for each truth
-module _ (W : Whole) (homes : List Home) (n : ℕ) (e : Expression) (parts : List Work) (next : Next) (old mid new : Lowering) (b : OpenBlock) (test : Operand) (target : Bool → ℕ)
+module _ (W : Whole) (homes : List Home) (n : ℕ) (e : Expression) (k : List Work) (none : IsNotKept k) (next : Next) (old mid new : Lowering) (b : OpenBlock) (test : Operand) (target : Bool → ℕ)
     (first : Evaluates homes e old.block b test) (block_is : mid.block ≡ record b { steps = suc b.steps }) (items_same : mid.stages.stages ≡ old.stages.stages)
     (here_same : (label : ℕ) → IsHere old.stages label → IsHere mid.stages label) (ends : EndsAt next mid new) (whole : IsIn W new)
     (size : ℕ) (sound : IsSound size old.block)
     (route : (variables : ℕ → ℤ) (values : List ℤ) → leads_to variables values (led_next W.stage_of next) ≡ W.stage_of (target (not (is_zero (operand_value variables values test)))))
     (at : (j : ℕ) → j < n → (variables : ℕ → ℤ) (values : List ℤ) →
-    AtLabel W homes j (target (not (is_zero (operand_value variables values test)))) (decided (not (is_zero (operand_value variables values test))) parts)) where
+    AtLabel W homes j (target (not (is_zero (operand_value variables values test)))) (decided (not (is_zero (operand_value variables values test))) k)) where
   noted : HasNoted mid.block
   noted = subst HasNoted (sym block_is) (subst HasNoted (sym first.added) sound.noted)
 
   abbrev final : Block
   final = record ends.block { next = led_next W.stage_of ends.block.next }
 
-  module _ (c0 : Condition) (k0 : List Work) (operand : first_operand c0 ≡ e) (waiting : waiting_parts c0 k0 ≡ parts) where
+  module _ (offset : ℕ) where
+    abbrev work : List Work
+    work = Do (Statement.Test offset e) ∷ k
+
     module _ (j : ℕ) (lt : j < n) (resume : CallersResume W.setting j) (variables : ℕ → ℤ) (r : Running) (f : Frame) (fs : List Frame) (globals : List (List ℤ))
         (mid_ : IsMid W.setting homes nothing_kept old.block variables r f fs globals) where
       abbrev seen : Memory
@@ -72,7 +77,7 @@ module _ (W : Whole) (homes : List Home) (n : ℕ) (e : Expression) (parts : Lis
         gives = first.gives variables r seen v ls sound.below mid_.values mid_.holds gives_
 
         abbrev left : Frame
-        left = record f { work = decided (not (is_zero v)) parts; kept = [] }
+        left = record f { work = decided (not (is_zero v)) k; kept = [] }
 
         busy : 0 < mid.block.steps
         busy = let t = ap (λ (z : OpenBlock). z.steps) block_is in omega (arith, t)
@@ -83,7 +88,7 @@ module _ (W : Whole) (homes : List Home) (n : ℕ) (e : Expression) (parts : Lis
             (λ x.
             sym (read_held homes old.block b first.operations first.added variables r seen ls sound.below mid_.values reads x)
             ∙ ap (λ (z : OpenBlock). held_by z.current variables ran.values x) (sym block_is)
-            ∙ ap (λ vs. vs x) (after_held W homes n (decided (not (is_zero v)) parts) next mid new noted busy ends whole variables ran))
+            ∙ ap (λ vs. vs x) (after_held W homes n (decided (not (is_zero v)) k) next mid new noted busy ends whole variables ran))
 
         lands : Follows W.setting.program W.setting.stages j (stage_after final variables ran) (variables_after final variables ran) ran.arrays (left ∷ fs)
         lands =
@@ -91,12 +96,12 @@ module _ (W : Whole) (homes : List Home) (n : ℕ) (e : Expression) (parts : Lis
             subst (λ l. Follows W.setting.program W.setting.stages j l (variables_after final variables ran) ran.arrays (left ∷ fs))
             (sym (ap (λ (z : Next). leads_to variables ran.values (led_next W.stage_of z)) ends.closes.next_ ∙ route variables ran.values))
             (at j lt variables ran.values resume (variables_after final variables ran) ran.arrays left fs
-            (ap (λ z. decided (not (is_zero z)) parts) (sym gives))
+            (ap (λ z. decided (not (is_zero z)) k) (sym gives))
             (record {
               number = mid_.number;
               shape = mid_.shape;
               locals = λ x i u q.
-                  after_local W homes n (decided (not (is_zero v)) parts) next mid new noted busy ends whole variables ran x i (slice_get homes x)
+                  after_local W homes n (decided (not (is_zero v)) k) next mid new noted busy ends whole variables ran x i (slice_get homes x)
                   ∙ ap (λ (z : OpenBlock). local_value (slice_get homes x) z.current variables ran x i) block_is
                   ∙ holds.locals x i u q;
               kept = tt;
@@ -105,12 +110,16 @@ module _ (W : Whole) (homes : List Home) (n : ℕ) (e : Expression) (parts : Lis
             }))
 
       decides : (E : Evaluation ℤ) → value e seen ≡ E →
-          AfterMove (operand_move (first_offset c0) E f fs parts) globals
+          AfterMove (operand_move offset E f fs k) globals
           (λ after left_ more. Comes W.setting homes nothing_kept final j variables ran after (r.accesses ++ more))
       decides (Fails cause) q = tt
-      decides (Gives v ls) q = ((reads v ls q).accesses ∙ ap (λ l. r.accesses ++ l) (sym (append-nil (reads_of ls))), lands v ls q)
+      decides (Gives v ls) q =
+          subst (λ o. Comes W.setting homes nothing_kept final j variables ran
+          (record f { locals = truth_in o f.locals; work = decided (not (is_zero v)) k; kept = [] } ∷ fs) (r.accesses ++ (reads_of ls ++ [])))
+          (sym (none (not (is_zero v))))
+          ((reads v ls q).accesses ∙ ap (λ l. r.accesses ++ l) (sym (append-nil (reads_of ls))), lands v ls q)
 
-    inside : InBlock W.setting homes nothing_kept n (length old.stages.stages.items) old.block (Ask c0 ∷ k0)
+    inside : InBlock W.setting homes nothing_kept n (length old.stages.stages.items) old.block work
     inside = record {
       block = final;
       at =
@@ -120,18 +129,14 @@ module _ (W : Whole) (homes : List Home) (n : ℕ) (e : Expression) (parts : Lis
       operations = ends.closes.operations ∙ ap (λ (z : OpenBlock). z.operations) block_is ∙ ap (λ (z : OpenBlock). z.operations) first.added;
       count = 1;
       steps = (let s = ends.closes.steps in let t = ap (λ (z : OpenBlock). z.steps) block_is in let u = ap (λ (z : OpenBlock). z.steps) first.added in omega (arith, s, t, u));
-      goes = λ j lt resume variables r f fs globals work m.
+      goes = λ j lt resume variables r f fs globals is m.
           subst (λ w. AfterMove (work_move W.setting.program (record { locals = f.locals; globals = globals }) f fs w) globals
-          (λ after left_ more. Comes W.setting homes nothing_kept final j variables (operations_run variables first.operations r) after (r.accesses ++ more))) (sym work)
-          (subst (λ z. AfterMove (operand_move (first_offset c0) (value z (record { locals = f.locals; globals = globals })) f fs (waiting_parts c0 k0)) globals
-          (λ after left_ more. Comes W.setting homes nothing_kept final j variables (operations_run variables first.operations r) after (r.accesses ++ more))) (sym operand)
-          (subst (λ ps. AfterMove (operand_move (first_offset c0) (value e (record { locals = f.locals; globals = globals })) f fs ps) globals
-          (λ after left_ more. Comes W.setting homes nothing_kept final j variables (operations_run variables first.operations r) after (r.accesses ++ more))) (sym waiting)
-          (decides j lt resume variables r f fs globals m (value e (record { locals = f.locals; globals = globals })) refl)));
+          (λ after left_ more. Comes W.setting homes nothing_kept final j variables (operations_run variables first.operations r) after (r.accesses ++ more))) (sym is)
+          (decides j lt resume variables r f fs globals m (value e (record { locals = f.locals; globals = globals })) refl);
     }
 
-    pub asks : GoesOn W homes nothing_kept n old (Ask c0 ∷ k0)
-    asks = goes_of_in W homes nothing_kept size n old (Ask c0 ∷ k0) sound inside
+    pub asks : GoesOn W homes nothing_kept n old work
+    asks = goes_of_in W homes nothing_kept size n old work sound inside
         (λ label among.
         pushed_here (stage.Run ends.block) mid.stages new.stages ends.pushes W.stage_of whole.obeys label (here_same label among) ∙ ap (λ v. length v.items) items_same)
 
@@ -205,15 +210,15 @@ tests_branch e nonzero otherwise old mid new b test first same branches = record
       (pushes_advance (stage.Run branches.ends.block) (marked otherwise (marked nonzero mid)).stages new.stages branches.ends.pushes);
   first = pushed_begun (stage.Run branches.ends.block) old (marked otherwise (marked nonzero mid)).stages new.stages to_both
       (ap (λ (z : Lowering). z.stages.stages.items) same) here_both branches.ends.pushes;
-  settled = λ label here.
+  comes = λ label here.
       subst (λ n. IsAt label n new.stages) (ap (λ (z : Lowering). length z.stages.stages.items) same)
       (pushed_is (stage.Run branches.ends.block) (marked otherwise (marked nonzero mid)).stages new.stages branches.ends.pushes label (here_both label here));
   typed = test_typed e nonzero otherwise old mid new b test first same branches.ends;
   ends = ap (λ (z : Lowering). z.reached) branches.ends.same;
   idle = λ size is sound. (test_fresh (Branch test nonzero otherwise) old (marked otherwise (marked nonzero mid)) new e b test first block_is branches.ends size sound).steps;
   marks = λ truth. ap (λ us. is_used us (side nonzero otherwise truth)) branches.ends.pushes.used ∙ by truth;
-  asks = λ W homes size n parts homes_are size_is whole sound at.
-      asks W homes n e parts (Branch test nonzero otherwise) old (marked otherwise (marked nonzero mid)) new b test (side nonzero otherwise)
+  asks = λ W homes size n k homes_are size_is whole sound none at.
+      asks W homes n e k none (Branch test nonzero otherwise) old (marked otherwise (marked nonzero mid)) new b test (side nonzero otherwise)
       (subst (λ hs. Evaluates hs e old.block b test) homes_are first) block_is
       (ap (λ (z : Lowering). z.stages.stages) same) here_both branches.ends whole size sound
       (λ variables values. branch_route W.stage_of nonzero otherwise (is_zero (operand_value variables values test)))
@@ -238,38 +243,54 @@ tests_branch e nonzero otherwise old mid new b test first same branches = record
 
 -- Conditions of several operands (C99 6.5.13, 6.5.14).
 
-pub operand_decides : (d : Condition) (offset : ℕ) (e : Expression) (t f : ℕ) (old new : Lowering) → d ≡ Condition.Operand offset e → Tests e t f old new → Decides d t f old new
-operand_decides d offset e t f old new is test = rw is record {
+-- the work before which a condition stands goes on in no other way than in order
+pub opened_asked : (d : Statement) → is_asked d ≡ true → (k : List Work) (rest other : Going → List Work) → opened d k rest ≡ opened d k other
+opened_asked (Statement.Test offset operand) ok k rest other = refl
+opened_asked (Statement.Both a b) ok k rest other = opened_asked a (and_parts (is_asked a) (is_asked b) ok).0 (ThenBoth b ∷ k) rest other
+opened_asked (Statement.Either a b) ok k rest other = opened_asked a (and_parts (is_asked a) (is_asked b) ok).0 (ThenEither b ∷ k) rest other
+opened_asked (Statement.Opposite inner) ok k rest other = opened_asked inner ok (ThenOpposite ∷ k) rest other
+opened_asked d ok k rest other = absurd cc
+
+-- a condition that waits for its first part
+pub opened_part : (d part : Statement) (k l : List Work) → is_asked part ≡ true → opened d k (λ g. settled g k) ≡ opened part l (λ g. settled g k) →
+    settled Onward (Do part ∷ l) ≡ settled Onward (Do d ∷ k)
+opened_part d part k l ok is = opened_asked part ok l (λ g. settled g l) (λ g. settled g k) ∙ sym is
+
+pub test_decides : (d : Statement) (offset : ℕ) (e : Expression) (t f : ℕ) (old new : Lowering) → d ≡ Statement.Test offset e → Tests e t f old new → Decides d t f old new
+test_decides d offset e t f old new is test = rw is record {
+  asked = refl;
   keeps = test.keeps;
   site = test.site;
   advances = test.advances;
   first = test.first;
-  settled = test.settled;
+  comes = test.comes;
   typed = test.typed;
   ends = test.ends;
   idle = test.idle;
   marks = test.marks;
-  asks = λ W homes size n k homes_are size_is whole sound at c l first waits. test.asks W homes size n k homes_are size_is whole sound at c l first waits;
+  asks = λ W homes size n k homes_are size_is whole sound none at. test.asks W homes size n k homes_are size_is whole sound none at offset;
 }
 
 turned : (t f : ℕ) (truth : Bool) → side f t (not truth) ≡ side t f truth
 turned t f true = refl
 turned t f false = refl
 
-pub opposite_decides : (d inner : Condition) (t f : ℕ) (old new : Lowering) → d ≡ Condition.Opposite inner → Decides inner f t old new → Decides d t f old new
+pub opposite_decides : (d inner : Statement) (t f : ℕ) (old new : Lowering) → d ≡ Statement.Opposite inner → Decides inner f t old new → Decides d t f old new
 opposite_decides d inner t f old new is h = rw is record {
+  asked = h.asked;
   keeps = h.keeps;
   site = h.site;
   advances = h.advances;
   first = h.first;
-  settled = h.settled;
+  comes = h.comes;
   typed = λ S w size fits ok good now.
-      now_more S (w + (condition_weight inner + 1)) (w + (condition_weight inner + 1 + 1)) new (omega arith) (h.typed S w size fits ok good now);
+      now_more S (w + (inlined_weight S.program inner + 1)) (w + (inlined_weight S.program inner + 1 + 1)) new (omega arith) (h.typed S w size fits ok good now);
   ends = h.ends;
   idle = h.idle;
   marks = λ truth. ap (is_used new.stages.used) (sym (turned t f truth)) ∙ h.marks (not truth);
-  asks = λ W homes size n k homes_are size_is whole sound at c l first waits.
-      h.asks W homes size n (ThenOpposite ∷ k) homes_are size_is whole sound (λ j lt truth. by W homes k j (at j lt) truth) c l first waits;
+  asks = λ W homes size n k homes_are size_is whole sound none at.
+      subst (GoesOn W homes nothing_kept n old) (opened_part (Statement.Opposite inner) inner k (ThenOpposite ∷ k) h.asked refl)
+      (h.asks W homes size n (ThenOpposite ∷ k) homes_are size_is whole sound (λ truth. none (not truth)) (λ j lt truth. by W homes k j (at j lt) truth));
 }
   where
     by : (W : Whole) (homes : List Home) (k : List Work) (j : ℕ) → ((truth : Bool) → AtLabel W homes j (side t f truth) (decided truth k)) → (truth : Bool) →
@@ -322,7 +343,7 @@ keeps_both a b c h k = record {
 }
 
 -- an operand, and then, where the first is not enough, the second
-module _ (c d : Condition) (next t f x y : ℕ) (old a m b new : Lowering) (number : next ≡ length old.stages.labels) (label : a ≡ with_label old) (first : Decides c x y a m)
+module _ (c d : Statement) (next t f x y : ℕ) (old a m b new : Lowering) (number : next ≡ length old.stages.labels) (label : a ≡ with_label old) (first : Decides c x y a m)
     (begins : Begins next m b) (second : Decides d t f b new) where
   to_a : Keeps old a
   to_a = subst (Keeps old) (sym label) (label_keeps old)
@@ -349,18 +370,18 @@ module _ (c d : Condition) (next t f x y : ℕ) (old a m b new : Lowering) (numb
       first_after (λ other. other ≡ next) m.stages new.stages start m_new
       (first.first start (subst (Begun start) (sym label) (label_begun start old begun)))
 
-  all_settled : (h : ℕ) → IsHere old.stages h → IsAt h (length old.stages.stages.items) new.stages
-  all_settled h here =
+  all_come : (h : ℕ) → IsHere old.stages h → IsAt h (length old.stages.stages.items) new.stages
+  all_come h here =
       m_new.at h (length old.stages.stages.items)
       (subst (λ n. IsAt h n m.stages) (ap (λ (z : Lowering). length z.stages.stages.items) label)
-      (first.settled h (subst (λ (z : Lowering). IsHere z.stages h) (sym label) (get_front old.stages.labels (None ∷ []) h (Some (length old.stages.places)) here))))
+      (first.comes h (subst (λ (z : Lowering). IsHere z.stages h) (sym label) (get_front old.stages.labels (None ∷ []) h (Some (length old.stages.places)) here))))
 
   all_site : new.site ≡ old.site
   all_site = second.site ∙ begin_site next m b first.ends begins ∙ first.site ∙ ap (λ (z : Lowering). z.site) label
 
-  all_typed : (e : Condition) → condition_weight e ≡ condition_weight c + condition_weight d + 1 →
+  all_typed : (e : Statement) → ((P : Program) → inlined_weight P e ≡ inlined_weight P c + inlined_weight P d + 1) →
       ((S : Typing) → IsCondition S.program S.function e → IsCondition S.program S.function c × IsCondition S.program S.function d) →
-      StaysTyped (condition_weight e + 1) (λ S. IsCondition S.program S.function e) old new
+      (S : Typing) (w size : ℕ) → Fits S old.homes → IsCondition S.program S.function e → IsGood size old → IsTypedNow S w old → IsTypedNow S (w + (inlined_weight S.program e + 1)) new
   all_typed e weighs parts = λ S w size fits ok good now.
       let kept = keeps_both old a b to_a to_b in
       let sound_a = to_a.sound size good.variables good.sound in
@@ -378,78 +399,83 @@ module _ (c d : Condition) (next t f x y : ℕ) (old a m b new : Lowering) (numb
         sound = sound_b;
         idle = λ off. ap (λ (z : OpenBlock). z.steps) (begin_block next m b first.ends begins) ∙ idle_m;
       } in
-      let at_b = begin_typed next m b first.ends begins S (w + (condition_weight c + 1)) at_m in
-      let at_new = second.typed S (w + (condition_weight c + 1)) size (subst (Fits S) (sym kept.homes) fits) (parts S ok).1 good_b at_b in
-      now_more S (w + (condition_weight c + 1) + (condition_weight d + 1)) (w + (condition_weight e + 1)) new (omega (arith, weighs)) at_new
+      let at_b = begin_typed next m b first.ends begins S (w + (inlined_weight S.program c + 1)) at_m in
+      let at_new = second.typed S (w + (inlined_weight S.program c + 1)) size (subst (Fits S) (sym kept.homes) fits) (parts S ok).1 good_b at_b in
+      now_more S (w + (inlined_weight S.program c + 1) + (inlined_weight S.program d + 1)) (w + (inlined_weight S.program e + 1)) new (let sum = weighs S.program in omega (arith, sum)) at_new
 
   idle_after : (size : ℕ) → length old.variables ≡ size → IsSound size old.block → new.block.steps ≡ 0
   idle_after size is sound =
       let k = keeps_both old a b to_a to_b in
       second.idle size (ap length k.variables ∙ is) (k.sound size is sound)
 
-  module _ (W : Whole) (homes : List Home) (size n : ℕ) (k : List Work) (homes_are : old.homes ≡ homes) (size_is : length old.variables ≡ size) (whole : IsIn W new) (sound : IsSound size old.block)
+  module _ (W : Whole) (homes : List Home) (size n : ℕ) (k : List Work) (homes_are : old.homes ≡ homes) (size_is : length old.variables ≡ size) (whole : IsIn W new)
+      (sound : IsSound size old.block) (none : IsNotKept k)
       (at : (j : ℕ) → j < n → (truth : Bool) → AtLabel W homes j (side t f truth) (decided truth k)) where
     -- the second operand is asked at the label between them
-    next_at : (j : ℕ) → j < n → AtLabel W homes j next (Ask d ∷ k)
+    next_at : (j : ℕ) → j < n → AtLabel W homes j next (settled Onward (Do d ∷ k))
     next_at j lt =
         let kept = keeps_both old a b to_a to_b in
         let idle : b.block.steps ≡ 0 =
         ap (λ (z : OpenBlock). z.steps) (begin_block next m b first.ends begins)
         ∙ first.idle size (ap length to_a.variables ∙ size_is) (to_a.sound size size_is sound) in
-        begin_at W homes j (Ask d ∷ k) nothing_kept next m b idle begins
-        (second.asks W homes size j k (kept.homes ∙ homes_are) (ap length kept.variables ∙ size_is) whole (kept.sound size size_is sound) (λ i below truth. at i (omega arith) truth) d k refl refl)
+        begin_at W homes j (settled Onward (Do d ∷ k)) nothing_kept next m b idle begins
+        (second.asks W homes size j k (kept.homes ∙ homes_are) (ap length kept.variables ∙ size_is) whole (kept.sound size size_is sound) none (λ i below truth. at i (omega arith) truth))
 
-    first_goes : (parts : List Work) → ((j : ℕ) → j < n → (truth : Bool) → AtLabel W homes j (side x y truth) (decided truth parts)) →
-        (c0 : Condition) (l : List Work) → first_operand c0 ≡ first_operand c → waiting_parts c0 l ≡ waiting_parts c parts → GoesOn W homes nothing_kept n old (Ask c0 ∷ l)
-    first_goes parts claims c0 l operand waits =
-        goes_before_label W homes nothing_kept n old a (Ask c0 ∷ l) label
-        (first.asks W homes size n parts (to_a.homes ∙ homes_are) (ap length to_a.variables ∙ size_is)
-        ((begin_keeps next m b first.ends begins).whole W (second.keeps.whole W whole)) (to_a.sound size size_is sound) claims c0 l operand waits)
+    first_goes : (l : List Work) → IsNotKept l → ((j : ℕ) → j < n → (truth : Bool) → AtLabel W homes j (side x y truth) (decided truth l)) →
+        GoesOn W homes nothing_kept n old (settled Onward (Do c ∷ l))
+    first_goes l free claims =
+        goes_before_label W homes nothing_kept n old a (settled Onward (Do c ∷ l)) label
+        (first.asks W homes size n l (to_a.homes ∙ homes_are) (ap length to_a.variables ∙ size_is)
+        ((begin_keeps next m b first.ends begins).whole W (second.keeps.whole W whole)) (to_a.sound size size_is sound) free claims)
 
-pub both_decides : (e c d : Condition) (next t f : ℕ) (old a m b new : Lowering) → e ≡ Condition.Both c d → next ≡ length old.stages.labels → a ≡ with_label old →
+pub both_decides : (e c d : Statement) (next t f : ℕ) (old a m b new : Lowering) → e ≡ Statement.Both c d → next ≡ length old.stages.labels → a ≡ with_label old →
     Decides c next f a m → Begins next m b → Decides d t f b new →
     Decides e t f old new
 both_decides e c d next t f old a m b new is number label first begins second = rw is record {
+  asked = and_from (is_asked c) (is_asked d) first.asked second.asked;
   keeps = all_kept c d next t f next f old a m b new number label first begins second;
   site = all_site c d next t f next f old a m b new number label first begins second;
   advances = all_advances c d next t f next f old a m b new number label first begins second;
   first = all_first c d next t f next f old a m b new number label first begins second;
-  settled = all_settled c d next t f next f old a m b new number label first begins second;
-  typed = all_typed c d next t f next f old a m b new number label first begins second (Condition.Both c d) refl (λ S ok. ok);
+  comes = all_come c d next t f next f old a m b new number label first begins second;
+  typed = all_typed c d next t f next f old a m b new number label first begins second (Statement.Both c d) (λ P. refl) (λ S ok. ok);
   ends = second.ends;
   idle = idle_after c d next t f next f old a m b new number label first begins second;
   marks = second.marks;
-  asks = λ W homes size n k homes_are size_is whole sound at c0 l operand waits.
-      first_goes c d next t f next f old a m b new number label first begins second W homes size n k homes_are size_is whole sound at (ThenBoth d ∷ k)
-      (λ j lt truth. by W homes k j (next_at c d next t f next f old a m b new number label first begins second W homes size n k homes_are size_is whole sound at j lt)
-      (at j lt false) truth) c0 l operand waits;
+  asks = λ W homes size n k homes_are size_is whole sound none at.
+      subst (GoesOn W homes nothing_kept n old) (opened_part (Statement.Both c d) c k (ThenBoth d ∷ k) first.asked refl)
+      (first_goes c d next t f next f old a m b new number label first begins second W homes size n k homes_are size_is whole sound none at (ThenBoth d ∷ k) none
+      (λ j lt truth. by W homes k j (next_at c d next t f next f old a m b new number label first begins second W homes size n k homes_are size_is whole sound none at j lt)
+      (at j lt false) truth));
 }
   where
-    by : (W : Whole) (homes : List Home) (k : List Work) (j : ℕ) → AtLabel W homes j next (Ask d ∷ k) → AtLabel W homes j f (decided false k) → (truth : Bool) →
+    by : (W : Whole) (homes : List Home) (k : List Work) (j : ℕ) → AtLabel W homes j next (settled Onward (Do d ∷ k)) → AtLabel W homes j f (decided false k) → (truth : Bool) →
         AtLabel W homes j (side next f truth) (decided truth (ThenBoth d ∷ k))
     by W homes k j on off true = on
     by W homes k j on off false = off
 
-pub either_decides : (e c d : Condition) (next t f : ℕ) (old a m b new : Lowering) → e ≡ Condition.Either c d → next ≡ length old.stages.labels → a ≡ with_label old →
+pub either_decides : (e c d : Statement) (next t f : ℕ) (old a m b new : Lowering) → e ≡ Statement.Either c d → next ≡ length old.stages.labels → a ≡ with_label old →
     Decides c t next a m → Begins next m b → Decides d t f b new →
     Decides e t f old new
 either_decides e c d next t f old a m b new is number label first begins second = rw is record {
+  asked = and_from (is_asked c) (is_asked d) first.asked second.asked;
   keeps = all_kept c d next t f t next old a m b new number label first begins second;
   site = all_site c d next t f t next old a m b new number label first begins second;
   advances = all_advances c d next t f t next old a m b new number label first begins second;
   first = all_first c d next t f t next old a m b new number label first begins second;
-  settled = all_settled c d next t f t next old a m b new number label first begins second;
-  typed = all_typed c d next t f t next old a m b new number label first begins second (Condition.Either c d) refl (λ S ok. ok);
+  comes = all_come c d next t f t next old a m b new number label first begins second;
+  typed = all_typed c d next t f t next old a m b new number label first begins second (Statement.Either c d) (λ P. refl) (λ S ok. ok);
   ends = second.ends;
   idle = idle_after c d next t f t next old a m b new number label first begins second;
   marks = second.marks;
-  asks = λ W homes size n k homes_are size_is whole sound at c0 l operand waits.
-      first_goes c d next t f t next old a m b new number label first begins second W homes size n k homes_are size_is whole sound at (ThenEither d ∷ k)
+  asks = λ W homes size n k homes_are size_is whole sound none at.
+      subst (GoesOn W homes nothing_kept n old) (opened_part (Statement.Either c d) c k (ThenEither d ∷ k) first.asked refl)
+      (first_goes c d next t f t next old a m b new number label first begins second W homes size n k homes_are size_is whole sound none at (ThenEither d ∷ k) none
       (λ j lt truth. by W homes k j (at j lt true)
-      (next_at c d next t f t next old a m b new number label first begins second W homes size n k homes_are size_is whole sound at j lt) truth) c0 l operand waits;
+      (next_at c d next t f t next old a m b new number label first begins second W homes size n k homes_are size_is whole sound none at j lt) truth));
 }
   where
-    by : (W : Whole) (homes : List Home) (k : List Work) (j : ℕ) → AtLabel W homes j t (decided true k) → AtLabel W homes j next (Ask d ∷ k) → (truth : Bool) →
+    by : (W : Whole) (homes : List Home) (k : List Work) (j : ℕ) → AtLabel W homes j t (decided true k) → AtLabel W homes j next (settled Onward (Do d ∷ k)) → (truth : Bool) →
         AtLabel W homes j (side t next truth) (decided truth (ThenEither d ∷ k))
     by W homes k j on off true = on
     by W homes k j on off false = off

@@ -1,15 +1,15 @@
 -- Statements with others in them: lists, ifs and loops.
 use Rattle.std.proofs.Common.{◌≡◌, ℕ, zero, suc, ◌+◌, ◌<◌, ◌≤◌, Bool, true, false, List, [], ◌∷◌, ◌++◌, Option, Some, None, refl, sym, ap, ◌∙◌, subst, inl, inr, arith}
 use Rattle.std.proofs.Common.{append-nil, append_assoc, length-append}
-use Rattle.c_program.specs.Tree.{Condition, Statement, Program}
+use Rattle.c_program.specs.Tree.{Statement, Program}
 use Rattle.std.specs.Prelude.{Contains}
 use Rattle.std.proofs.lemmas.List.Elements.{Contains-append_left, Contains-append_right}
 use Rattle.c_program.specs.Calls.{calls_of}
 use Rattle.c_program.specs.Limits.{print_count}
-use Rattle.c_program.specs.Weight.{condition_weight}
 use Rattle.code_places.specs.Weighing.{inlined_weight}
-use Rattle.c_program.specs.Resolved.{IsCondition, IsStatement}
-use Rattle.thread_semantics.specs.Work.{Work, Do, Ask, Choose, Turn, Next, Loop as WorkLoop, Going, Onward, Leaving, Turning, in_order, in_loop, asked, while_loop, for_loop}
+use Rattle.c_program.specs.Resolved.{IsCondition, Around, IsStatement, nowhere, within}
+use Rattle.c_program.specs.Resolved as resolved
+use Rattle.thread_semantics.specs.Work.{Work, Do, Choose, Turn, Next, Loop as WorkLoop, Going, Onward, Leaving, Turning, in_order, in_loop, asked, while_loop, for_loop}
 use Rattle.thread_semantics.specs.Work.{opened, settled, decided}
 use Rattle.code_following.specs.Following.{formats_of}
 use Rattle.code_blocks.specs.declared.homes.Home.{Home}
@@ -23,7 +23,7 @@ use Rattle.code_places.specs.Resuming.{nothing_kept}
 use Rattle.code_storage.specs.Formats.{HasSites}
 use Rattle.code_places.specs.Labels.{is_used}
 use Rattle.code_places.specs.Apart.{IsTypedNow, IsGood}
-use Rattle.code_control.specs.Deciding.{side}
+use Rattle.code_control.specs.Deciding.{is_asked, side}
 use Rattle.code_places.specs.Control.{Binds, Whole, IsIn, AtLabel, AtLabelUpTo, GoesOn}
 use Rattle.code_places.specs.Doing.{Grows, Shifts, at_site, OnwardUpTo, IfUsed, LeadsOut, Suits, SuitsTyping, Leads, LowersHere}
 use Rattle.code_control.specs.Branching.{OpensChoice, TurnsChoice, OpensLoop, OpensTurn, ClosesTurn, Asks, ClosesDo}
@@ -33,6 +33,7 @@ use Rattle.code_places.proofs.TypedGrowth.{now_more, words_less}
 use Rattle.code_places.proofs.LabelTargets.{begin_at, begun_idle, begin_goes_on}
 use Rattle.code_places.proofs.CodeGrowth.{grows_refl, grows_both, site_grows, site_typed, begins_shifts, begun_reached, binds_shifts, leaps_shifts, goes_relabelled, binds_at}
 use Rattle.code_places.proofs.CodeGrowth.{binds_goes, leaps_goes}
+use Rattle.code_control.proofs.Decisions.{opened_asked, opened_part}
 use Rattle.code_control.proofs.ControlGrowth.{decides_grows}
 use Rattle.code_control.proofs.BoundLabels.{while_labels, labels_of}
 
@@ -48,28 +49,28 @@ out_before W homes n before after (Some l) k grows out = (
 )
 
 module _ (P : Program) (W : Whole) (homes : List Home) (size : ℕ) (s t : Statement) (old c : Lowering) (grows : Grows old c) (suits : Suits P W homes size s old) where
-  pub suits_part : (in_loop : Bool) → IsStatement W.setting.program W.setting.function in_loop t → HasSites W.setting.program t c.site →
+  pub suits_part : (around : Around) → IsStatement W.setting.program W.setting.function around t → HasSites W.setting.program t c.site →
       ((g : ℕ) → Contains (calls_of t) g → Contains (calls_of s) g) → Suits P W homes size t c
-  suits_part in_loop resolved sites calls = record {
+  suits_part around resolved sites calls = record {
     seated = seat_on P W homes size old c grows.back grows.rooms grows.objects suits.seated;
     homes_ = grows.homes ∙ suits.homes_;
     good = grows.good size suits.good;
     locals = suits.locals;
-    in_loop = in_loop;
+    around = around;
     resolved = resolved;
     sites = sites;
     calls = λ g c. suits.calls g (calls g c);
   }
 
 module _ (P : Program) (S : Typing) (size : ℕ) (s t : Statement) (old c : Lowering) (grows : Grows old c) (suits : SuitsTyping P S size s old) where
-  pub typing_part : (in_loop : Bool) → most_values t ≤ most_values s → IsStatement S.program S.function in_loop t → HasSites S.program t c.site →
+  pub typing_part : (around : Around) → most_values t ≤ most_values s → IsStatement S.program S.function around t → HasSites S.program t c.site →
       ((g : ℕ) → Contains (calls_of t) g → Contains (calls_of s) g) → SuitsTyping P S size t c
-  typing_part in_loop most resolved sites calls = record {
+  typing_part around most resolved sites calls = record {
     seated = typed_seat_on P S size old c grows.back grows.rooms grows.objects suits.seated;
     fits = subst (Fits S) (sym grows.homes) suits.fits;
     words = words_less S.types size (most_values t) (most_values s) most suits.words;
     good = grows.good size suits.good;
-    in_loop = in_loop;
+    around = around;
     resolved = resolved;
     sites = sites;
     calls = λ g c. suits.calls g (calls g c);
@@ -124,19 +125,19 @@ module _ (P : Program) (around : Option Loop) (a b : Statement) (old mid new : L
     site = (let x = first.site in let y = second.site in omega (arith, x, y));
     typed = λ S w size suits now.
         let h = first.typed S w size
-        (typing_part P S size pair a old old (grows_refl old) suits suits.in_loop (omega arith) suits.resolved.0 (first_sites S.program suits.sites)
+        (typing_part P S size pair a old old (grows_refl old) suits suits.around (omega arith) suits.resolved.0 (first_sites S.program suits.sites)
         (Contains-append_left (calls_of a) (calls_of b))) now in
         let k = second.typed S (w + inlined_weight S.program a) size
-        (typing_part P S size pair b old mid first.grows suits suits.in_loop (omega arith) suits.resolved.1 (rest_sites S.program suits.sites) (Contains-append_right (calls_of a) (calls_of b))) h in
+        (typing_part P S size pair b old mid first.grows suits suits.around (omega arith) suits.resolved.1 (rest_sites S.program suits.sites) (Contains-append_right (calls_of a) (calls_of b))) h in
         subst (λ v. IsTypedNow S v new) (let e : w + inlined_weight S.program a + inlined_weight S.program b ≡ w + (inlined_weight S.program a + inlined_weight S.program b) = omega arith in e) k;
     leads = λ W homes size n k suits whole out after.
         subst (λ w. OnwardUpTo W homes n old w) (sym (settled_sequence a b k))
         (first.leads W homes size n (Do b ∷ k)
-        (suits_part P W homes size pair a old old (grows_refl old) suits suits.in_loop suits.resolved.0 (first_sites W.setting.program suits.sites) (Contains-append_left (calls_of a) (calls_of b)))
+        (suits_part P W homes size pair a old old (grows_refl old) suits suits.around suits.resolved.0 (first_sites W.setting.program suits.sites) (Contains-append_left (calls_of a) (calls_of b)))
         (second.grows.whole W whole)
         (out_past W homes n mid.stages.used around b k (out_before W homes n mid new around k second.grows out))
         (second.leads W homes size n k
-        (suits_part P W homes size pair b old mid first.grows suits suits.in_loop suits.resolved.1 (rest_sites W.setting.program suits.sites) (Contains-append_right (calls_of a) (calls_of b)))
+        (suits_part P W homes size pair b old mid first.grows suits suits.around suits.resolved.1 (rest_sites W.setting.program suits.sites) (Contains-append_right (calls_of a) (calls_of b)))
         whole out after));
   }
 
@@ -151,10 +152,11 @@ block_lowers P around s body old new is h = rw is (
       typed = λ S w size suits now.
           now_more S (w + inlined_weight S.program body) (w + (inlined_weight S.program body + 1)) new (omega arith)
           (inner.typed S w size
-          (typing_part P S size (Statement.Block body) body old old (grows_refl old) suits suits.in_loop (omega arith) suits.resolved (sites_of S.program suits.sites) (λ g c. c)) now);
+          (typing_part P S size (Statement.Block body) body old old (grows_refl old) suits (within suits.around) (omega arith) suits.resolved (sites_of S.program suits.sites) (λ g c. c)) now);
       leads = λ W homes size n k suits whole out after.
           inner.leads W homes size n k
-          (suits_part P W homes size (Statement.Block body) body old old (grows_refl old) suits suits.in_loop suits.resolved (sites_of W.setting.program suits.sites) (λ g c. c)) whole out after;
+          (suits_part P W homes size (Statement.Block body) body old old (grows_refl old) suits (within suits.around) suits.resolved
+          (sites_of W.setting.program suits.sites) (λ g c. c)) whole out after;
     })
   where
     sites_of : (P : Program) → HasSites P (Statement.Block body) old.site → HasSites P body old.site
@@ -162,10 +164,16 @@ block_lowers P around s body old new is h = rw is (
 
 -- ---- an if
 
-module _ (P : Program) (around : Option Loop) (d : Condition) (l : ChoiceLabels) (one other : Statement) (old a b e g new : Lowering) (opens : OpensChoice d l old a) (first : Leads P around one a b)
+module _ (P : Program) (around : Option Loop) (d : Statement) (l : ChoiceLabels) (one other : Statement) (old a b e g new : Lowering) (opens : OpensChoice d l old a) (first : Leads P around one a b)
     (turns : TurnsChoice l b e) (second : Leads P around other e g) (closes : Binds l.join g new) where
   abbrev choice : Statement
   choice = Statement.If d one other
+
+  one_called : (g : ℕ) → Contains (calls_of one) g → Contains (calls_of choice) g
+  one_called g c = Contains-append_right (calls_of d) (calls_of one ++ calls_of other) g (Contains-append_left (calls_of one) (calls_of other) g c)
+
+  other_called : (g : ℕ) → Contains (calls_of other) g → Contains (calls_of choice) g
+  other_called g c = Contains-append_right (calls_of d) (calls_of one ++ calls_of other) g (Contains-append_right (calls_of one) (calls_of other) g c)
 
   to_labelled : Grows old opens.labelled
   to_labelled = opens.relabels.shifts.grows
@@ -220,16 +228,16 @@ module _ (P : Program) (around : Option Loop) (d : Condition) (l : ChoiceLabels)
   choice_typed : (S : Typing) (w size : ℕ) → SuitsTyping P S size choice old → IsTypedNow S w old → IsTypedNow S (w + inlined_weight S.program choice) new
   choice_typed S w size suits now =
       let at_labelled = opens.relabels.shifts.typed S w size suits.good now in
-      let v = w + (condition_weight d + 1) in
+      let v = w + (inlined_weight S.program d + 1) in
       let at_decided = opens.decides.typed S w size (subst (Fits S) (sym to_labelled.homes) suits.fits) suits.resolved.0 (to_labelled.good size suits.good) at_labelled in
       let at_a = (binds_shifts l.if_true opens.decided a opens.binds).typed S v size (old_decided.good size suits.good) at_decided in
-      let at_b = first.typed S v size (typing_part P S size choice one old a old_a suits suits.in_loop (omega arith) suits.resolved.1 (one_sites S.program suits.sites)
-      (Contains-append_left (calls_of one) (calls_of other))) at_a in
+      let at_b = first.typed S v size (typing_part P S size choice one old a old_a suits (within suits.around) (omega arith) suits.resolved.1 (one_sites S.program suits.sites)
+      one_called) at_a in
       let at_mid = (leaps_shifts l.join b turns.mid turns.leaps).typed S (v + inlined_weight S.program one) size (old_b.good size suits.good) at_b in
       let at_e = (binds_shifts l.if_false turns.mid e turns.binds).typed S (v + inlined_weight S.program one) size (old_mid.good size suits.good) at_mid in
       let at_g = second.typed S (v + inlined_weight S.program one) size
-      (typing_part P S size choice other old e old_e suits suits.in_loop (omega arith) suits.resolved.2 (other_sites S.program suits.sites)
-      (Contains-append_right (calls_of one) (calls_of other))) at_e in
+      (typing_part P S size choice other old e old_e suits (within suits.around) (omega arith) suits.resolved.2 (other_sites S.program suits.sites)
+      other_called) at_e in
       now_more S (v + inlined_weight S.program one + inlined_weight S.program other) (w + inlined_weight S.program choice) new (omega arith)
       ((binds_shifts l.join g new closes).typed S (v + inlined_weight S.program one + inlined_weight S.program other) size (old_g.good size suits.good) at_g)
 
@@ -252,8 +260,8 @@ module _ (P : Program) (around : Option Loop) (d : Condition) (l : ChoiceLabels)
 
     other_goes : OnwardUpTo W homes n e (settled Onward (Do other ∷ k))
     other_goes =
-        second.leads W homes size n k (suits_part P W homes size choice other old e old_e suits suits.in_loop suits.resolved.2 (other_sites W.setting.program suits.sites)
-        (Contains-append_right (calls_of one) (calls_of other))) whole_g
+        second.leads W homes size n k (suits_part P W homes size choice other old e old_e suits (within suits.around) suits.resolved.2 (other_sites W.setting.program suits.sites)
+        other_called) whole_g
         (out_before W homes n g new around k to_new out) (binds_goes W homes n (settled Onward k) l.join size g new (old_g.good size suits.good) closes whole after)
 
     joins : IfUsed W homes n turns.mid.stages.used l.join (settled Onward k)
@@ -262,8 +270,8 @@ module _ (P : Program) (around : Option Loop) (d : Condition) (l : ChoiceLabels)
 
     one_goes : OnwardUpTo W homes n a (settled Onward (Do one ∷ k))
     one_goes =
-        first.leads W homes size n k (suits_part P W homes size choice one old a old_a suits suits.in_loop suits.resolved.1 (one_sites W.setting.program suits.sites)
-        (Contains-append_left (calls_of one) (calls_of other))) whole_b
+        first.leads W homes size n k (suits_part P W homes size choice one old a old_a suits (within suits.around) suits.resolved.1 (one_sites W.setting.program suits.sites)
+        one_called) whole_b
         (out_before W homes n b new around k (grows_both b e new (grows_both b turns.mid e to_mid to_e) (grows_both e g new second.grows to_new)) out)
         (leaps_goes W homes n (settled Onward k) l.join size b turns.mid (old_b.good size suits.good) turns.leaps whole_mid joins)
 
@@ -274,12 +282,13 @@ module _ (P : Program) (around : Option Loop) (d : Condition) (l : ChoiceLabels)
         binds_at W homes n (settled Onward (Do other ∷ k)) l.if_false size turns.mid e (old_mid.good size suits.good) turns.binds whole_e other_goes
         (to_mid.used l.if_false (first.grows.used l.if_false (to_a.used l.if_false (opens.decides.marks false))))
 
-    choice_goes : OnwardUpTo W homes n old (Ask d ∷ Choose one other ∷ k)
+    choice_goes : OnwardUpTo W homes n old (settled Onward (Do choice ∷ k))
     choice_goes on j le =
         let good = to_labelled.good size suits.good in
-        goes_relabelled W homes nothing_kept j (Ask d ∷ Choose one other ∷ k) old opens.labelled opens.relabels
-        (opens.decides.asks W homes size j (Choose one other ∷ k) (to_labelled.homes ∙ suits.homes_) good.variables (to_a.whole W whole_a) good.sound
-        (λ i lt truth. sides truth i (omega arith)) d (Choose one other ∷ k) refl refl)
+        subst (GoesOn W homes nothing_kept j old) (opened_part choice d k (Choose one other ∷ k) opens.decides.asked refl)
+        (goes_relabelled W homes nothing_kept j (settled Onward (Do d ∷ Choose one other ∷ k)) old opens.labelled opens.relabels
+        (opens.decides.asks W homes size j (Choose one other ∷ k) (to_labelled.homes ∙ suits.homes_) good.variables (to_a.whole W whole_a) good.sound (λ truth. refl)
+        (λ i lt truth. sides truth i (omega arith))))
 
   pub choice_leads : Leads P around choice old new
   choice_leads = record {
@@ -289,7 +298,7 @@ module _ (P : Program) (around : Option Loop) (d : Condition) (l : ChoiceLabels)
     leads = choice_goes;
   }
 
-pub choice_lowers : (P : Program) (around : Option Loop) (s : Statement) (d : Condition) (one other : Statement) (l : ChoiceLabels) (old a b e g new : Lowering) → s ≡ Statement.If d one other →
+pub choice_lowers : (P : Program) (around : Option Loop) (s : Statement) (d : Statement) (one other : Statement) (l : ChoiceLabels) (old a b e g new : Lowering) → s ≡ Statement.If d one other →
     OpensChoice d l old a →
     Leads P around one a b → TurnsChoice l b e → Leads P around other e g → Binds l.join g new → Leads P around s old new
 choice_lowers P around s d one other l old a b e g new is opens first turns second closes =
@@ -304,6 +313,13 @@ from_below n Q step i le = step i le (λ j lt. below i le j lt)
     below : (i : ℕ) → i ≤ n → (j : ℕ) → j < i → Q j
     below zero le j lt = absurd (omega arith)
     below (suc i) le j lt = step j (omega arith) (λ m less. below i (omega arith) m (omega arith))
+
+-- the condition of a loop before the work k
+abbrev pub asking : WorkLoop → List Work → List Work
+asking loop k = asked loop k (λ going. settled going k)
+
+asking_is : (loop : WorkLoop) (k : List Work) → is_asked loop.condition ≡ true → settled Onward (Do loop.condition ∷ Turn loop ∷ k) ≡ asking loop k
+asking_is loop k ok = opened_asked loop.condition ok (Turn loop ∷ k) (λ going. settled going (Turn loop ∷ k)) (λ going. settled going k)
 
 -- a head with its label
 module _ (l : LoopLabels) (old begun : Lowering) (opens : OpensLoop l old begun) where
@@ -328,7 +344,7 @@ module _ (l : LoopLabels) (old begun : Lowering) (opens : OpensLoop l old begun)
 
 -- a condition at the head
 module _ (loop : WorkLoop) (l : LoopLabels) (old a : Lowering) (opens : OpensTurn loop.condition l old a) where
-  abbrev d : Condition
+  abbrev d : Statement
   d = loop.condition
 
   old_begun : Shifts old opens.begun
@@ -349,9 +365,9 @@ module _ (loop : WorkLoop) (l : LoopLabels) (old a : Lowering) (opens : OpensTur
   pub turn_site : a.site ≡ old.site
   turn_site = decided_a.site ∙ opens.decides.site ∙ old_begun.site
 
-  pub turn_typed : (S : Typing) (w size : ℕ) → Fits S old.homes → IsCondition S.program S.function d → IsGood size old → IsTypedNow S w old → IsTypedNow S (w + (condition_weight d + 1)) a
+  pub turn_typed : (S : Typing) (w size : ℕ) → Fits S old.homes → IsCondition S.program S.function d → IsGood size old → IsTypedNow S w old → IsTypedNow S (w + (inlined_weight S.program d + 1)) a
   turn_typed S w size fits is good now =
-      decided_a.typed S (w + (condition_weight d + 1)) size (old_decided_.good size good)
+      decided_a.typed S (w + (inlined_weight S.program d + 1)) size (old_decided_.good size good)
       (opens.decides.typed S w size (subst (Fits S) (sym old_begun.grows.homes) fits) is (old_begun.grows.good size good) (old_begun.typed S w size good now))
 
   pub turn_leaves : is_used a.stages.used l.leaving ≡ true
@@ -359,27 +375,28 @@ module _ (loop : WorkLoop) (l : LoopLabels) (old a : Lowering) (opens : OpensTur
 
   module _ (W : Whole) (homes : List Home) (size n : ℕ) (k : List Work) (homes_are : old.homes ≡ homes) (good : IsGood size old) (whole : IsIn W a)
       (leave : AtLabelUpTo W homes n l.leaving (settled Onward k))
-      (body : (i : ℕ) → i ≤ n → AtLabelUpTo W homes i l.head (asked loop k) → OnwardUpTo W homes i a (settled Onward (Do loop.body ∷ Next loop ∷ k))) where
+      (body : (i : ℕ) → i ≤ n → AtLabelUpTo W homes i l.head (asking loop k) → OnwardUpTo W homes i a (settled Onward (Do loop.body ∷ Next loop ∷ k))) where
     good_begun : IsGood size opens.begun
     good_begun = old_begun.grows.good size good
 
     whole_decided : IsIn W opens.decided
     whole_decided = decided_a.grows.whole W whole
 
-    turns_at : (i : ℕ) → i ≤ n → GoesOn W homes nothing_kept i opens.begun (asked loop k)
-    turns_at = from_below n (λ i. GoesOn W homes nothing_kept i opens.begun (asked loop k))
+    turns_at : (i : ℕ) → i ≤ n → GoesOn W homes nothing_kept i opens.begun (asking loop k)
+    turns_at = from_below n (λ i. GoesOn W homes nothing_kept i opens.begun (asking loop k))
         (λ i le earlier.
-        opens.decides.asks W homes size i (Turn loop ∷ k) (old_begun.grows.homes ∙ homes_are) good_begun.variables whole_decided good_begun.sound
-        (λ j lt truth. by j truth (omega arith) (λ m less. head_at l old opens.begun opens.opens W homes size m (asked loop k) good (earlier m (omega arith)))) d (Turn loop ∷ k) refl refl)
+        subst (GoesOn W homes nothing_kept i opens.begun) (asking_is loop k opens.decides.asked)
+        (opens.decides.asks W homes size i (Turn loop ∷ k) (old_begun.grows.homes ∙ homes_are) good_begun.variables whole_decided good_begun.sound (λ truth. refl)
+        (λ j lt truth. by j truth (omega arith) (λ m less. head_at l old opens.begun opens.opens W homes size m (asking loop k) good (earlier m (omega arith))))))
       where
-        by : (j : ℕ) (truth : Bool) → j ≤ n → AtLabelUpTo W homes j l.head (asked loop k) → AtLabel W homes j (side l.body l.leaving truth) (decided truth (Turn loop ∷ k))
+        by : (j : ℕ) (truth : Bool) → j ≤ n → AtLabelUpTo W homes j l.head (asking loop k) → AtLabel W homes j (side l.body l.leaving truth) (decided truth (Turn loop ∷ k))
         by j true le at =
             binds_at W homes j (settled Onward (Do loop.body ∷ Next loop ∷ k)) l.body size opens.decided a (old_decided_.good size good) opens.binds whole (body j le at)
             (opens.decides.marks true) j (omega arith)
         by j false le at = leave j le
 
-    pub turns_go : OnwardUpTo W homes n old (asked loop k)
-    turns_go = head_goes l old opens.begun opens.opens W homes size n (asked loop k) good (begun_decided.whole W whole_decided) turns_at
+    pub turns_go : OnwardUpTo W homes n old (asking loop k)
+    turns_go = head_goes l old opens.begun opens.opens W homes size n (asking loop k) good (begun_decided.whole W whole_decided) turns_at
 
 -- the end of a turn
 module _ (l : LoopLabels) (old new : Lowering) (closes : ClosesTurn l old new) where
@@ -411,7 +428,7 @@ less_label W homes n i label k le at = λ j below. at j (omega arith)
 
 -- ---- while
 
-module _ (P : Program) (around : Option Loop) (d : Condition) (l : LoopLabels) (body : Statement) (old a b new : Lowering) (opens : OpensTurn d l old a)
+module _ (P : Program) (around : Option Loop) (d : Statement) (l : LoopLabels) (body : Statement) (old a b new : Lowering) (opens : OpensTurn d l old a)
     (inner : Leads P (Some (while_labels l)) body a b)
     (closes : ClosesTurn l b new) where
   abbrev while_ : Statement
@@ -436,10 +453,11 @@ module _ (P : Program) (around : Option Loop) (d : Condition) (l : LoopLabels) (
     site = (let x = turn_site while_work l old a opens in let y = inner.site in let z = (close_shifts l b new closes).site in omega (arith, x, y, z));
     typed = λ S w size suits now.
         let at_a = turn_typed while_work l old a opens S w size suits.fits suits.resolved.0 suits.good now in
-        let at_b = inner.typed S (w + (condition_weight d + 1)) size
-        (typing_part P S size while_ body old a while_old_a suits true (omega arith) suits.resolved.1 (while_sites S.program suits.sites) (λ g c. c)) at_a in
-        now_more S (w + (condition_weight d + 1) + inlined_weight S.program body) (w + inlined_weight S.program while_) new (omega arith)
-        ((close_shifts l b new closes).typed S (w + (condition_weight d + 1) + inlined_weight S.program body) size (while_old_b.good size suits.good) at_b);
+        let at_b = inner.typed S (w + (inlined_weight S.program d + 1)) size
+        (typing_part P S size while_ body old a while_old_a suits resolved.in_loop (omega arith) suits.resolved.1 (while_sites S.program suits.sites)
+        (Contains-append_right (calls_of d) (calls_of body))) at_a in
+        now_more S (w + (inlined_weight S.program d + 1) + inlined_weight S.program body) (w + inlined_weight S.program while_) new (omega arith)
+        ((close_shifts l b new closes).typed S (w + (inlined_weight S.program d + 1) + inlined_weight S.program body) size (while_old_b.good size suits.good) at_b);
     leads = λ W homes size n k suits whole out after.
         let good_b = while_old_b.good size suits.good in
         let whole_b = (close_shifts l b new closes).grows.whole W whole in
@@ -447,29 +465,29 @@ module _ (P : Program) (around : Option Loop) (d : Condition) (l : LoopLabels) (
         turns_go while_work l old a opens W homes size n k suits.homes_ suits.good (inner.grows.whole W whole_b)
         (leaves (inner.grows.used l.leaving (turn_leaves while_work l old a opens)))
         (λ i le at.
-        inner.leads W homes size i (Next while_work ∷ k) (suits_part P W homes size while_ body old a while_old_a suits true suits.resolved.1
-        (while_sites W.setting.program suits.sites) (λ g c. c)) whole_b
+        inner.leads W homes size i (Next while_work ∷ k) (suits_part P W homes size while_ body old a while_old_a suits resolved.in_loop suits.resolved.1
+        (while_sites W.setting.program suits.sites) (Contains-append_right (calls_of d) (calls_of body))) whole_b
         (λ used. less_label W homes n i l.leaving (settled Onward k) le (leaves used), λ used. at)
-        (close_turns l b new closes W homes size i (asked while_work k) good_b whole i at));
+        (close_turns l b new closes W homes size i (asking while_work k) good_b whole i at));
   }
 
-pub while_lowers : (P : Program) (around : Option Loop) (s : Statement) (d : Condition) (body : Statement) (l : LoopLabels) (old a b new : Lowering) → s ≡ Statement.While d body →
+pub while_lowers : (P : Program) (around : Option Loop) (s : Statement) (d : Statement) (body : Statement) (l : LoopLabels) (old a b new : Lowering) → s ≡ Statement.While d body →
     OpensTurn d l old a →
     Leads P (Some (while_labels l)) body a b → ClosesTurn l b new → Leads P around s old new
 while_lowers P around s d body l old a b new is opens inner closes = rw is (while_leads P around d l body old a b new opens inner closes)
 
 -- ---- do
 
-abbrev turned : (d : Condition) (body : Statement) (k : List Work) → (going : Going) →
-    in_loop going (asked (while_loop d body) k) (λ g. settled g k) ≡ settled going (Next (while_loop d body) ∷ k)
+abbrev turned : (d : Statement) (body : Statement) (k : List Work) → (going : Going) →
+    in_loop going (asking (while_loop d body) k) (λ g. settled g k) ≡ settled going (Next (while_loop d body) ∷ k)
 turned d body k Onward = refl
 turned d body k Leaving = refl
 turned d body k Turning = refl
 
-settled_do : (d : Condition) (body : Statement) (k : List Work) → settled Onward (Do (Statement.DoWhile body d) ∷ k) ≡ settled Onward (Do body ∷ Next (while_loop d body) ∷ k)
+settled_do : (d : Statement) (body : Statement) (k : List Work) → settled Onward (Do (Statement.DoWhile body d) ∷ k) ≡ settled Onward (Do body ∷ Next (while_loop d body) ∷ k)
 settled_do d body k = λ e. opened body (Next (while_loop d body) ∷ k) (λ going. turned d body k going e)
 
-module _ (d : Condition) (l : LoopLabels) (old new : Lowering) (asks : Asks d l old new) where
+module _ (d : Statement) (l : LoopLabels) (old new : Lowering) (asks : Asks d l old new) where
   pub asks_grows : Grows old new
   asks_grows = by asks
     where
@@ -484,28 +502,29 @@ module _ (d : Condition) (l : LoopLabels) (old new : Lowering) (asks : Asks d l 
       by (inl p) = ap (λ (z : Lowering). z.site) p.same
       by (inr p) = p.decides.site
 
-  pub asks_typed : (S : Typing) (w size : ℕ) → Fits S old.homes → IsCondition S.program S.function d → IsGood size old → IsTypedNow S w old → IsTypedNow S (w + (condition_weight d + 1)) new
+  pub asks_typed : (S : Typing) (w size : ℕ) → Fits S old.homes → IsCondition S.program S.function d → IsGood size old → IsTypedNow S w old → IsTypedNow S (w + (inlined_weight S.program d + 1)) new
   asks_typed S w size fits is good now = by asks
     where
-      by : Asks d l old new → IsTypedNow S (w + (condition_weight d + 1)) new
-      by (inl p) = subst (IsTypedNow S (w + (condition_weight d + 1))) (sym p.same) (now_more S w (w + (condition_weight d + 1)) old (omega arith) now)
+      by : Asks d l old new → IsTypedNow S (w + (inlined_weight S.program d + 1)) new
+      by (inl p) = subst (IsTypedNow S (w + (inlined_weight S.program d + 1))) (sym p.same) (now_more S w (w + (inlined_weight S.program d + 1)) old (omega arith) now)
       by (inr p) = p.decides.typed S w size fits is good now
 
-  pub asks_go : (W : Whole) (homes : List Home) (size n : ℕ) (loop : WorkLoop) (k : List Work) → old.homes ≡ homes → IsGood size old → IsIn W new → loop.condition ≡ d →
+  pub asks_go : (W : Whole) (homes : List Home) (size n : ℕ) (loop : WorkLoop) (k : List Work) → old.homes ≡ homes → IsGood size old → IsIn W new →
       ((j : ℕ) → j < n → AtLabel W homes j l.head (settled Onward (Do loop.body ∷ Next loop ∷ k))) → IfUsed W homes n new.stages.used l.leaving (settled Onward k) →
-      OnwardUpTo W homes n old (Ask d ∷ Turn loop ∷ k)
-  asks_go W homes size n loop k homes_are good whole is turns leaves = by asks
+      OnwardUpTo W homes n old (opened d (Turn loop ∷ k) (λ going. settled going k))
+  asks_go W homes size n loop k homes_are good whole turns leaves = by asks
     where
-      by : Asks d l old new → OnwardUpTo W homes n old (Ask d ∷ Turn loop ∷ k)
+      by : Asks d l old new → OnwardUpTo W homes n old (opened d (Turn loop ∷ k) (λ going. settled going k))
       by (inl p) = λ on. absurd (let off = p.off in cc)
       by (inr p) = λ on j le.
-          p.decides.asks W homes size j (Turn loop ∷ k) homes_are good.variables whole good.sound (λ i lt truth. at i truth (omega arith)) d (Turn loop ∷ k) refl refl
+          subst (GoesOn W homes nothing_kept j old) (opened_asked d p.decides.asked (Turn loop ∷ k) (λ going. settled going (Turn loop ∷ k)) (λ going. settled going k))
+          (p.decides.asks W homes size j (Turn loop ∷ k) homes_are good.variables whole good.sound (λ truth. refl) (λ i lt truth. at i truth (omega arith)))
         where
           at : (i : ℕ) (truth : Bool) → i < n → AtLabel W homes i (side l.head l.leaving truth) (decided truth (Turn loop ∷ k))
           at i true lt = turns i lt
           at i false lt = leaves (p.decides.marks false) i (omega arith)
 
-module _ (P : Program) (around : Option Loop) (d : Condition) (l : LoopLabels) (body : Statement) (old a b new : Lowering) (opens : OpensLoop l old a) (inner : Leads P (Some (labels_of l)) body a b)
+module _ (P : Program) (around : Option Loop) (d : Statement) (l : LoopLabels) (body : Statement) (old a b new : Lowering) (opens : OpensLoop l old a) (inner : Leads P (Some (labels_of l)) body a b)
     (closes : ClosesDo d l b new) where
   abbrev do_ : Statement
   do_ = Statement.DoWhile body d
@@ -541,12 +560,13 @@ module _ (P : Program) (around : Option Loop) (d : Condition) (l : LoopLabels) (
   do_typed : (S : Typing) (w size : ℕ) → SuitsTyping P S size do_ old → IsTypedNow S w old → IsTypedNow S (w + inlined_weight S.program do_) new
   do_typed S w size suits now =
       let at_a = (loop_shifts l old a opens).typed S w size suits.good now in
-      let at_b = inner.typed S w size (typing_part P S size do_ body old a do_old_a suits true (omega arith) suits.resolved.0 (do_sites S.program suits.sites) (λ g c. c)) at_a in
+      let at_b = inner.typed S w size (typing_part P S size do_ body old a do_old_a suits resolved.in_loop (omega arith) suits.resolved.0 (do_sites S.program suits.sites)
+      (Contains-append_left (calls_of body) (calls_of d))) at_a in
       let at_turned = b_turned.typed S (w + inlined_weight S.program body) size (do_old_b.good size suits.good) at_b in
       let at_asked = asks_typed d l closes.turned closes.asked closes.asks S (w + inlined_weight S.program body) size (subst (Fits S) (sym do_old_turned.homes) suits.fits) suits.resolved.1
       (do_old_turned.good size suits.good) at_turned in
-      now_more S (w + inlined_weight S.program body + (condition_weight d + 1)) (w + inlined_weight S.program do_) new (omega arith)
-      (asked_new.typed S (w + inlined_weight S.program body + (condition_weight d + 1)) size (do_old_asked.good size suits.good) at_asked)
+      now_more S (w + inlined_weight S.program body + (inlined_weight S.program d + 1)) (w + inlined_weight S.program do_) new (omega arith)
+      (asked_new.typed S (w + inlined_weight S.program body + (inlined_weight S.program d + 1)) size (do_old_asked.good size suits.good) at_asked)
 
   module _ (W : Whole) (homes : List Home) (size n : ℕ) (k : List Work) (suits : Suits P W homes size do_ old) (whole : IsIn W new) (after : OnwardUpTo W homes n new (settled Onward k)) where
     abbrev top : List Work
@@ -568,14 +588,15 @@ module _ (P : Program) (around : Option Loop) (d : Condition) (l : LoopLabels) (
     do_turns = from_below n (λ i. GoesOn W homes nothing_kept i a top)
         (λ i le earlier.
         let good_b = do_old_b.good size suits.good in
-        let asks : OnwardUpTo W homes i closes.turned (asked do_work k) =
-        asks_go d l closes.turned closes.asked closes.asks W homes size i do_work k (do_old_turned.homes ∙ suits.homes_) (do_old_turned.good size suits.good) do_whole_asked refl
+        let asks : OnwardUpTo W homes i closes.turned (asking do_work k) =
+        asks_go d l closes.turned closes.asked closes.asks W homes size i do_work k (do_old_turned.homes ∙ suits.homes_) (do_old_turned.good size suits.good) do_whole_asked
         (λ j lt. head_at l old a opens W homes size j top suits.good (earlier j lt)) (λ used. less_label W homes n i l.leaving (settled Onward k) le (do_leaves used)) in
-        inner.leads W homes size i (Next do_work ∷ k) (suits_part P W homes size do_ body old a do_old_a suits true suits.resolved.0 (do_sites W.setting.program suits.sites) (λ g c. c)) do_whole_b (
+        inner.leads W homes size i (Next do_work ∷ k) (suits_part P W homes size do_ body old a do_old_a suits resolved.in_loop suits.resolved.0
+        (do_sites W.setting.program suits.sites) (Contains-append_left (calls_of body) (calls_of d))) do_whole_b (
           λ used. less_label W homes n i l.leaving (settled Onward k) le (do_leaves (turned_asked.used l.leaving (b_turned.grows.used l.leaving used))),
-          binds_at W homes i (asked do_work k) l.turning size b closes.turned good_b closes.turns do_whole_turned asks,
+          binds_at W homes i (asking do_work k) l.turning size b closes.turned good_b closes.turns do_whole_turned asks,
         )
-        (binds_goes W homes i (asked do_work k) l.turning size b closes.turned good_b closes.turns do_whole_turned asks)
+        (binds_goes W homes i (asking do_work k) l.turning size b closes.turned good_b closes.turns do_whole_turned asks)
         (begun_reached l.head opens.labelled a opens.begins) i (omega arith))
 
     do_goes : OnwardUpTo W homes n old (settled Onward (Do do_ ∷ k))
@@ -592,26 +613,27 @@ module _ (P : Program) (around : Option Loop) (d : Condition) (l : LoopLabels) (
     leads = λ W homes size n k suits whole out after. do_goes W homes size n k suits whole after;
   }
 
-pub do_lowers : (P : Program) (around : Option Loop) (s : Statement) (d : Condition) (body : Statement) (l : LoopLabels) (old a b new : Lowering) → s ≡ Statement.DoWhile body d → OpensLoop l old a →
+pub do_lowers : (P : Program) (around : Option Loop) (s : Statement) (d : Statement) (body : Statement) (l : LoopLabels) (old a b new : Lowering) → s ≡ Statement.DoWhile body d → OpensLoop l old a →
     Leads P (Some (labels_of l)) body a b → ClosesDo d l b new → Leads P around s old new
 do_lowers P around s d body l old a b new is opens inner closes = rw is (do_leads P around d l body old a b new opens inner closes)
 
 -- ---- for
 
-abbrev past : (loop : WorkLoop) (k : List Work) → (going : Going) → in_order going (asked loop k) (λ g. settled g k) ≡ settled going (asked loop k)
-past loop k Onward = refl
-past loop k Leaving = refl
-past loop k Turning = refl
+past : (loop : WorkLoop) (k : List Work) → is_asked loop.condition ≡ true → (going : Going) →
+    in_order going (asking loop k) (λ g. settled g k) ≡ settled going (Do loop.condition ∷ Turn loop ∷ k)
+past loop k ok Onward = sym (asking_is loop k ok)
+past loop k ok Leaving = refl
+past loop k ok Turning = refl
 
-settled_for : (first : Statement) (d : Condition) (last body : Statement) (k : List Work) →
-    settled Onward (Do (Statement.For first d last body) ∷ k) ≡ settled Onward (Do first ∷ asked (for_loop d last body) k)
-settled_for first d last body k = λ e. opened first (asked (for_loop d last body) k) (λ going. past (for_loop d last body) k going e)
+settled_for : (first d last body : Statement) (k : List Work) → is_asked d ≡ true →
+    settled Onward (Do (Statement.For first d last body) ∷ k) ≡ settled Onward (Do first ∷ Do d ∷ Turn (for_loop d last body) ∷ k)
+settled_for first d last body k ok = λ e. opened first (Do d ∷ Turn (for_loop d last body) ∷ k) (λ going. past (for_loop d last body) k ok going e)
 
-settled_next : (d : Condition) (last body : Statement) (k : List Work) →
-    settled Onward (Next (for_loop d last body) ∷ k) ≡ settled Onward (Do last ∷ asked (for_loop d last body) k)
-settled_next d last body k = λ e. opened last (asked (for_loop d last body) k) (λ going. past (for_loop d last body) k going e)
+settled_next : (d last body : Statement) (k : List Work) → is_asked d ≡ true →
+    settled Onward (Next (for_loop d last body) ∷ k) ≡ settled Onward (Do last ∷ Do d ∷ Turn (for_loop d last body) ∷ k)
+settled_next d last body k ok = λ e. opened last (Do d ∷ Turn (for_loop d last body) ∷ k) (λ going. past (for_loop d last body) k ok going e)
 
-module _ (P : Program) (around : Option Loop) (first_ : Statement) (d : Condition) (last body : Statement) (l : LoopLabels) (old a0 a b c e new : Lowering) (last_site after_site : ℕ)
+module _ (P : Program) (around : Option Loop) (first_ : Statement) (d last body : Statement) (l : LoopLabels) (old a0 a b c e new : Lowering) (last_site after_site : ℕ)
     (first : Leads P None first_ old a0) (last_is : last_site ≡ a0.site) (opens : OpensTurn d l (at_site (a0.site + print_count last) a0) a) (inner : Leads P (Some (labels_of l)) body a b)
     (after_is : after_site ≡ b.site) (turns : Binds l.turning (at_site last_site b) c) (last_ : Leads P None last c e) (closes : ClosesTurn l (at_site after_site e) new) where
   abbrev for_ : Statement
@@ -619,6 +641,16 @@ module _ (P : Program) (around : Option Loop) (first_ : Statement) (d : Conditio
 
   abbrev for_work : WorkLoop
   for_work = for_loop d last body
+
+  last_called : (g : ℕ) → Contains (calls_of last) g → Contains (calls_of for_) g
+  last_called g c =
+      Contains-append_right (calls_of first_) (calls_of d ++ (calls_of last ++ calls_of body)) g
+      (Contains-append_right (calls_of d) (calls_of last ++ calls_of body) g (Contains-append_left (calls_of last) (calls_of body) g c))
+
+  body_called : (g : ℕ) → Contains (calls_of body) g → Contains (calls_of for_) g
+  body_called g c =
+      Contains-append_right (calls_of first_) (calls_of d ++ (calls_of last ++ calls_of body)) g
+      (Contains-append_right (calls_of d) (calls_of last ++ calls_of body) g (Contains-append_right (calls_of last) (calls_of body) g c))
 
   abbrev skipped : Lowering
   skipped = at_site (a0.site + print_count last) a0
@@ -676,18 +708,18 @@ module _ (P : Program) (around : Option Loop) (first_ : Statement) (d : Conditio
   for_typed : (S : Typing) (w size : ℕ) → SuitsTyping P S size for_ old → IsTypedNow S w old → IsTypedNow S (w + inlined_weight S.program for_) new
   for_typed S w size suits now =
       let w1 = w + inlined_weight S.program first_ in
-      let w2 = w1 + (condition_weight d + 1) in
+      let w2 = w1 + (inlined_weight S.program d + 1) in
       let w3 = w2 + inlined_weight S.program body in
       let w4 = w3 + inlined_weight S.program last in
-      let at_a0 = first.typed S w size (typing_part P S size for_ first_ old old (grows_refl old) suits false (omega arith) suits.resolved.0 (for_first_sites S.program suits.sites)
-      (Contains-append_left (calls_of first_) (calls_of last ++ calls_of body))) now in
+      let at_a0 = first.typed S w size (typing_part P S size for_ first_ old old (grows_refl old) suits nowhere (omega arith) suits.resolved.0 (for_first_sites S.program suits.sites)
+      (Contains-append_left (calls_of first_) (calls_of d ++ (calls_of last ++ calls_of body)))) now in
       let at_a = turn_typed for_work l skipped a opens S w1 size (subst (Fits S) (sym old_skipped.homes) suits.fits) suits.resolved.1 (old_skipped.good size suits.good)
       (site_typed (a0.site + print_count last) a0 S w1 at_a0) in
-      let at_b = inner.typed S w2 size (typing_part P S size for_ body old a for_old_a suits true (omega arith) suits.resolved.3 (for_body_sites S.program suits.sites)
-      (λ g c. Contains-append_right (calls_of first_) (calls_of last ++ calls_of body) g (Contains-append_right (calls_of last) (calls_of body) g c))) at_a in
+      let at_b = inner.typed S w2 size (typing_part P S size for_ body old a for_old_a suits resolved.in_loop (omega arith) suits.resolved.3 (for_body_sites S.program suits.sites)
+      body_called) at_a in
       let at_c = sited_c.typed S w3 size (for_old_sited.good size suits.good) (site_typed last_site b S w3 at_b) in
-      let at_e = last_.typed S w3 size (typing_part P S size for_ last old c for_old_c suits false (omega arith) suits.resolved.2 (for_last_sites S.program suits.sites)
-      (λ g c. Contains-append_right (calls_of first_) (calls_of last ++ calls_of body) g (Contains-append_left (calls_of last) (calls_of body) g c))) at_c in
+      let at_e = last_.typed S w3 size (typing_part P S size for_ last old c for_old_c suits nowhere (omega arith) suits.resolved.2 (for_last_sites S.program suits.sites)
+      last_called) at_c in
       now_more S w4 (w + inlined_weight S.program for_) new (omega arith)
       (closing_new.typed S w4 size (for_old_closing.good size suits.good) (site_typed after_site e S w4 at_e))
 
@@ -707,21 +739,20 @@ module _ (P : Program) (around : Option Loop) (first_ : Statement) (d : Conditio
         (last_.grows.used l.leaving (sited_c.grows.used l.leaving used))
 
     -- the last part, and then the condition
-    last_goes : (i : ℕ) → AtLabelUpTo W homes i l.head (asked for_work k) → OnwardUpTo W homes i c (settled Onward (Next for_work ∷ k))
+    last_goes : (i : ℕ) → AtLabelUpTo W homes i l.head (asking for_work k) → OnwardUpTo W homes i c (settled Onward (Next for_work ∷ k))
     last_goes i at =
-        subst (λ w. OnwardUpTo W homes i c w) (sym (settled_next d last body k))
-        (last_.leads W homes size i (asked for_work k) (suits_part P W homes size for_ last old c for_old_c suits false suits.resolved.2
-        (for_last_sites W.setting.program suits.sites) (λ g c. Contains-append_right (calls_of first_) (calls_of last ++ calls_of body) g
-        (Contains-append_left (calls_of last) (calls_of body) g c))) for_whole_e tt
-        (site_goes W homes i (asked for_work k) after_site e
-        (close_turns l (at_site after_site e) new closes W homes size i (asked for_work k) (for_old_closing.good size suits.good) whole i at)))
+        subst (λ w. OnwardUpTo W homes i c w) (sym (settled_next d last body k opens.decides.asked))
+        (last_.leads W homes size i (Do d ∷ Turn for_work ∷ k) (suits_part P W homes size for_ last old c for_old_c suits nowhere suits.resolved.2
+        (for_last_sites W.setting.program suits.sites) last_called) for_whole_e tt
+        (subst (OnwardUpTo W homes i e) (sym (asking_is for_work k opens.decides.asked))
+        (site_goes W homes i (asking for_work k) after_site e
+        (close_turns l (at_site after_site e) new closes W homes size i (asking for_work k) (for_old_closing.good size suits.good) whole i at))))
 
-    body_goes : (i : ℕ) → i ≤ n → AtLabelUpTo W homes i l.head (asked for_work k) → OnwardUpTo W homes i a (settled Onward (Do body ∷ Next for_work ∷ k))
+    body_goes : (i : ℕ) → i ≤ n → AtLabelUpTo W homes i l.head (asking for_work k) → OnwardUpTo W homes i a (settled Onward (Do body ∷ Next for_work ∷ k))
     body_goes i le at =
         let good_sited = for_old_sited.good size suits.good in
-        inner.leads W homes size i (Next for_work ∷ k) (suits_part P W homes size for_ body old a for_old_a suits true suits.resolved.3
-        (for_body_sites W.setting.program suits.sites) (λ g c. Contains-append_right (calls_of first_) (calls_of last ++ calls_of body) g
-        (Contains-append_right (calls_of last) (calls_of body) g c))) for_whole_b (
+        inner.leads W homes size i (Next for_work ∷ k) (suits_part P W homes size for_ body old a for_old_a suits resolved.in_loop suits.resolved.3
+        (for_body_sites W.setting.program suits.sites) body_called) for_whole_b (
           λ used. less_label W homes n i l.leaving (settled Onward k) le (for_leaves used),
           binds_at W homes i (settled Onward (Next for_work ∷ k)) l.turning size (at_site last_site b) c good_sited turns for_whole_c (last_goes i at),
         )
@@ -731,13 +762,14 @@ module _ (P : Program) (around : Option Loop) (first_ : Statement) (d : Conditio
     for_goes : OnwardUpTo W homes n old (settled Onward (Do for_ ∷ k))
     for_goes =
         let whole_a = inner.grows.whole W for_whole_b in
-        subst (λ w. OnwardUpTo W homes n old w) (sym (settled_for first_ d last body k))
-        (first.leads W homes size n (asked for_work k) (suits_part P W homes size for_ first_ old old (grows_refl old) suits false suits.resolved.0
-        (for_first_sites W.setting.program suits.sites) (Contains-append_left (calls_of first_) (calls_of last ++ calls_of body)))
+        subst (λ w. OnwardUpTo W homes n old w) (sym (settled_for first_ d last body k opens.decides.asked))
+        (first.leads W homes size n (Do d ∷ Turn for_work ∷ k) (suits_part P W homes size for_ first_ old old (grows_refl old) suits nowhere suits.resolved.0
+        (for_first_sites W.setting.program suits.sites) (Contains-append_left (calls_of first_) (calls_of d ++ (calls_of last ++ calls_of body))))
         ((site_grows (a0.site + print_count last) a0).whole W ((turn_grows for_work l skipped a opens).whole W whole_a)) tt
-        (site_goes W homes n (asked for_work k) (a0.site + print_count last) a0
+        (subst (OnwardUpTo W homes n a0) (sym (asking_is for_work k opens.decides.asked))
+        (site_goes W homes n (asking for_work k) (a0.site + print_count last) a0
         (turns_go for_work l skipped a opens W homes size n k (old_skipped.homes ∙ suits.homes_) (old_skipped.good size suits.good) whole_a
-        (for_leaves (inner.grows.used l.leaving (turn_leaves for_work l skipped a opens))) body_goes)))
+        (for_leaves (inner.grows.used l.leaving (turn_leaves for_work l skipped a opens))) body_goes))))
 
   pub for_leads : Leads P around for_ old new
   for_leads = record {
@@ -747,7 +779,7 @@ module _ (P : Program) (around : Option Loop) (first_ : Statement) (d : Conditio
     leads = λ W homes size n k suits whole out after. for_goes W homes size n k suits whole after;
   }
 
-pub for_lowers : (P : Program) (around : Option Loop) (s first_ : Statement) (d : Condition) (last body : Statement) (l : LoopLabels) (old a0 a b c e new : Lowering) (last_site after_site : ℕ) →
+pub for_lowers : (P : Program) (around : Option Loop) (s first_ : Statement) (d last body : Statement) (l : LoopLabels) (old a0 a b c e new : Lowering) (last_site after_site : ℕ) →
     s ≡ Statement.For first_ d last body → Leads P None first_ old a0 → last_site ≡ a0.site → OpensTurn d l (at_site (a0.site + print_count last) a0) a → Leads P (Some (labels_of l)) body a b →
     after_site ≡ b.site → Binds l.turning (at_site last_site b) c → Leads P None last c e → ClosesTurn l (at_site after_site e) new → Leads P around s old new
 for_lowers P around s first_ d last body l old a0 a b c e new last_site after_site is first last_is opens inner after_is turns last_ closes =

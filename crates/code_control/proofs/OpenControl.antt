@@ -1,6 +1,6 @@
 -- The code of an if and of loops leaves open what was, and begins where it did.
 use Rattle.std.proofs.Common.{◌≡◌, ℕ, ◌<◌, true, length, Option, Some, None, sym, ap, ◌∙◌, subst, inl, inr, ⊎_elim, arith}
-use Rattle.c_program.specs.Tree.{Condition}
+use Rattle.c_program.specs.Tree.{Statement}
 use Rattle.block_ir.specs.declared.block.Next.TheVariants.{Jump}
 use Rattle.code_places.specs.declared.targets.Loop.{Loop}
 use Rattle.code_control.specs.declared.branching.ChoiceLabels.{ChoiceLabels}
@@ -25,7 +25,7 @@ new_bound label other a b c apart h n = record { after = n.after; open_ = h.open
 
 -- ---- an if
 
-module _ (d : Condition) (l : ChoiceLabels) (old a : Lowering) (opens : OpensChoice d l old a) where
+module _ (d : Statement) (l : ChoiceLabels) (old a : Lowering) (opens : OpensChoice d l old a) where
   old_decided : Advances None_ old.stages opens.decided.stages
   old_decided = advances_both None_ old.stages opens.labelled.stages opens.decided.stages opens.relabels.advances opens.decides.advances
 
@@ -49,38 +49,38 @@ module _ (d : Condition) (l : ChoiceLabels) (old a : Lowering) (opens : OpensCho
       new_bound l.if_true l.join old opens.decided a (λ e. absurd (let lt = opens.labels.first in let more = opens.labels.second in omega (arith, lt, more, e))) decided_a
       (new_more l.join old opens.labelled opens.decided opens.decides.advances opens.labels.join)
 
-choice_back : (d : Condition) (l : ChoiceLabels) (old a : Lowering) → OpensChoice d l old a → a.back ≡ old.back
+choice_back : (d : Statement) (l : ChoiceLabels) (old a : Lowering) → OpensChoice d l old a → a.back ≡ old.back
 choice_back d l old a opens =
     (binds_shifts l.if_true opens.decided a opens.binds).grows.back ∙ (decides_grows d l.if_true l.if_false opens.labelled opens.decided opens.decides).back ∙ opens.relabels.shifts.grows.back
 
 -- and of the first branch
-pub choice_back_first : (around : Option Loop) (d : Condition) (l : ChoiceLabels) (initial old a : Lowering) → IsBackTarget initial.back initial.stages →
+pub choice_back_first : (around : Option Loop) (d : Statement) (l : ChoiceLabels) (initial old a : Lowering) → IsBackTarget initial.back initial.stages →
     Proceeds around initial old → OpensChoice d l old a →
     IsBackTarget a.back a.stages
 choice_back_first around d l initial old a target before opens =
     back_after initial a (advances_both None_ initial.stages old.stages a.stages before.advances (choice_advance d l old a opens)) (choice_back d l old a opens ∙ before.back) target
 
 -- the labels of an if are open where they are to be
-pub false_open : (d : Condition) (l : ChoiceLabels) (around : Option Loop) (old a b : Lowering) → OpensChoice d l old a → Proceeds around a b → IsOpen l.if_false b.stages
+pub false_open : (d : Statement) (l : ChoiceLabels) (around : Option Loop) (old a b : Lowering) → OpensChoice d l old a → Proceeds around a b → IsOpen l.if_false b.stages
 false_open d l around old a b opens first = first.advances.open_ l.if_false (λ m. m) (choice_false d l old a opens).open_
 
-pub join_open : (d : Condition) (l : ChoiceLabels) (around : Option Loop) (old a b : Lowering) → OpensChoice d l old a → Proceeds around a b → IsOpen l.join b.stages
+pub join_open : (d : Statement) (l : ChoiceLabels) (around : Option Loop) (old a b : Lowering) → OpensChoice d l old a → Proceeds around a b → IsOpen l.join b.stages
 join_open d l around old a b opens first = first.advances.open_ l.join (λ m. m) (choice_join d l old a opens).open_
 
-pub choice_apart : (d : Condition) (l : ChoiceLabels) (old a : Lowering) → OpensChoice d l old a → l.if_false < l.join
+pub choice_apart : (d : Statement) (l : ChoiceLabels) (old a : Lowering) → OpensChoice d l old a → l.if_false < l.join
 choice_apart d l old a opens = opens.labels.second
 
 turns_advance : (l : ChoiceLabels) (b e : Lowering) → TurnsChoice l b e → Advances (λ other. other ≡ l.if_false) b.stages e.stages
 turns_advance l b e turns =
     advances_label (λ other. other ≡ l.if_false) b.stages turns.mid.stages e.stages (leaps_advance l.join b turns.mid turns.leaps) (binds_advance l.if_false turns.mid e turns.binds)
 
-pub join_open_after : (d : Condition) (l : ChoiceLabels) (around : Option Loop) (old a b e g : Lowering) → OpensChoice d l old a → Proceeds around a b → TurnsChoice l b e → Proceeds around e g →
+pub join_open_after : (d : Statement) (l : ChoiceLabels) (around : Option Loop) (old a b e g : Lowering) → OpensChoice d l old a → Proceeds around a b → TurnsChoice l b e → Proceeds around e g →
     IsOpen l.join g.stages
 join_open_after d l around old a b e g opens first turns second =
     second.advances.open_ l.join (λ m. m)
     ((turns_advance l b e turns).open_ l.join (λ is. absurd (let lt = opens.labels.second in omega (arith, lt, is))) (join_open d l around old a b opens first))
 
-pub choice_targets : (around : Option Loop) (d : Condition) (l : ChoiceLabels) (initial old a b e : Lowering) → AreTargets around initial.stages → Proceeds around initial old → OpensChoice d l old a →
+pub choice_targets : (around : Option Loop) (d : Statement) (l : ChoiceLabels) (initial old a b e : Lowering) → AreTargets around initial.stages → Proceeds around initial old → OpensChoice d l old a →
     Proceeds around a b → TurnsChoice l b e → AreTargets around e.stages
 choice_targets around d l initial old a b e targets before opens first turns =
     targets_after around initial.stages e.stages
@@ -90,7 +90,7 @@ choice_targets around d l initial old a b e targets before opens first turns =
     targets
 
 -- the back of what comes after the first branch
-pub choice_back_target : (around : Option Loop) (d : Condition) (l : ChoiceLabels) (initial old a b e : Lowering) → IsBackTarget initial.back initial.stages →
+pub choice_back_target : (around : Option Loop) (d : Statement) (l : ChoiceLabels) (initial old a b e : Lowering) → IsBackTarget initial.back initial.stages →
     Proceeds around initial old → OpensChoice d l old a →
     Proceeds around a b → TurnsChoice l b e → IsBackTarget e.back e.stages
 choice_back_target around d l initial old a b e target before opens first turns =
@@ -101,7 +101,7 @@ choice_back_target around d l initial old a b e target before opens first turns 
     ((binds_shifts l.if_false turns.mid e turns.binds).grows.back ∙ (leaps_shifts l.join b turns.mid turns.leaps).grows.back ∙ first.back ∙ choice_back d l old a opens ∙ before.back)
     target
 
-pub choice_proceeds : (around : Option Loop) (d : Condition) (l : ChoiceLabels) (old a b e g new : Lowering) → old.reached ≡ true → OpensChoice d l old a → Proceeds around a b → TurnsChoice l b e →
+pub choice_proceeds : (around : Option Loop) (d : Statement) (l : ChoiceLabels) (old a b e g new : Lowering) → old.reached ≡ true → OpensChoice d l old a → Proceeds around a b → TurnsChoice l b e →
     Proceeds around e g → Binds l.join g new → Proceeds around old new
 choice_proceeds around d l old a b e g new on opens first turns second closes =
     begun_proceeds around old new
@@ -143,7 +143,7 @@ module _ (l : LoopLabels) (old begun : Lowering) (opens : OpensLoop l old begun)
   pub loop_leaving : IsNewLabel l.leaving old begun
   loop_leaving = begun_new l l.leaving old begun opens (let a = opens.labels.first in let b = opens.labels.second in let c = opens.labels.third in omega (arith, a, b, c)) opens.labels.leaving
 
-module _ (d : Condition) (l : LoopLabels) (old a : Lowering) (opens : OpensTurn d l old a) where
+module _ (d : Statement) (l : LoopLabels) (old a : Lowering) (opens : OpensTurn d l old a) where
   to_decided : Advances None_ old.stages opens.decided.stages
   to_decided = advances_both None_ old.stages opens.begun.stages opens.decided.stages (loop_advance l old opens.begun opens.opens) opens.decides.advances
 
@@ -166,7 +166,7 @@ module _ (d : Condition) (l : LoopLabels) (old a : Lowering) (opens : OpensTurn 
 
   -- the head's place is a stage
   pub turn_head : IsAt l.head (length opens.begun.stages.stages.items) a.stages
-  turn_head = to_body.at l.head _ (opens.decides.settled l.head (here_begun l.head opens.opens.labelled opens.begun opens.opens.begins))
+  turn_head = to_body.at l.head _ (opens.decides.comes l.head (here_begun l.head opens.opens.labelled opens.begun opens.opens.begins))
 
   pub turn_turning : IsNewLabel l.turning old a
   turn_turning =
@@ -190,16 +190,16 @@ closes_advance l b new closes =
 
 -- ---- while
 
-pub while_targets : (d : Condition) (l : LoopLabels) (old a : Lowering) → OpensTurn d l old a → AreTargets (Some (while_labels l)) a.stages
+pub while_targets : (d : Statement) (l : LoopLabels) (old a : Lowering) → OpensTurn d l old a → AreTargets (Some (while_labels l)) a.stages
 while_targets d l old a opens = (inl (turn_leaving d l old a opens).open_, turn_target d l old a opens)
 
-pub while_head : (d : Condition) (l : LoopLabels) (around : Option Loop) (old a b : Lowering) → OpensTurn d l old a → Proceeds around a b → IsTarget l.head b.stages
+pub while_head : (d : Statement) (l : LoopLabels) (around : Option Loop) (old a b : Lowering) → OpensTurn d l old a → Proceeds around a b → IsTarget l.head b.stages
 while_head d l around old a b opens inner = target_after a.stages b.stages l.head inner.advances (turn_target d l old a opens)
 
-pub while_leaving : (d : Condition) (l : LoopLabels) (around : Option Loop) (old a b : Lowering) → OpensTurn d l old a → Proceeds around a b → IsOpen l.leaving b.stages
+pub while_leaving : (d : Statement) (l : LoopLabels) (around : Option Loop) (old a b : Lowering) → OpensTurn d l old a → Proceeds around a b → IsOpen l.leaving b.stages
 while_leaving d l around old a b opens inner = inner.advances.open_ l.leaving (λ m. m) (turn_leaving d l old a opens).open_
 
-pub while_proceeds : (around inside : Option Loop) (d : Condition) (l : LoopLabels) (old a b new : Lowering) → old.reached ≡ true → OpensTurn d l old a → Proceeds inside a b → ClosesTurn l b new →
+pub while_proceeds : (around inside : Option Loop) (d : Statement) (l : LoopLabels) (old a b new : Lowering) → old.reached ≡ true → OpensTurn d l old a → Proceeds inside a b → ClosesTurn l b new →
     Proceeds around old new
 while_proceeds around inside d l old a b new on opens inner closes =
     begun_proceeds around old new (closes_back l b new closes ∙ inner.back ∙ turn_back d l old a opens) on
@@ -226,7 +226,7 @@ do_back_target l old a opens target = back_after old a (loop_advance l old a ope
 pub do_apart : (l : LoopLabels) (old a : Lowering) → OpensLoop l old a → l.turning < l.leaving
 do_apart l old a opens = opens.labels.third
 
-module _ (d : Condition) (l : LoopLabels) (old a b new : Lowering) (opens : OpensLoop l old a) (inner : Proceeds (Some (labels_of l)) a b) (closes : ClosesDo d l b new) where
+module _ (d : Statement) (l : LoopLabels) (old a b new : Lowering) (opens : OpensLoop l old a) (inner : Proceeds (Some (labels_of l)) a b) (closes : ClosesDo d l b new) where
   old_b : Advances None_ old.stages b.stages
   old_b = advances_both None_ old.stages a.stages b.stages (loop_advance l old a opens) inner.advances
 
@@ -279,14 +279,14 @@ module _ (d : Condition) (l : LoopLabels) (old a b new : Lowering) (opens : Open
 
 -- ---- for
 
-pub for_targets : (d : Condition) (l : LoopLabels) (old a : Lowering) → OpensTurn d l old a → AreTargets (Some (labels_of l)) a.stages
+pub for_targets : (d : Statement) (l : LoopLabels) (old a : Lowering) → OpensTurn d l old a → AreTargets (Some (labels_of l)) a.stages
 for_targets d l old a opens = (inl (turn_leaving d l old a opens).open_, inl (turn_turning d l old a opens).open_)
 
-pub for_turning : (d : Condition) (l : LoopLabels) (around : Option Loop) (old a b : Lowering) → OpensTurn d l old a → Proceeds around a b → IsOpen l.turning b.stages
+pub for_turning : (d : Statement) (l : LoopLabels) (around : Option Loop) (old a b : Lowering) → OpensTurn d l old a → Proceeds around a b → IsOpen l.turning b.stages
 for_turning d l around old a b opens inner = inner.advances.open_ l.turning (λ m. m) (turn_turning d l old a opens).open_
 
 -- the last expression of a for, behind its body
-pub for_back_target : (d : Condition) (l : LoopLabels) (inside : Option Loop) (old a b c : Lowering) (site : ℕ) → OpensTurn d l old a → Proceeds inside a b → Binds l.turning (at_site site b) c →
+pub for_back_target : (d : Statement) (l : LoopLabels) (inside : Option Loop) (old a b c : Lowering) (site : ℕ) → OpensTurn d l old a → Proceeds inside a b → Binds l.turning (at_site site b) c →
     IsBackTarget old.back old.stages → IsBackTarget c.back c.stages
 for_back_target d l inside old a b c site opens inner turns target =
     back_after old c
@@ -295,7 +295,7 @@ for_back_target d l inside old a b c site opens inner turns target =
     ((binds_shifts l.turning (at_site site b) c turns).grows.back ∙ inner.back ∙ turn_back d l old a opens)
     target
 
-module _ (d : Condition) (l : LoopLabels) (inside : Option Loop) (old a b c e : Lowering) (site : ℕ) (opens : OpensTurn d l old a) (inner : Proceeds inside a b)
+module _ (d : Statement) (l : LoopLabels) (inside : Option Loop) (old a b c e : Lowering) (site : ℕ) (opens : OpensTurn d l old a) (inner : Proceeds inside a b)
     (turns : Binds l.turning (at_site site b) c) (last : Proceeds None c e) where
   b_c : Advances (λ other. other ≡ l.turning) b.stages c.stages
   b_c = binds_advance l.turning (at_site site b) c turns

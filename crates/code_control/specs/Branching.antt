@@ -1,6 +1,6 @@
 -- The parts of an if and of loops.
 use Rattle.std.specs.Prelude.{◌≡◌, ℕ, ◌<◌, ◌≤◌, true, length, ◌⊎◌}
-use Rattle.c_program.specs.Tree.{Condition}
+use Rattle.c_program.specs.Tree.{Statement}
 use Rattle.code_control.specs.declared.branching.ChoiceLabels.{ChoiceLabels}
 use Rattle.code_control.specs.declared.branching.LoopLabels.{LoopLabels}
 use Rattle.code_places.specs.declared.lowering.Lowering.{Lowering}
@@ -39,7 +39,7 @@ pub record AreLoop (l : LoopLabels) (old new : Lowering) : Type 0 where
 
 -- the parts of an if and of loops
 
-pub record OpensChoice (d : Condition) (l : ChoiceLabels) (old new : Lowering) : Type 0 where
+pub record OpensChoice (d : Statement) (l : ChoiceLabels) (old new : Lowering) : Type 0 where
   pub labelled : Lowering
   pub relabels : Relabels old labelled
   pub labels : AreChoice l old labelled
@@ -58,7 +58,7 @@ pub record OpensLoop (l : LoopLabels) (old new : Lowering) : Type 0 where
   pub labels : AreLoop l old labelled
   pub begins : Begins l.head labelled new
 
-pub record OpensTurn (d : Condition) (l : LoopLabels) (old new : Lowering) : Type 0 where
+pub record OpensTurn (d : Statement) (l : LoopLabels) (old new : Lowering) : Type 0 where
   pub begun : Lowering
   pub opens : OpensLoop l old begun
   pub decided : Lowering
@@ -70,14 +70,14 @@ pub record ClosesTurn (l : LoopLabels) (old new : Lowering) : Type 0 where
   pub leaps : Leaps l.head old mid
   pub binds : Binds l.leaving mid new
 
-pub record AsksThere (d : Condition) (l : LoopLabels) (old new : Lowering) : Type 0 where
+pub record AsksThere (d : Statement) (l : LoopLabels) (old new : Lowering) : Type 0 where
   pub on : old.reached ≡ true
   pub decides : Decides d l.head l.leaving old new
 
-abbrev pub Asks : Condition → LoopLabels → Lowering → Lowering → Type 0
+abbrev pub Asks : Statement → LoopLabels → Lowering → Lowering → Type 0
 Asks d l old new = StaysOff old new ⊎ AsksThere d l old new
 
-pub record ClosesDo (d : Condition) (l : LoopLabels) (old new : Lowering) : Type 0 where
+pub record ClosesDo (d : Statement) (l : LoopLabels) (old new : Lowering) : Type 0 where
   pub turned : Lowering
   pub turns : Binds l.turning old turned
   pub asked : Lowering

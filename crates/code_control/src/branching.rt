@@ -1,16 +1,17 @@
 // The parts of an if and of loops: their labels, conditions and jumps.
 
-ghost use Rattle.std.specs.Prelude.{◌≡◌, ◌<◌, ◌+◌, length, IfOk, OnOk, MatchResult};
-ghost use Rattle.c_program.specs.Plain.{condition_of, statement_of};
+ghost use Rattle.std.specs.Prelude.{◌≡◌, ◌<◌, ◌+◌, true, length, IfOk, OnOk, MatchResult};
+ghost use Rattle.c_program.specs.Plain.{statement_of};
 ghost use Rattle.c_program.specs.Limits.{print_count};
 ghost use Rattle.code_places.specs.Control as control;
 ghost use Rattle.code_control.specs.Branching as branching;
+ghost use Rattle.code_control.specs.Deciding.{is_asked};
 ghost use Rattle.code_places.specs.Doing as doing;
 ghost use Rattle.code_places.specs.Labels as spec;
 ghost use Rattle.code_places.specs.Needing.{IsFullAt};
 
 use crate::conditions::lower_condition;
-use c_program::tree::{Condition, Statement};
+use c_program::tree::Statement;
 use code_blocks::fault::LoweringFault;
 use code_places::lowering::Lowering;
 use code_storage::prints::print_count;
@@ -51,9 +52,10 @@ fn two_labels(code: &mut Lowering) -> Result<(usize, usize), AllocError>
 pub fn open_choice(
     alloc: Global,
     code: &mut Lowering,
-    condition: &Condition,
+    condition: &Statement,
 ) -> Result<ChoiceLabels, LoweringFault>
-    ensures { MatchResult result (λ labels. branching.OpensChoice (condition_of condition.now) labels code.old code.new) (IsFullAt (condition_of condition.now) 0 code.old) }
+    requires asked { is_asked (statement_of condition.now) ≡ true }
+    ensures { MatchResult result (λ labels. branching.OpensChoice (statement_of condition.now) labels code.old code.new) (IsFullAt (statement_of condition.now) 0 code.old) }
 {
     let (if_true, if_false) = two_labels(code)?;
     let join = code.new_label()?;
@@ -100,9 +102,10 @@ pub fn open_loop(alloc: Global, code: &mut Lowering) -> Result<LoopLabels, Alloc
 pub fn open_turn(
     alloc: Global,
     code: &mut Lowering,
-    condition: &Condition,
+    condition: &Statement,
 ) -> Result<LoopLabels, LoweringFault>
-    ensures { MatchResult result (λ labels. branching.OpensTurn (condition_of condition.now) labels code.old code.new) (IsFullAt (condition_of condition.now) 0 code.old) }
+    requires asked { is_asked (statement_of condition.now) ≡ true }
+    ensures { MatchResult result (λ labels. branching.OpensTurn (statement_of condition.now) labels code.old code.new) (IsFullAt (statement_of condition.now) 0 code.old) }
 {
     let labels = open_loop(alloc, code)?;
     lower_condition(alloc, code, condition, labels.body, labels.leaving)?;
@@ -124,10 +127,11 @@ pub fn close_turn(alloc: Global, code: &mut Lowering, labels: LoopLabels) -> Res
 fn ask_reached(
     alloc: Global,
     code: &mut Lowering,
-    condition: &Condition,
+    condition: &Statement,
     labels: LoopLabels,
 ) -> Result<(), LoweringFault>
-    ensures { MatchResult result (λ _. branching.Asks (condition_of condition.now) labels code.old code.new) (IsFullAt (condition_of condition.now) 0 code.old) }
+    requires asked { is_asked (statement_of condition.now) ≡ true }
+    ensures { MatchResult result (λ _. branching.Asks (statement_of condition.now) labels code.old code.new) (IsFullAt (statement_of condition.now) 0 code.old) }
 {
     if !code.is_reached() {
         return Ok(());
@@ -139,13 +143,14 @@ fn ask_reached(
 pub fn close_do(
     alloc: Global,
     code: &mut Lowering,
-    condition: &Condition,
+    condition: &Statement,
     labels: LoopLabels,
 ) -> Result<(), LoweringFault>
+    requires asked { is_asked (statement_of condition.now) ≡ true }
     requires turning { spec.IsOpen labels.turning code.old.stages }
     requires leaving { spec.IsOpen labels.leaving code.old.stages }
     requires apart { labels.turning < labels.leaving }
-    ensures { MatchResult result (λ _. branching.ClosesDo (condition_of condition.now) labels code.old code.new) (IsFullAt (condition_of condition.now) 0 code.old) }
+    ensures { MatchResult result (λ _. branching.ClosesDo (statement_of condition.now) labels code.old code.new) (IsFullAt (statement_of condition.now) 0 code.old) }
 {
     code.bind(alloc, labels.turning)?;
     ask_reached(alloc, code, condition, labels)?;
@@ -157,12 +162,13 @@ pub fn close_do(
 pub fn open_for(
     alloc: Global,
     code: &mut Lowering,
-    condition: &Condition,
+    condition: &Statement,
     last: &Statement,
 ) -> Result<LoopLabels, LoweringFault>
+    requires asked { is_asked (statement_of condition.now) ≡ true }
     ensures { MatchResult result
-        (λ labels. branching.OpensTurn (condition_of condition.now) labels (doing.at_site (code.old.site + print_count (statement_of last.now)) code.old) code.new)
-        (IsFullAt (condition_of condition.now) (code.old.site + print_count (statement_of last.now)) code.old) }
+        (λ labels. branching.OpensTurn (statement_of condition.now) labels (doing.at_site (code.old.site + print_count (statement_of last.now)) code.old) code.new)
+        (IsFullAt (statement_of condition.now) (code.old.site + print_count (statement_of last.now)) code.old) }
 {
     code.skip_sites(print_count(last)?)?;
     open_turn(alloc, code, condition)
