@@ -1,5 +1,5 @@
 -- The code of a program within the limits is not too large.
-use Rattle.std.proofs.Common.{◌≡◌, ℕ, ◌+◌, ◌<◌, ◌≤◌, false, [], ◌++◌, length, map, replicate, Option, Some, None, refl, sym, ap, ◌∙◌, subst, arith, inl}
+use Rattle.std.proofs.Common.{◌≡◌, ℕ, ◌+◌, ◌*◌, ◌<◌, ◌≤◌, [], ◌++◌, length, map, replicate, Option, Some, None, refl, sym, ap, ◌∙◌, subst, arith, inl}
 use Rattle.std.specs.Prelude.{slice_get, Contains}
 use Rattle.std.proofs.lemmas.List.{length-map}
 use Rattle.std.proofs.lemmas.Option.{slice_get_within}
@@ -13,7 +13,7 @@ use Rattle.c_program.specs.Tree.{Statement, Function, GlobalVariable, Program}
 use Rattle.c_program.specs.Limits.{local_elements, IsWithinLimits}
 use Rattle.c_program.specs.Calls.{calls_of, IsAcyclic}
 use Rattle.c_program.specs.Weight.{function_weight, thread_functions}
-use Rattle.c_program.specs.Resolved.{IsFunction, IsResolved}
+use Rattle.c_program.specs.Resolved.{IsFunction, IsResolved, nowhere}
 use Rattle.code_blocks.specs.declared.fault.LoweringFault.{LoweringFault}
 use Rattle.code_blocks.specs.declared.fault.LoweringFault.TheVariants.{TooLarge}
 use Rattle.code_blocks.specs.declared.homes.Home.{Home}
@@ -118,13 +118,13 @@ module _ (p : ProgramTree) (r : ℕ) (f : FunctionTree) (at : slice_get p.functi
       rooms = first_begun.grows.rooms ∙ is_new.rooms;
       fits = fits;
       words = words_of;
-      back = subst (HasWord typing.types size) (sym (first_begun.grows.back ∙ is_new.back)) tt;
+      back = subst (HasWord typing.types) (sym (first_begun.grows.back ∙ is_new.back)) tt;
       objects = subst (AreObjects P) (sym first_begun.grows.objects) is_new.objects;
     };
     fits = subst (Fits typing) (sym (first_begun.grows.homes ∙ is_new.homes)) (fits r (function_of f) found runs);
     words = words_of r (function_of f) found;
     good = first_begun.grows.good size good_first;
-    in_loop = false;
+    around = nowhere;
     resolved = is.body;
     sites = subst (HasSites P body) (sym (first_begun.site ∙ is_new.site)) (housed.sites r (function_of f) found);
     calls = λ g c. c;
@@ -156,7 +156,7 @@ module _ (p : ProgramTree) (r : ℕ) (f : FunctionTree) (at : slice_get p.functi
 
 -- what is needed before its code begins
 
-pub variables_few : (P : Program) (r : ℕ) (H : Rooms) → IsHousing P r H → length H.variables ≤ local_elements P.functions r
+pub variables_few : (P : Program) (r : ℕ) (H : Rooms) → IsHousing P r H → length H.variables ≤ local_elements P.functions r + 3 * function_weight P.functions r
 variables_few P r H housed = let few = housed.few in omega (arith, few)
 
 pub counted_function : (P : Program) (r n : ℕ) (fault : LoweringFault) → n ≤ function_needs P r → IsFull n fault → IsFull (function_needs P r) fault

@@ -5,4 +5,5 @@ pub mod Roots
 pub mod Sizes
 pub mod StatementSteps
 pub mod Untaken
+mod TakenParts
 pub mod Whole

@@ -1,11 +1,11 @@
 -- What a statement without others in it needs, where it is too large.
-use Rattle.std.proofs.Common.{◌≡◌, ℕ, ◌+◌, ◌*◌, ◌≤◌, true, List, Option, Some, None, length, sym, ap, ◌∙◌, subst, ⊎_elim, arith}
+use Rattle.std.proofs.Common.{◌≡◌, ℕ, ◌+◌, ◌*◌, ◌≤◌, true, List, length, sym, ap, ◌∙◌, subst, ⊎_elim, arith}
 use Rattle.std.specs.Prelude.{nat_eq, nat_le}
 use Rattle.std.proofs.lemmas.Bool.{and_parts, true≢false}
 use Rattle.std.proofs.lemmas.Bool.Decides.{leb_tells}
-use Rattle.c_program.specs.Tree.{Expression, Piece, RightSide, Statement, Program}
-use Rattle.c_program.specs.Weight.{expressions_weight, right_side_weight, returned_weight}
-use Rattle.code_places.specs.Weighing.{right_with, returned_with, inlined_weight}
+use Rattle.c_program.specs.Tree.{Expression, Piece, Statement, Program}
+use Rattle.c_program.specs.Weight.{expressions_weight}
+use Rattle.code_places.specs.Weighing.{inlined_weight}
 use Rattle.code_blocks.specs.declared.fault.LoweringFault.{LoweringFault}
 use Rattle.code_places.specs.declared.lowering.Lowering.{Lowering}
 use Rattle.code_blocks.specs.Room.{IsFull}
@@ -13,15 +13,6 @@ use Rattle.code_blocks.proofs.Room.{full_more}
 use Rattle.code_places.specs.Needing.{needed, IsFullFor}
 use Rattle.code_control.proofs.ControlSize.{sites_within}
 use Rattle.ir_lower.specs.Taken.{conversion_count, is_taken}
-
--- a right side weighs no less with what it calls
-pub right_weighs : (callee : ℕ → ℕ) (right : RightSide) → right_side_weight right ≤ right_with callee right
-right_weighs callee (RightSide.Value expression) = omega arith
-right_weighs callee (RightSide.Call function arguments) = omega arith
-
-pub returned_weighs : (callee : ℕ → ℕ) (right : Option RightSide) → returned_weight right ≤ returned_with callee right
-returned_weighs callee None = omega arith
-returned_weighs callee (Some right) = right_weighs callee right
 
 -- a printf has at most four values
 values_few : (n : ℕ) → nat_le n 4 ≡ true → n ≤ 4
@@ -42,7 +33,7 @@ module _ (P : Program) (depth : ℕ) (s t : Statement) (c : Lowering) (fault : L
 -- those of a printf, whose number is one more than that of the printfs before it
 pub print_for : (P : Program) (depth offset : ℕ) (in_loop : _) (format : List Piece) (es : List Expression) (count : ℕ) (t : Statement) (c : Lowering) (fault : LoweringFault) →
     count ≡ length es → t ≡ Statement.Print offset format es → is_taken in_loop t ≡ true →
-    IsFull (length c.block.operations + c.block.steps + length c.variables + c.site + (2 * expressions_weight es + 2 * count + 1)) fault → IsFullFor P depth t c fault
+    IsFull (length c.block.operations + c.block.steps + length c.variables + c.site + (3 * expressions_weight es + 2 * count + 1)) fault → IsFullFor P depth t c fault
 print_for P depth offset in_loop format es count t c fault counted is taken full =
     let few = values_few (length es) (and_parts (nat_eq (conversion_count format) (length es)) (nat_le (length es) 4) (sym (ap (is_taken in_loop) is) ∙ taken)).1 in
     subst (λ z. IsFullFor P depth z c fault) (sym is) (λ S w size suits deep now.
@@ -50,5 +41,5 @@ print_for P depth offset in_loop format es count t c fault counted is taken full
     let steps = now.steps in
     let variables = suits.good.variables in
     let sites = sites_within S.program (Statement.Print offset format es) c.site suits.sites in
-    full_more fault (length c.block.operations + c.block.steps + length c.variables + c.site + (2 * expressions_weight es + 2 * count + 1))
+    full_more fault (length c.block.operations + c.block.steps + length c.variables + c.site + (3 * expressions_weight es + 2 * count + 1))
     (needed S size (w + inlined_weight S.program (Statement.Print offset format es))) (omega (arith, operations, steps, variables, sites, few, counted)) full)

@@ -4,7 +4,7 @@ use Rattle.std.specs.Prelude.{OnOk, IfErr, MatchResult}
 use Rattle.std.proofs.Common.{Result, Ok, Err}
 use Rattle.hls_ints.specs.Types.{IntegerType}
 use Rattle.c_program.specs.declared.tree.BinaryOperator.{BinaryOperator}
-use Rattle.c_program.specs.Tree.{Expression, Place, RightSide, Statement, Program}
+use Rattle.c_program.specs.Tree.{Expression, Place, Statement, Program}
 use Rattle.c_program.specs.Limits.{print_count}
 use Rattle.code_places.specs.Weighing.{inlined_weight}
 use Rattle.c_program.specs.Resolved.{IsExpression, IsPlace, IsUpdate}
@@ -26,18 +26,17 @@ use Rattle.code_places.proofs.ResumedPlaces.{Goes}
 use Rattle.code_places.proofs.CodeGrowth.{grows_refl, jumps_shifts, jumps_goes}
 use Rattle.code_places.proofs.BlockSteps.{assigning_leads, block_grows, step_goes}
 
-pub assign_at : (P : Program) (place : Place) (right : RightSide) (e : Expression) (homes : List Home) (old new : Lowering) → right ≡ RightSide.Value e → homes ≡ old.homes →
+pub assign_at : (P : Program) (place : Place) (e : Expression) (homes : List Home) (old new : Lowering) → homes ≡ old.homes →
     Assigns homes (λ m. assignment place e m) old.block new.block → WorksOnAssignment homes place e old.block new.block → new ≡ record old { block = new.block } →
-    (offset : ℕ) (around : Option Loop) → LowersHere P around (Statement.Assign offset place right) old new
-assign_at P place right e homes old new is housed a works same offset around = λ on.
-    rw is
-    (assigning_leads P (Statement.Assign offset place (RightSide.Value e)) offset (λ m. assignment place e m) old new
+    (offset : ℕ) (around : Option Loop) → LowersHere P around (Statement.Assign offset place e) old new
+assign_at P place e homes old new housed a works same offset around = λ on.
+    assigning_leads P (Statement.Assign offset place e) offset (λ m. assignment place e m) old new
     (subst (λ hs. Assigns hs (λ m. assignment place e m) old.block new.block) housed a) same (λ P m f fs k. refl)
-    (λ P f in_loop m ok shape x ls gives. assignment_there P f m shape place e x ls ok.0 gives) refl (λ k. refl) around on
+    (λ P f at m ok shape x ls gives. assignment_there P f m shape place e x ls ok.0 gives) refl (λ k. refl) around on
     (λ S w size suits now.
-    works_typed S w (inlined_weight S.program (Statement.Assign offset place (RightSide.Value e))) homes
+    works_typed S w (inlined_weight S.program (Statement.Assign offset place e)) homes
     (λ S. IsPlace S.program S.function place × IsExpression S.program S.function e) old new same housed
-    (omega arith) a.steps works suits.fits suits.resolved now))
+    (omega arith) a.steps works suits.fits suits.resolved now)
 
 pub update_at : (P : Program) (place : Place) (operator : BinaryOperator) (ty : IntegerType) (e : Expression) (homes : List Home) (old new : Lowering) → homes ≡ old.homes →
     Assigns homes (λ m. update place operator ty e m) old.block new.block → WorksOnUpdate homes place operator ty e old.block new.block → new ≡ record old { block = new.block } →
@@ -45,7 +44,7 @@ pub update_at : (P : Program) (place : Place) (operator : BinaryOperator) (ty : 
 update_at P place operator ty e homes old new housed a works same offset around = λ on.
     assigning_leads P (Statement.Update offset place operator ty e) offset (λ m. update place operator ty e m) old new
     (subst (λ hs. Assigns hs (λ m. update place operator ty e m) old.block new.block) housed a) same (λ P m f fs k. refl)
-    (λ P f in_loop m ok shape x ls gives. update_there P f m shape place operator ty e x ls ok.target gives) refl (λ k. refl) around on
+    (λ P f at m ok shape x ls gives. update_there P f m shape place operator ty e x ls ok.target gives) refl (λ k. refl) around on
     (λ S w size suits now.
     works_typed S w (inlined_weight S.program (Statement.Update offset place operator ty e)) homes (λ S. IsUpdate S.program S.function place operator ty e) old new same housed
     (omega arith) a.steps works suits.fits suits.resolved

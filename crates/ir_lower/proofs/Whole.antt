@@ -15,7 +15,7 @@ use Rattle.c_program.specs.declared.tree.Program.{Program as ProgramTree}
 use Rattle.c_program.specs.Plain.{function_of, program_of, statement_of}
 use Rattle.c_program.specs.Tree.{Statement, Function, Program}
 use Rattle.c_program.specs.Weight.{thread_functions, weight}
-use Rattle.c_program.specs.Resolved.{scalar, IsFunction, IsStartRoutine, IsResolved}
+use Rattle.c_program.specs.Resolved.{scalar, IsFunction, IsStartRoutine, IsResolved, nowhere}
 use Rattle.thread_semantics.specs.State.{fresh_locals, begun, started}
 use Rattle.thread_semantics.specs.Work.{Do, Onward, settled}
 use Rattle.block_ir.specs.declared.code.Stage.{Stage}
@@ -224,7 +224,7 @@ module _ (p : ProgramTree) (r : ℕ) (code : ThreadCode) (made : IsCodeOf p r co
       homes_ = first_begun.grows.homes ∙ made.is_new.homes;
       good = first_begun.grows.good size good_first;
       locals = housed.homes r (function_of f) runs found;
-      in_loop = false;
+      around = nowhere;
       resolved = is.body;
       sites = begun_sites;
       calls = λ g c. c;
@@ -327,13 +327,13 @@ module _ (p : ProgramTree) (r : ℕ) (code : ThreadCode) (made : IsCodeOf p r co
         rooms = first_begun.grows.rooms ∙ made.is_new.rooms;
         fits = fits;
         words = words_of;
-        back = subst (HasWord (types_of P code) size) (sym (first_begun.grows.back ∙ made.is_new.back)) tt;
+        back = subst (HasWord (types_of P code)) (sym (first_begun.grows.back ∙ made.is_new.back)) tt;
         objects = subst (AreObjects P) (sym first_begun.grows.objects) made.is_new.objects;
       };
       fits = subst (Fits typing) (sym (first_begun.grows.homes ∙ made.is_new.homes)) (fits r (function_of f) found runs);
       words = words_of r (function_of f) found;
       good = first_begun.grows.good size good_first;
-      in_loop = false;
+      around = nowhere;
       resolved = is.body;
       sites = begun_sites;
       calls = λ g c. c;

@@ -20,7 +20,7 @@ use Rattle.code_calls.specs.Calling.{Closes}
 -- what the code of a thread function needs at most, with all calls inlined, and the numbers of objects
 abbrev pub function_needs : Program → ℕ → ℕ
 function_needs P f =
-    16 * function_weight P.functions f + local_elements P.functions f + 4 + print_sites P + (thread_count P + mutex_elements P + barrier_elements P)
+    19 * function_weight P.functions f + local_elements P.functions f + 4 + print_sites P + (thread_count P + mutex_elements P + barrier_elements P)
 
 -- the variable that has the argument of a thread function: that of its one parameter, but main has none
 abbrev pub variable_of : Option Home → Option ℕ

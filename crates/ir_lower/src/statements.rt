@@ -8,9 +8,9 @@ ghost use Rattle.code_places.specs.Needing.{IsFullFor, IsFullCall};
 ghost use Rattle.ir_lower.specs.Taken.{are_taken, is_taken};
 
 use crate::simple::lower_simple;
-use c_program::tree::{Expression, Program, RightSide, Statement};
+use c_program::tree::{Expression, Program, Statement};
 use code_blocks::fault::LoweringFault;
-use code_calls::calling::{close_call, lower_delivery, lower_handing, open_call};
+use code_calls::calling::{close_call, open_call};
 use code_calls::returning::return_reached;
 use code_control::branching::{
     close_do, close_for, close_turn, open_choice, open_for, open_loop, open_turn, turn_choice,
@@ -94,45 +94,30 @@ pub fn lower_statement(
             close_for(alloc, code, labels, after)?;
             Ok(())
         }
-        Statement::Call(_, function, arguments) => {
-            lower_call(alloc, program, depth, code, *function, arguments)
+        Statement::Call(_, into, function, arguments) => {
+            lower_call(alloc, program, depth, code, *into, *function, arguments)
         }
-        Statement::Assign(_, place, right) => match right {
-            RightSide::Value(_) => lower_simple(alloc, code, around, rest),
-            RightSide::Call(function, arguments) => {
-                lower_call(alloc, program, depth, code, *function, arguments)?;
-                lower_delivery(alloc, code, place)
-            }
-        },
-        Statement::Return(_, right) => match right {
-            None => lower_simple(alloc, code, around, rest),
-            Some(value) => match value {
-                RightSide::Value(_) => lower_simple(alloc, code, around, rest),
-                RightSide::Call(function, arguments) => {
-                    lower_call(alloc, program, depth, code, *function, arguments)?;
-                    lower_handing(alloc, code)
-                }
-            },
-        },
         _ => lower_simple(alloc, code, around, rest),
     }
 }
 
-/// The code of a call, up to where the caller goes on: that of the function that is called.
+/// The code of a call, up to where the caller goes on: that of the function that is called, whose value that local of the
+/// caller keeps, if it is kept.
 #[cycle(statements)]
 fn lower_call(
     alloc: Global,
     program: &Program,
     depth: usize,
     code: &mut Lowering,
+    into: Option<u32>,
     number: u32,
     arguments: &[Expression],
 ) -> Result<(), LoweringFault>
     requires functions { are_taken (program_of program.now).functions ≡ true }
     requires reached { code.old.reached ≡ true }
     ensures labels { OnOk result ((around : _) → doing.Proceeds around code.old code.new) }
-    ensures calls { OnOk result (calling.Calls (program_of program.now) number (expressions_of arguments.now) code.old code.new) }
-    ensures full { IfErr result (IsFullCall (program_of program.now) depth number (expressions_of arguments.now) code.old) }
+    ensures calls { OnOk result (calling.Calls (program_of program.now) into number (expressions_of arguments.now) code.old code.new) }
+    ensures full { IfErr result (IsFullCall (program_of program.now) depth into number (expressions_of arguments.now) code.old) }
 {
     if depth == 0 {
         return Err(LoweringFault::TooLarge);
@@ -140,7 +125,7 @@ fn lower_call(
     let Some(function) = at(&program.functions, number as usize) else {
         return Err(LoweringFault::TooLarge);
     };
-    let caller = open_call(alloc, code, number as usize, function, arguments)?;
+    let caller = open_call(alloc, code, into, number as usize, function, arguments)?;
     lower_statement(alloc, program, depth - 1, code, None, &function.body)?;
     close_call(alloc, code, caller)
 }

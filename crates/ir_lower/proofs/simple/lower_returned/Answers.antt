@@ -1,7 +1,7 @@
 use Rattle.std.proofs.Common.{◌+◌, ◌*◌, length, Some, None, sym, ap, ◌∙◌, arith}
 use Rattle.std.proofs.lemmas.Result.{on_ok_weaker, IfErr-weaker}
-use Rattle.c_program.specs.Plain.{expression_of, returned_of, right_side_of}
-use Rattle.c_program.specs.Tree.{RightSide, Statement}
+use Rattle.c_program.specs.Plain.{expression_of, returned_of}
+use Rattle.c_program.specs.Tree.{Statement}
 use Rattle.c_program.specs.Weight.{expression_weight, returned_weight}
 use Rattle.code_blocks.proofs.Room.{full_more}
 use Rattle.code_calls.proofs.ReturnCode.{empty_return_at}
@@ -23,30 +23,29 @@ returns-in-None c =
           c.return_nothing.ensures.returns;
       full =
           IfErr-weaker c.return_nothing.result _ _
-          (λ fault.
-          full_more fault (old.block.steps + 1) (length old.block.operations + old.block.steps + length old.variables + 4 * returned_weight right + 1) (omega arith))
+          (λ fault. full_more fault (old.block.steps + 1) (length old.block.operations + old.block.steps + 4 * returned_weight right + 1) (omega arith))
           c.return_nothing.ensures.full;
     }
 
-pub returns-in-Value : goal.returns-in-Value
-returns-in-Value c =
+pub returns-in-Some : goal.returns-in-Some
+returns-in-Some c =
     let old = c.args.code.now in
     let right = returned_of c.args.right.now in
     let e = expression_of c.deref.result.now in
-    let is = ap returned_of c.in-Some.is ∙ ap (λ z. Some (right_side_of z)) c.in-Value.is ∙ ap (λ z. Some (RightSide.Value (expression_of z))) (sym c.deref.ensures) in
+    let is = ap returned_of c.in-Some.is ∙ ap (λ z. Some (expression_of z)) (sym c.deref.ensures) in
     let weighs = ap returned_weight is in
     record {
       labels = c.lower_return.ensures.labels;
       lowers =
           on_ok_weaker c.lower_return.result
           (λ lowers offset P around.
-          lowers_is P around (Statement.Return offset (Some (RightSide.Value e))) (Statement.Return offset right) old c.lower_return.new.code
+          lowers_is P around (Statement.Return offset (Some e)) (Statement.Return offset right) old c.lower_return.new.code
           (ap (λ z. Statement.Return offset z) is) (lowers offset P around))
           c.lower_return.ensures.lowers;
       full =
           IfErr-weaker c.lower_return.result _ _
           (λ fault.
-          full_more fault (length old.block.operations + old.block.steps + length old.variables + (2 * expression_weight e + 1))
-          (length old.block.operations + old.block.steps + length old.variables + 4 * returned_weight right + 1) (omega (arith, weighs)))
+          full_more fault (length old.block.operations + old.block.steps + (3 * expression_weight e + 1))
+          (length old.block.operations + old.block.steps + 4 * returned_weight right + 1) (omega (arith, weighs)))
           c.lower_return.ensures.full;
     }

@@ -2,13 +2,13 @@ use Rattle.std.proofs.Common.{◌≡◌, ◌+◌, ◌*◌, length, refl, sym, ap
 use Rattle.std.proofs.lemmas.List.{length-map}
 use Rattle.std.proofs.lemmas.Result.{on_ok_weaker, IfErr-weaker, err_from_is_err_and}
 use Rattle.std.specs.Prelude.{is_some}
-use Rattle.c_program.specs.Plain.{expression_of, expressions_of, pieces_of, place_of, returned_of, right_side_of, statement_of, thread_call_of}
+use Rattle.c_program.specs.Plain.{expression_of, expressions_of, pieces_of, place_of, returned_of, statement_of, thread_call_of}
 use Rattle.c_program.specs.Tree.{Statement}
-use Rattle.c_program.specs.Weight.{expression_weight, place_weight, returned_weight, right_side_weight, thread_call_weight, function_weight}
+use Rattle.c_program.specs.Weight.{expression_weight, place_weight, returned_weight, thread_call_weight}
 use Rattle.code_places.specs.Doing.{AreTargets}
 use Rattle.code_places.proofs.OpenParts.{proceeds_refl, proceeds_same, break_proceeds, continue_proceeds}
-use Rattle.ir_lower.proofs.StatementSize.{simple_for, print_for, right_weighs, returned_weighs}
-use Rattle.ir_lower.proofs.StatementSteps.{done_at, empty_at, lowers_is, declare_at, update_at, break_at, continue_at, on_ok_both}
+use Rattle.ir_lower.proofs.StatementSize.{simple_for, print_for}
+use Rattle.ir_lower.proofs.StatementSteps.{done_at, empty_at, lowers_is, declare_at, assign_at, update_at, break_at, continue_at, on_ok_both}
 use Rattle.ir_lower.proofs.simple.lower_simple.Goals as goal
 
 pub returns-in-Done : goal.returns-in-Done
@@ -54,20 +54,28 @@ returns-in-Assign c =
     let old = c.args.code.now in
     let around = c.args.around in
     let whole = statement_of c.args.statement.now in
+    let new = record old { block = c.lower_assignment.new.block } in
     let place = place_of c.deref.result.now in
-    let right = right_side_of c.in-Assign.right in
-    let s = Statement.Assign c.in-Assign.field-0 place right in
-    let is : whole ≡ s = ap statement_of c.in-Assign.is ∙ ap (λ z. Statement.Assign c.in-Assign.field-0 (place_of z) right) (sym c.deref.ensures) in
+    let e = expression_of c.deref-in-Assign.result.now in
+    let x = c.in-Assign in
+    let s = Statement.Assign x.field-0 place e in
+    let is : whole ≡ s =
+    ap statement_of x.is ∙ ap (λ z. Statement.Assign x.field-0 (place_of z) (expression_of x.right.value)) (sym c.deref.ensures)
+    ∙ ap (λ z. Statement.Assign x.field-0 place (expression_of z)) (sym c.deref-in-Assign.ensures) in
     record {
-      labels = on_ok_weaker c.lower_assign.result (λ proceeds. proceeds around) c.lower_assign.ensures.labels;
-      lowers = on_ok_weaker c.lower_assign.result (λ lowers P. lowers_is P around s whole old c.lower_assign.new.code is (lowers c.in-Assign.field-0 P around)) c.lower_assign.ensures.lowers;
+      labels = on_ok_weaker c.lower_assignment.result (λ _. proceeds_same old new refl refl refl around) c.lower_assignment.ensures.assigns;
+      lowers =
+          on_ok_both c.lower_assignment.result
+          (λ assigns typed P.
+          lowers_is P around s whole old new is (assign_at P place e c.as_slice-homes.result.now old new c.as_slice-homes.ensures assigns typed refl x.field-0 around))
+          c.lower_assignment.ensures.assigns c.lower_assignment.ensures.typed;
       full =
-          IfErr-weaker c.lower_assign.result _ _
+          IfErr-weaker c.lower_assignment.result _ _
           (λ fault full P depth.
           simple_for P depth s whole old fault is
-          (length old.block.operations + old.block.steps + 4 * (place_weight place + right_side_weight right + 1))
-          (place_weight place + right_side_weight right + 1) (omega arith) (λ Q. let more = right_weighs (function_weight Q.functions) right in omega (arith, more)) full)
-          c.lower_assign.ensures.full;
+          (length old.block.operations + old.block.steps + 4 * (place_weight place + expression_weight e + 1))
+          (place_weight place + expression_weight e + 1) (omega arith) (λ Q. omega arith) full)
+          c.lower_assignment.ensures.full;
     }
 
 pub returns-in-Update : goal.returns-in-Update
@@ -89,7 +97,7 @@ returns-in-Update c =
           on_ok_both c.lower_update.result
           (λ assigns typed P.
           lowers_is P around s whole old new is
-          (update_at P place x.operator x.ty e c.as_slice-homes.result.now old new c.as_slice-homes.ensures assigns typed refl x.field-0 around))
+          (update_at P place x.operator x.ty e c.as_slice-homes-in-Update.result.now old new c.as_slice-homes-in-Update.ensures assigns typed refl x.field-0 around))
           c.lower_update.ensures.assigns c.lower_update.ensures.typed;
       full =
           IfErr-weaker c.lower_update.result _ _
@@ -149,8 +157,8 @@ returns-in-Return c =
           IfErr-weaker c.lower_returned.result _ _
           (λ fault full P depth.
           simple_for P depth s whole old fault is
-          (length old.block.operations + old.block.steps + length old.variables + 4 * returned_weight right + 1)
-          (returned_weight right + 1) (omega arith) (λ Q. let more = returned_weighs (function_weight Q.functions) right in omega (arith, more)) full)
+          (length old.block.operations + old.block.steps + 4 * returned_weight right + 1)
+          (returned_weight right + 1) (omega arith) (λ Q. omega arith) full)
           c.lower_returned.ensures.full;
     }
 

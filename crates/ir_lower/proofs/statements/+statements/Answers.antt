@@ -3,8 +3,8 @@ use Rattle.std.specs.Prelude.{is_some, slice_get}
 use Rattle.std.proofs.lemmas.Result.{on_ok_weaker, IfErr-weaker, err_from_is_err_and}
 use Rattle.std.proofs.lemmas.Bool.{and_parts}
 use Rattle.c_program.specs.Limits.{print_count}
-use Rattle.c_program.specs.Plain.{function_of, place_of, program_of, returned_of, right_side_of, condition_of, expressions_of, statement_of}
-use Rattle.c_program.specs.Tree.{RightSide, Statement}
+use Rattle.c_program.specs.Plain.{function_of, program_of, expressions_of, statement_of}
+use Rattle.c_program.specs.Tree.{Statement}
 use Rattle.code_places.specs.Doing.{at_site}
 use Rattle.code_control.specs.Branching.{OpensTurn}
 use Rattle.code_places.specs.declared.lowering.Lowering.{Lowering}
@@ -17,14 +17,15 @@ use Rattle.code_control.proofs.OpenControl.{while_proceeds, while_targets, while
 use Rattle.code_control.proofs.OpenControl.{do_turning, do_leaving, do_apart, for_proceeds, for_targets, for_turning, for_head, for_leaving}
 use Rattle.code_control.proofs.OpenControl.{turn_back_target, do_back_target, for_back_target}
 use Rattle.ir_lower.proofs.OpenProgram.{taken_body}
+use Rattle.ir_lower.proofs.TakenParts.{if_taken, while_taken, do_taken, for_taken}
 use Rattle.code_calls.proofs.OpenCalls.{call_back_target}
-use Rattle.code_calls.proofs.OpenCalls.{done_open, done_back, calls_proceed, delivers_proceed, hands_proceed, closed_reached}
-use Rattle.code_calls.proofs.BehindCall.{call_lowers, call_assigned, call_returned}
+use Rattle.code_calls.proofs.OpenCalls.{done_open, done_back, calls_proceed}
+use Rattle.code_calls.proofs.Callees.{call_lowers}
 use Rattle.ir_lower.proofs.Sizes.{nested_size, measure_falls}
 use Rattle.code_control.proofs.ControlSize.{skipped_for, block_for, choice_condition, one_for, other_for, while_condition, while_body, do_body, do_condition, for_first}
 use Rattle.code_control.proofs.ControlSize.{for_condition, for_body, for_last}
 use Rattle.code_control.proofs.ControlSize.{behind_more, behind_first}
-use Rattle.code_calls.proofs.Overfull.{call_too_deep, call_unknown, call_body, call_closing, call_for, assigned_for, returned_for, delivery_for, handing_for}
+use Rattle.code_calls.proofs.Overfull.{call_too_deep, call_unknown, call_body, call_closing, call_for}
 use Rattle.code_control.proofs.NestedStatements.{skips, simple_lowers, block_lowers, choice_lowers, while_lowers, do_lowers, for_lowers, via_more, via_last}
 use Rattle.ir_lower.proofs.StatementSteps.{match_ok, match_err}
 use Rattle.ir_lower.proofs.Whole.{get_none}
@@ -61,21 +62,21 @@ lower_statement-returns-then-not-is_reached-clause-labels t c =
 pub lower_statement-returns-in_ok-bind-in-If-clause-labels : goal.lower_statement-returns-in_ok-bind-in-If-clause-labels
 lower_statement-returns-in_ok-bind-in-If-clause-labels t c =
     proceeds_both c.args.around c.args.code.now c.loop-rest.code c.bind.new.self c.loop-rest.invariant.proceeds
-    (choice_proceeds c.args.around (condition_of c.in-If.condition) c.in_ok-labels-in-If.labels c.loop-rest.code c.open_choice.new.code c.lower_statement-in-If.new.code c.turn_choice.new.code
-    c.lower_statement-in-If-2.new.code c.bind.new.self (sym c.is_reached.ensures ∙ c.if-not-is_reached.false) c.in_ok-labels-in-If.ensures
+    (choice_proceeds c.args.around (statement_of c.deref-in-If.result.now) c.in_ok-labels-in-If.labels c.loop-rest.code c.open_choice.new.code c.lower_statement-in-If.new.code
+    c.turn_choice.new.code c.lower_statement-in-If-2.new.code c.bind.new.self (sym c.is_reached.ensures ∙ c.if-not-is_reached.false) c.in_ok-labels-in-If.ensures
     c.in_ok-lower_statement-in-If.ensures.labels c.in_ok-turn_choice-in-If.ensures
     c.in_ok-lower_statement-in-If-2.ensures.labels c.in_ok-bind-in-If.ensures)
 
 pub lower_statement-returns-in_ok-close_turn-in-While-clause-labels : goal.lower_statement-returns-in_ok-close_turn-in-While-clause-labels
 lower_statement-returns-in_ok-close_turn-in-While-clause-labels t c =
     proceeds_both c.args.around c.args.code.now c.loop-rest.code c.close_turn.new.code c.loop-rest.invariant.proceeds
-    (while_proceeds c.args.around _ (condition_of c.in-While.condition) c.in_ok-labels-in-While.labels c.loop-rest.code c.open_turn.new.code c.lower_statement-in-While.new.code c.close_turn.new.code
-    (sym c.is_reached.ensures ∙ c.if-not-is_reached.false) c.in_ok-labels-in-While.ensures c.in_ok-lower_statement-in-While.ensures.labels c.in_ok-close_turn-in-While.ensures)
+    (while_proceeds c.args.around _ (statement_of c.deref-in-While.result.now) c.in_ok-labels-in-While.labels c.loop-rest.code c.open_turn.new.code c.lower_statement-in-While.new.code
+    c.close_turn.new.code (sym c.is_reached.ensures ∙ c.if-not-is_reached.false) c.in_ok-labels-in-While.ensures c.in_ok-lower_statement-in-While.ensures.labels c.in_ok-close_turn-in-While.ensures)
 
 pub lower_statement-returns-in_ok-close_for-in-For-clause-labels : goal.lower_statement-returns-in_ok-close_for-in-For-clause-labels
 lower_statement-returns-in_ok-close_for-in-For-clause-labels t c =
     proceeds_both c.args.around c.args.code.now c.loop-rest.code c.close_for.new.code c.loop-rest.invariant.proceeds
-    (for_proceeds (condition_of c.in-For.condition) c.in_ok-labels-in-For.labels _ _ c.open_for.new.code c.lower_statement-in-For-2.new.code c.turn_for.new.code
+    (for_proceeds (statement_of c.deref-in-For-2.result.now) c.in_ok-labels-in-For.labels _ _ c.open_for.new.code c.lower_statement-in-For-2.new.code c.turn_for.new.code
     c.lower_statement-in-For-3.new.code c.site-last_site.result
     c.in_ok-labels-in-For.ensures c.in_ok-lower_statement-in-For-2.ensures.labels c.in_ok-turn_for-in-For.ensures c.in_ok-lower_statement-in-For-3.ensures.labels
     c.close_for.new.code c.site-after.result c.in_ok-close_for-in-For.ensures c.args.around c.loop-rest.code c.lower_statement-in-For.new.code
@@ -118,20 +119,24 @@ lower_statement-lower_statement-requires-in-Block t c =
 
 pub lower_statement-lower_statement-requires-in-If : goal.lower_statement-lower_statement-requires-in-If
 lower_statement-lower_statement-requires-in-If t c =
-    let is : statement_of c.loop-rest.rest.now ≡ Statement.If (condition_of c.in-If.condition) (statement_of c.deref-in-If.result.now) (statement_of c.in-If.alternative.value) =
-    ap statement_of c.in-If.is ∙ ap (λ z. Statement.If (condition_of c.in-If.condition) (statement_of z) (statement_of c.in-If.alternative.value)) (sym c.deref-in-If.ensures) in (
+    let d = statement_of c.deref-in-If.result.now in
+    let one = statement_of c.deref-in-If-2.result.now in
+    let other = statement_of c.in-If.alternative.value in
+    let is : statement_of c.loop-rest.rest.now ≡ Statement.If d one other =
+    ap statement_of c.in-If.is
+    ∙ ap (λ z. Statement.If (statement_of z) (statement_of c.in-If.consequent.value) (statement_of c.in-If.alternative.value)) (sym c.deref-in-If.ensures)
+    ∙ ap (λ z. Statement.If (statement_of c.deref-in-If.result.now) (statement_of z) (statement_of c.in-If.alternative.value)) (sym c.deref-in-If-2.ensures) in (
       (let size = ap nested_size is in let before = c.loop-rest.invariant.less in omega (arith, size, before)),
       (
         c.requires.functions,
         (
-          (and_parts (is_taken (is_some c.args.around) (statement_of c.deref-in-If.result.now)) (is_taken (is_some c.args.around) (statement_of c.in-If.alternative.value))
-              (sym (ap (is_taken (is_some c.args.around)) is) ∙ c.loop-rest.invariant.taken)).0,
+          (if_taken (is_some c.args.around) (statement_of c.loop-rest.rest.now) d one other is c.loop-rest.invariant.taken).1,
           (
             targets_after c.args.around c.args.code.now.stages c.open_choice.new.code.stages
                 (advances_both None_ c.args.code.now.stages c.loop-rest.code.stages c.open_choice.new.code.stages c.loop-rest.invariant.proceeds.advances
-                (choice_advance (condition_of c.in-If.condition) c.in_ok-labels-in-If.labels c.loop-rest.code c.open_choice.new.code c.in_ok-labels-in-If.ensures))
+                (choice_advance d c.in_ok-labels-in-If.labels c.loop-rest.code c.open_choice.new.code c.in_ok-labels-in-If.ensures))
                 c.requires.targets,
-            choice_back_first c.args.around (condition_of c.in-If.condition) c.in_ok-labels-in-If.labels c.args.code.now c.loop-rest.code c.open_choice.new.code c.requires.back
+            choice_back_first c.args.around d c.in_ok-labels-in-If.labels c.args.code.now c.loop-rest.code c.open_choice.new.code c.requires.back
                 c.loop-rest.invariant.proceeds c.in_ok-labels-in-If.ensures,
           ),
         ),
@@ -140,19 +145,24 @@ lower_statement-lower_statement-requires-in-If t c =
 
 pub lower_statement-lower_statement-requires-in-If-2 : goal.lower_statement-lower_statement-requires-in-If-2
 lower_statement-lower_statement-requires-in-If-2 t c =
-    let is : statement_of c.loop-rest.rest.now ≡ Statement.If (condition_of c.in-If.condition) (statement_of c.in-If.consequent.value) (statement_of c.deref-in-If-2.result.now) =
-    ap statement_of c.in-If.is ∙ ap (λ z. Statement.If (condition_of c.in-If.condition) (statement_of c.in-If.consequent.value) (statement_of z)) (sym c.deref-in-If-2.ensures) in (
+    let d = statement_of c.deref-in-If.result.now in
+    let one = statement_of c.deref-in-If-2.result.now in
+    let other = statement_of c.deref-in-If-3.result.now in
+    let is : statement_of c.loop-rest.rest.now ≡ Statement.If d one other =
+    ap statement_of c.in-If.is
+    ∙ ap (λ z. Statement.If (statement_of z) (statement_of c.in-If.consequent.value) (statement_of c.in-If.alternative.value)) (sym c.deref-in-If.ensures)
+    ∙ ap (λ z. Statement.If (statement_of c.deref-in-If.result.now) (statement_of z) (statement_of c.in-If.alternative.value)) (sym c.deref-in-If-2.ensures)
+    ∙ ap (λ z. Statement.If (statement_of c.deref-in-If.result.now) (statement_of c.deref-in-If-2.result.now) (statement_of z)) (sym c.deref-in-If-3.ensures) in (
       (let size = ap nested_size is in let before = c.loop-rest.invariant.less in omega (arith, size, before)),
       (
         c.requires.functions,
         (
-          (and_parts (is_taken (is_some c.args.around) (statement_of c.in-If.consequent.value)) (is_taken (is_some c.args.around) (statement_of c.deref-in-If-2.result.now))
-              (sym (ap (is_taken (is_some c.args.around)) is) ∙ c.loop-rest.invariant.taken)).1,
+          (if_taken (is_some c.args.around) (statement_of c.loop-rest.rest.now) d one other is c.loop-rest.invariant.taken).2,
           (
-            choice_targets c.args.around (condition_of c.in-If.condition) c.in_ok-labels-in-If.labels c.args.code.now c.loop-rest.code c.open_choice.new.code
+            choice_targets c.args.around d c.in_ok-labels-in-If.labels c.args.code.now c.loop-rest.code c.open_choice.new.code
                 c.lower_statement-in-If.new.code c.turn_choice.new.code
                 c.requires.targets c.loop-rest.invariant.proceeds c.in_ok-labels-in-If.ensures c.in_ok-lower_statement-in-If.ensures.labels c.in_ok-turn_choice-in-If.ensures,
-            choice_back_target c.args.around (condition_of c.in-If.condition) c.in_ok-labels-in-If.labels c.args.code.now c.loop-rest.code c.open_choice.new.code
+            choice_back_target c.args.around d c.in_ok-labels-in-If.labels c.args.code.now c.loop-rest.code c.open_choice.new.code
                 c.lower_statement-in-If.new.code c.turn_choice.new.code
                 c.requires.back c.loop-rest.invariant.proceeds c.in_ok-labels-in-If.ensures c.in_ok-lower_statement-in-If.ensures.labels c.in_ok-turn_choice-in-If.ensures,
           ),
@@ -160,33 +170,59 @@ lower_statement-lower_statement-requires-in-If-2 t c =
       ),
     )
 
+pub lower_statement-open_choice-requires : goal.lower_statement-open_choice-requires
+lower_statement-open_choice-requires t c =
+    let d = statement_of c.deref-in-If.result.now in
+    let one = statement_of c.in-If.consequent.value in
+    let other = statement_of c.in-If.alternative.value in
+    let is : statement_of c.loop-rest.rest.now ≡ Statement.If d one other =
+    ap statement_of c.in-If.is
+    ∙ ap (λ z. Statement.If (statement_of z) (statement_of c.in-If.consequent.value) (statement_of c.in-If.alternative.value)) (sym c.deref-in-If.ensures) in
+    record { asked = (if_taken (is_some c.args.around) (statement_of c.loop-rest.rest.now) d one other is c.loop-rest.invariant.taken).0 }
+
 pub lower_statement-lower_statement-requires-in-While : goal.lower_statement-lower_statement-requires-in-While
 lower_statement-lower_statement-requires-in-While t c =
-    let is : statement_of c.loop-rest.rest.now ≡ Statement.While (condition_of c.in-While.condition) (statement_of c.deref-in-While.result.now) =
-    ap statement_of c.in-While.is ∙ ap (λ z. Statement.While (condition_of c.in-While.condition) (statement_of z)) (sym c.deref-in-While.ensures) in (
+    let d = statement_of c.deref-in-While.result.now in
+    let body = statement_of c.deref-in-While-2.result.now in
+    let is : statement_of c.loop-rest.rest.now ≡ Statement.While d body =
+    ap statement_of c.in-While.is
+    ∙ ap (λ z. Statement.While (statement_of z) (statement_of c.in-While.body.value)) (sym c.deref-in-While.ensures)
+    ∙ ap (λ z. Statement.While (statement_of c.deref-in-While.result.now) (statement_of z)) (sym c.deref-in-While-2.ensures) in (
       (let size = ap nested_size is in let before = c.loop-rest.invariant.less in omega (arith, size, before)),
       (
         c.requires.functions,
         (
-          (sym (ap (is_taken (is_some c.args.around)) is) ∙ c.loop-rest.invariant.taken),
+          (while_taken (is_some c.args.around) (statement_of c.loop-rest.rest.now) d body is c.loop-rest.invariant.taken).1,
           (
-            while_targets (condition_of c.in-While.condition) c.in_ok-labels-in-While.labels c.loop-rest.code c.open_turn.new.code c.in_ok-labels-in-While.ensures,
-            turn_back_target (condition_of c.in-While.condition) c.in_ok-labels-in-While.labels c.loop-rest.code c.open_turn.new.code c.in_ok-labels-in-While.ensures
+            while_targets d c.in_ok-labels-in-While.labels c.loop-rest.code c.open_turn.new.code c.in_ok-labels-in-While.ensures,
+            turn_back_target d c.in_ok-labels-in-While.labels c.loop-rest.code c.open_turn.new.code c.in_ok-labels-in-While.ensures
                 (back_after c.args.code.now c.loop-rest.code c.loop-rest.invariant.proceeds.advances c.loop-rest.invariant.proceeds.back c.requires.back),
           ),
         ),
       ),
     )
 
+pub lower_statement-open_turn-requires : goal.lower_statement-open_turn-requires
+lower_statement-open_turn-requires t c =
+    let d = statement_of c.deref-in-While.result.now in
+    let body = statement_of c.in-While.body.value in
+    let is : statement_of c.loop-rest.rest.now ≡ Statement.While d body =
+    ap statement_of c.in-While.is
+    ∙ ap (λ z. Statement.While (statement_of z) (statement_of c.in-While.body.value)) (sym c.deref-in-While.ensures) in
+    record { asked = (while_taken (is_some c.args.around) (statement_of c.loop-rest.rest.now) d body is c.loop-rest.invariant.taken).0 }
+
 pub lower_statement-lower_statement-requires-in-DoWhile : goal.lower_statement-lower_statement-requires-in-DoWhile
 lower_statement-lower_statement-requires-in-DoWhile t c =
-    let is : statement_of c.loop-rest.rest.now ≡ Statement.DoWhile (statement_of c.deref-in-DoWhile.result.now) (condition_of c.in-DoWhile.condition) =
-    ap statement_of c.in-DoWhile.is ∙ ap (λ z. Statement.DoWhile (statement_of z) (condition_of c.in-DoWhile.condition)) (sym c.deref-in-DoWhile.ensures) in (
+    let body = statement_of c.deref-in-DoWhile.result.now in
+    let d = statement_of c.in-DoWhile.condition.value in
+    let is : statement_of c.loop-rest.rest.now ≡ Statement.DoWhile body d =
+    ap statement_of c.in-DoWhile.is
+    ∙ ap (λ z. Statement.DoWhile (statement_of z) (statement_of c.in-DoWhile.condition.value)) (sym c.deref-in-DoWhile.ensures) in (
       (let size = ap nested_size is in let before = c.loop-rest.invariant.less in omega (arith, size, before)),
       (
         c.requires.functions,
         (
-          (sym (ap (is_taken (is_some c.args.around)) is) ∙ c.loop-rest.invariant.taken),
+          (do_taken (is_some c.args.around) (statement_of c.loop-rest.rest.now) body d is c.loop-rest.invariant.taken).0,
           (
             do_targets c.in_ok-labels-in-DoWhile.labels c.loop-rest.code c.open_loop.new.code c.in_ok-labels-in-DoWhile.ensures,
             do_back_target c.in_ok-labels-in-DoWhile.labels c.loop-rest.code c.open_loop.new.code c.in_ok-labels-in-DoWhile.ensures
@@ -196,23 +232,36 @@ lower_statement-lower_statement-requires-in-DoWhile t c =
       ),
     )
 
+pub lower_statement-close_do-requires-clause-asked : goal.lower_statement-close_do-requires-clause-asked
+lower_statement-close_do-requires-clause-asked t c =
+    let body = statement_of c.deref-in-DoWhile.result.now in
+    let d = statement_of c.deref-in-DoWhile-2.result.now in
+    let is : statement_of c.loop-rest.rest.now ≡ Statement.DoWhile body d =
+    ap statement_of c.in-DoWhile.is
+    ∙ ap (λ z. Statement.DoWhile (statement_of z) (statement_of c.in-DoWhile.condition.value)) (sym c.deref-in-DoWhile.ensures)
+    ∙ ap (λ z. Statement.DoWhile (statement_of c.deref-in-DoWhile.result.now) (statement_of z)) (sym c.deref-in-DoWhile-2.ensures) in
+    (do_taken (is_some c.args.around) (statement_of c.loop-rest.rest.now) body d is c.loop-rest.invariant.taken).1
+
 pub lower_statement-lower_statement-requires-in-For-2 : goal.lower_statement-lower_statement-requires-in-For-2
 lower_statement-lower_statement-requires-in-For-2 t c =
-    let is : statement_of c.loop-rest.rest.now ≡ Statement.For (statement_of c.in-For.first.value) (condition_of c.in-For.condition) (statement_of c.in-For.last.value)
-    (statement_of c.deref-in-For-3.result.now) =
-    ap statement_of c.in-For.is ∙ ap (λ z. Statement.For (statement_of c.in-For.first.value) (condition_of c.in-For.condition) (statement_of c.in-For.last.value) (statement_of z))
-    (sym c.deref-in-For-3.ensures) in (
+    let first = statement_of c.deref-in-For.result.now in
+    let d = statement_of c.deref-in-For-2.result.now in
+    let last = statement_of c.deref-in-For-3.result.now in
+    let body = statement_of c.deref-in-For-4.result.now in
+    let is : statement_of c.loop-rest.rest.now ≡ Statement.For first d last body =
+    ap statement_of c.in-For.is
+    ∙ ap (λ z. Statement.For (statement_of z) (statement_of c.in-For.condition.value) (statement_of c.in-For.last.value) (statement_of c.in-For.body.value)) (sym c.deref-in-For.ensures)
+    ∙ ap (λ z. Statement.For (statement_of c.deref-in-For.result.now) (statement_of z) (statement_of c.in-For.last.value) (statement_of c.in-For.body.value)) (sym c.deref-in-For-2.ensures)
+    ∙ ap (λ z. Statement.For (statement_of c.deref-in-For.result.now) (statement_of c.deref-in-For-2.result.now) (statement_of z) (statement_of c.in-For.body.value)) (sym c.deref-in-For-3.ensures)
+    ∙ ap (λ z. Statement.For (statement_of c.deref-in-For.result.now) (statement_of c.deref-in-For-2.result.now) (statement_of c.deref-in-For-3.result.now) (statement_of z)) (sym c.deref-in-For-4.ensures) in (
       (let size = ap nested_size is in let before = c.loop-rest.invariant.less in omega (arith, size, before)),
       (
         c.requires.functions,
         (
-          (and_parts (is_taken false (statement_of c.in-For.last.value)) (is_taken true (statement_of c.deref-in-For-3.result.now))
-              (and_parts (is_taken false (statement_of c.in-For.first.value)) (is_taken false (statement_of c.in-For.last.value) && is_taken true
-              (statement_of c.deref-in-For-3.result.now))
-              (sym (ap (is_taken (is_some c.args.around)) is) ∙ c.loop-rest.invariant.taken)).1).1,
+          (for_taken (is_some c.args.around) (statement_of c.loop-rest.rest.now) first d last body is c.loop-rest.invariant.taken).3,
           (
-            for_targets (condition_of c.in-For.condition) c.in_ok-labels-in-For.labels _ c.open_for.new.code c.in_ok-labels-in-For.ensures,
-            turn_back_target (condition_of c.in-For.condition) c.in_ok-labels-in-For.labels _ c.open_for.new.code c.in_ok-labels-in-For.ensures
+            for_targets d c.in_ok-labels-in-For.labels _ c.open_for.new.code c.in_ok-labels-in-For.ensures,
+            turn_back_target d c.in_ok-labels-in-For.labels _ c.open_for.new.code c.in_ok-labels-in-For.ensures
                 (back_after c.loop-rest.code c.lower_statement-in-For.new.code c.in_ok-lower_statement-in-For.ensures.labels.advances c.in_ok-lower_statement-in-For.ensures.labels.back
                 (back_after c.args.code.now c.loop-rest.code c.loop-rest.invariant.proceeds.advances c.loop-rest.invariant.proceeds.back c.requires.back)),
           ),
@@ -222,32 +271,32 @@ lower_statement-lower_statement-requires-in-For-2 t c =
 
 pub lower_statement-turn_choice-requires-clause-join : goal.lower_statement-turn_choice-requires-clause-join
 lower_statement-turn_choice-requires-clause-join t c =
-    join_open (condition_of c.in-If.condition) c.in_ok-labels-in-If.labels c.args.around c.loop-rest.code c.open_choice.new.code c.lower_statement-in-If.new.code
+    join_open (statement_of c.deref-in-If.result.now) c.in_ok-labels-in-If.labels c.args.around c.loop-rest.code c.open_choice.new.code c.lower_statement-in-If.new.code
     c.in_ok-labels-in-If.ensures c.in_ok-lower_statement-in-If.ensures.labels
 
 pub lower_statement-turn_choice-requires-clause-if_false : goal.lower_statement-turn_choice-requires-clause-if_false
 lower_statement-turn_choice-requires-clause-if_false t c =
-    false_open (condition_of c.in-If.condition) c.in_ok-labels-in-If.labels c.args.around c.loop-rest.code c.open_choice.new.code c.lower_statement-in-If.new.code
+    false_open (statement_of c.deref-in-If.result.now) c.in_ok-labels-in-If.labels c.args.around c.loop-rest.code c.open_choice.new.code c.lower_statement-in-If.new.code
     c.in_ok-labels-in-If.ensures c.in_ok-lower_statement-in-If.ensures.labels
 
 pub lower_statement-turn_choice-requires-clause-apart : goal.lower_statement-turn_choice-requires-clause-apart
 lower_statement-turn_choice-requires-clause-apart t c =
-    choice_apart (condition_of c.in-If.condition) c.in_ok-labels-in-If.labels c.loop-rest.code c.open_choice.new.code c.in_ok-labels-in-If.ensures
+    choice_apart (statement_of c.deref-in-If.result.now) c.in_ok-labels-in-If.labels c.loop-rest.code c.open_choice.new.code c.in_ok-labels-in-If.ensures
 
 pub lower_statement-bind-requires : goal.lower_statement-bind-requires
 lower_statement-bind-requires t c =
-    join_open_after (condition_of c.in-If.condition) c.in_ok-labels-in-If.labels c.args.around c.loop-rest.code c.open_choice.new.code c.lower_statement-in-If.new.code
+    join_open_after (statement_of c.deref-in-If.result.now) c.in_ok-labels-in-If.labels c.args.around c.loop-rest.code c.open_choice.new.code c.lower_statement-in-If.new.code
     c.turn_choice.new.code c.lower_statement-in-If-2.new.code
     c.in_ok-labels-in-If.ensures c.in_ok-lower_statement-in-If.ensures.labels c.in_ok-turn_choice-in-If.ensures c.in_ok-lower_statement-in-If-2.ensures.labels
 
 pub lower_statement-close_turn-requires-clause-head : goal.lower_statement-close_turn-requires-clause-head
 lower_statement-close_turn-requires-clause-head t c =
-    while_head (condition_of c.in-While.condition) c.in_ok-labels-in-While.labels _ c.loop-rest.code c.open_turn.new.code c.lower_statement-in-While.new.code
+    while_head (statement_of c.deref-in-While.result.now) c.in_ok-labels-in-While.labels _ c.loop-rest.code c.open_turn.new.code c.lower_statement-in-While.new.code
     c.in_ok-labels-in-While.ensures c.in_ok-lower_statement-in-While.ensures.labels
 
 pub lower_statement-close_turn-requires-clause-leaving : goal.lower_statement-close_turn-requires-clause-leaving
 lower_statement-close_turn-requires-clause-leaving t c =
-    while_leaving (condition_of c.in-While.condition) c.in_ok-labels-in-While.labels _ c.loop-rest.code c.open_turn.new.code c.lower_statement-in-While.new.code
+    while_leaving (statement_of c.deref-in-While.result.now) c.in_ok-labels-in-While.labels _ c.loop-rest.code c.open_turn.new.code c.lower_statement-in-While.new.code
     c.in_ok-labels-in-While.ensures c.in_ok-lower_statement-in-While.ensures.labels
 
 pub lower_statement-close_do-requires-clause-turning : goal.lower_statement-close_do-requires-clause-turning
@@ -266,18 +315,18 @@ lower_statement-close_do-requires-clause-apart t c =
 
 pub lower_statement-turn_for-requires : goal.lower_statement-turn_for-requires
 lower_statement-turn_for-requires t c =
-    for_turning (condition_of c.in-For.condition) c.in_ok-labels-in-For.labels _ _ c.open_for.new.code c.lower_statement-in-For-2.new.code c.in_ok-labels-in-For.ensures
+    for_turning (statement_of c.deref-in-For-2.result.now) c.in_ok-labels-in-For.labels _ _ c.open_for.new.code c.lower_statement-in-For-2.new.code c.in_ok-labels-in-For.ensures
     c.in_ok-lower_statement-in-For-2.ensures.labels
 
 pub lower_statement-close_for-requires-clause-head : goal.lower_statement-close_for-requires-clause-head
 lower_statement-close_for-requires-clause-head t c =
-    for_head (condition_of c.in-For.condition) c.in_ok-labels-in-For.labels _ _ c.open_for.new.code c.lower_statement-in-For-2.new.code c.turn_for.new.code
+    for_head (statement_of c.deref-in-For-2.result.now) c.in_ok-labels-in-For.labels _ _ c.open_for.new.code c.lower_statement-in-For-2.new.code c.turn_for.new.code
     c.lower_statement-in-For-3.new.code c.site-last_site.result
     c.in_ok-labels-in-For.ensures c.in_ok-lower_statement-in-For-2.ensures.labels c.in_ok-turn_for-in-For.ensures c.in_ok-lower_statement-in-For-3.ensures.labels
 
 pub lower_statement-close_for-requires-clause-leaving : goal.lower_statement-close_for-requires-clause-leaving
 lower_statement-close_for-requires-clause-leaving t c =
-    for_leaving (condition_of c.in-For.condition) c.in_ok-labels-in-For.labels _ _ c.open_for.new.code c.lower_statement-in-For-2.new.code c.turn_for.new.code
+    for_leaving (statement_of c.deref-in-For-2.result.now) c.in_ok-labels-in-For.labels _ _ c.open_for.new.code c.lower_statement-in-For-2.new.code c.turn_for.new.code
     c.lower_statement-in-For-3.new.code c.site-last_site.result
     c.in_ok-labels-in-For.ensures c.in_ok-lower_statement-in-For-2.ensures.labels c.in_ok-turn_for-in-For.ensures c.in_ok-lower_statement-in-For-3.ensures.labels
 
@@ -311,115 +360,147 @@ lower_statement-returns-in_err-skip_sites-clause-full t c =
 pub lower_statement-returns-in_err-labels-in-If-clause-full : goal.lower_statement-returns-in_err-labels-in-If-clause-full
 lower_statement-returns-in_err-labels-in-If-clause-full t c =
     let p = err_from_is_err_and c.from_residual-in_err-labels-in-If.result c.from_residual-in_err-labels-in-If.ensures.1 in
+    let d = statement_of c.deref-in-If.result.now in
+    let one = statement_of c.in-If.consequent.value in
+    let other = statement_of c.in-If.alternative.value in
+    let is : statement_of c.loop-rest.rest.now ≡ Statement.If d one other =
+    ap statement_of c.in-If.is
+    ∙ ap (λ z. Statement.If (statement_of z) (statement_of c.in-If.consequent.value) (statement_of c.in-If.alternative.value)) (sym c.deref-in-If.ensures) in
     rw (p.1, p.2) (c.loop-rest.invariant.behind.full _
-    (choice_condition (program_of c.args.program.now) c.args.depth (statement_of c.loop-rest.rest.now) (condition_of c.in-If.condition) (statement_of c.in-If.consequent.value)
-    (statement_of c.in-If.alternative.value) c.loop-rest.code _
-    (ap statement_of c.in-If.is) c.in_err-labels-in-If.ensures))
+    (choice_condition (program_of c.args.program.now) c.args.depth (statement_of c.loop-rest.rest.now) d one other c.loop-rest.code _ is c.in_err-labels-in-If.ensures))
 
 pub lower_statement-returns-in_err-lower_statement-in-If-clause-full : goal.lower_statement-returns-in_err-lower_statement-in-If-clause-full
 lower_statement-returns-in_err-lower_statement-in-If-clause-full t c =
     let p = err_from_is_err_and c.from_residual-in_err-lower_statement-in-If.result c.from_residual-in_err-lower_statement-in-If.ensures.1 in
-    let d = condition_of c.in-If.condition in
+    let d = statement_of c.deref-in-If.result.now in
+    let one = statement_of c.deref-in-If-2.result.now in
     let other = statement_of c.in-If.alternative.value in
+    let is : statement_of c.loop-rest.rest.now ≡ Statement.If d one other =
+    ap statement_of c.in-If.is
+    ∙ ap (λ z. Statement.If (statement_of z) (statement_of c.in-If.consequent.value) (statement_of c.in-If.alternative.value)) (sym c.deref-in-If.ensures)
+    ∙ ap (λ z. Statement.If (statement_of c.deref-in-If.result.now) (statement_of z) (statement_of c.in-If.alternative.value)) (sym c.deref-in-If-2.ensures) in
     rw (p.1, p.2) (c.loop-rest.invariant.behind.full _
-    (one_for (program_of c.args.program.now) c.args.depth c.args.around (statement_of c.loop-rest.rest.now) d
-    (statement_of c.deref-in-If.result.now) other c.in_ok-labels-in-If.labels c.loop-rest.code c.open_choice.new.code _
-    (ap statement_of c.in-If.is ∙ ap (λ z. Statement.If d (statement_of z) other) (sym c.deref-in-If.ensures)) c.in_ok-labels-in-If.ensures c.in_err-lower_statement-in-If.ensures.full))
+    (one_for (program_of c.args.program.now) c.args.depth c.args.around (statement_of c.loop-rest.rest.now) d one other c.in_ok-labels-in-If.labels c.loop-rest.code c.open_choice.new.code _ is
+    c.in_ok-labels-in-If.ensures c.in_err-lower_statement-in-If.ensures.full))
 
 pub lower_statement-returns-in_err-lower_statement-in-If-2-clause-full : goal.lower_statement-returns-in_err-lower_statement-in-If-2-clause-full
 lower_statement-returns-in_err-lower_statement-in-If-2-clause-full t c =
     let p = err_from_is_err_and c.from_residual-in_err-lower_statement-in-If-2.result c.from_residual-in_err-lower_statement-in-If-2.ensures.1 in
-    let d = condition_of c.in-If.condition in
-    let one = statement_of c.deref-in-If.result.now in
+    let d = statement_of c.deref-in-If.result.now in
+    let one = statement_of c.deref-in-If-2.result.now in
+    let other = statement_of c.deref-in-If-3.result.now in
+    let is : statement_of c.loop-rest.rest.now ≡ Statement.If d one other =
+    ap statement_of c.in-If.is
+    ∙ ap (λ z. Statement.If (statement_of z) (statement_of c.in-If.consequent.value) (statement_of c.in-If.alternative.value)) (sym c.deref-in-If.ensures)
+    ∙ ap (λ z. Statement.If (statement_of c.deref-in-If.result.now) (statement_of z) (statement_of c.in-If.alternative.value)) (sym c.deref-in-If-2.ensures)
+    ∙ ap (λ z. Statement.If (statement_of c.deref-in-If.result.now) (statement_of c.deref-in-If-2.result.now) (statement_of z)) (sym c.deref-in-If-3.ensures) in
     rw (p.1, p.2) (c.loop-rest.invariant.behind.full _
-    (other_for (program_of c.args.program.now) c.args.depth c.args.around (statement_of c.loop-rest.rest.now) d one
-    (statement_of c.deref-in-If-2.result.now) c.in_ok-labels-in-If.labels c.loop-rest.code c.open_choice.new.code
-    c.lower_statement-in-If.new.code c.turn_choice.new.code _
-    (ap statement_of c.in-If.is ∙ ap (λ z. Statement.If d (statement_of z) (statement_of c.in-If.alternative.value)) (sym c.deref-in-If.ensures)
-    ∙ ap (λ z. Statement.If d one (statement_of z)) (sym c.deref-in-If-2.ensures))
+    (other_for (program_of c.args.program.now) c.args.depth c.args.around (statement_of c.loop-rest.rest.now) d one other c.in_ok-labels-in-If.labels c.loop-rest.code c.open_choice.new.code
+    c.lower_statement-in-If.new.code c.turn_choice.new.code _ is
     c.in_ok-labels-in-If.ensures c.in_ok-lower_statement-in-If.ensures.lowers c.in_ok-turn_choice-in-If.ensures c.in_err-lower_statement-in-If-2.ensures.full))
 
 pub lower_statement-returns-in_err-labels-in-While-clause-full : goal.lower_statement-returns-in_err-labels-in-While-clause-full
 lower_statement-returns-in_err-labels-in-While-clause-full t c =
     let p = err_from_is_err_and c.from_residual-in_err-labels-in-While.result c.from_residual-in_err-labels-in-While.ensures.1 in
+    let d = statement_of c.deref-in-While.result.now in
+    let body = statement_of c.in-While.body.value in
+    let is : statement_of c.loop-rest.rest.now ≡ Statement.While d body =
+    ap statement_of c.in-While.is
+    ∙ ap (λ z. Statement.While (statement_of z) (statement_of c.in-While.body.value)) (sym c.deref-in-While.ensures) in
     rw (p.1, p.2) (c.loop-rest.invariant.behind.full _
-    (while_condition (program_of c.args.program.now) c.args.depth (statement_of c.loop-rest.rest.now) (condition_of c.in-While.condition) (statement_of c.in-While.body.value) c.loop-rest.code _
-    (ap statement_of c.in-While.is) c.in_err-labels-in-While.ensures))
+    (while_condition (program_of c.args.program.now) c.args.depth (statement_of c.loop-rest.rest.now) d body c.loop-rest.code _ is c.in_err-labels-in-While.ensures))
 
 pub lower_statement-returns-in_err-lower_statement-in-While-clause-full : goal.lower_statement-returns-in_err-lower_statement-in-While-clause-full
 lower_statement-returns-in_err-lower_statement-in-While-clause-full t c =
     let p = err_from_is_err_and c.from_residual-in_err-lower_statement-in-While.result c.from_residual-in_err-lower_statement-in-While.ensures.1 in
-    let d = condition_of c.in-While.condition in
+    let d = statement_of c.deref-in-While.result.now in
+    let body = statement_of c.deref-in-While-2.result.now in
+    let is : statement_of c.loop-rest.rest.now ≡ Statement.While d body =
+    ap statement_of c.in-While.is
+    ∙ ap (λ z. Statement.While (statement_of z) (statement_of c.in-While.body.value)) (sym c.deref-in-While.ensures)
+    ∙ ap (λ z. Statement.While (statement_of c.deref-in-While.result.now) (statement_of z)) (sym c.deref-in-While-2.ensures) in
     rw (p.1, p.2) (c.loop-rest.invariant.behind.full _
-    (while_body (program_of c.args.program.now) c.args.depth (statement_of c.loop-rest.rest.now) d
-    (statement_of c.deref-in-While.result.now) c.in_ok-labels-in-While.labels c.loop-rest.code c.open_turn.new.code _
-    (ap statement_of c.in-While.is ∙ ap (λ z. Statement.While d (statement_of z)) (sym c.deref-in-While.ensures))
+    (while_body (program_of c.args.program.now) c.args.depth (statement_of c.loop-rest.rest.now) d body c.in_ok-labels-in-While.labels c.loop-rest.code c.open_turn.new.code _ is
     c.in_ok-labels-in-While.ensures c.in_err-lower_statement-in-While.ensures.full))
 
 pub lower_statement-returns-in_err-lower_statement-in-DoWhile-clause-full : goal.lower_statement-returns-in_err-lower_statement-in-DoWhile-clause-full
 lower_statement-returns-in_err-lower_statement-in-DoWhile-clause-full t c =
     let p = err_from_is_err_and c.from_residual-in_err-lower_statement-in-DoWhile.result c.from_residual-in_err-lower_statement-in-DoWhile.ensures.1 in
-    let d = condition_of c.in-DoWhile.condition in
+    let body = statement_of c.deref-in-DoWhile.result.now in
+    let d = statement_of c.in-DoWhile.condition.value in
+    let is : statement_of c.loop-rest.rest.now ≡ Statement.DoWhile body d =
+    ap statement_of c.in-DoWhile.is
+    ∙ ap (λ z. Statement.DoWhile (statement_of z) (statement_of c.in-DoWhile.condition.value)) (sym c.deref-in-DoWhile.ensures) in
     rw (p.1, p.2) (c.loop-rest.invariant.behind.full _
-    (do_body (program_of c.args.program.now) c.args.depth (statement_of c.loop-rest.rest.now) d
-    (statement_of c.deref-in-DoWhile.result.now) c.in_ok-labels-in-DoWhile.labels c.loop-rest.code c.open_loop.new.code _
-    (ap statement_of c.in-DoWhile.is ∙ ap (λ z. Statement.DoWhile (statement_of z) d) (sym c.deref-in-DoWhile.ensures))
+    (do_body (program_of c.args.program.now) c.args.depth (statement_of c.loop-rest.rest.now) d body c.in_ok-labels-in-DoWhile.labels c.loop-rest.code c.open_loop.new.code _ is
     c.in_ok-labels-in-DoWhile.ensures c.in_err-lower_statement-in-DoWhile.ensures.full))
 
 pub lower_statement-returns-in_err-lower_statement-in-For-clause-full : goal.lower_statement-returns-in_err-lower_statement-in-For-clause-full
 lower_statement-returns-in_err-lower_statement-in-For-clause-full t c =
     let p = err_from_is_err_and c.from_residual-in_err-lower_statement-in-For.result c.from_residual-in_err-lower_statement-in-For.ensures.1 in
-    let d = condition_of c.in-For.condition in
     let first = statement_of c.deref-in-For.result.now in
+    let d = statement_of c.in-For.condition.value in
+    let last = statement_of c.in-For.last.value in
+    let body = statement_of c.in-For.body.value in
+    let is : statement_of c.loop-rest.rest.now ≡ Statement.For first d last body =
+    ap statement_of c.in-For.is
+    ∙ ap (λ z. Statement.For (statement_of z) (statement_of c.in-For.condition.value) (statement_of c.in-For.last.value) (statement_of c.in-For.body.value)) (sym c.deref-in-For.ensures) in
     rw (p.1, p.2) (c.loop-rest.invariant.behind.full _
-    (for_first (program_of c.args.program.now) c.args.depth (statement_of c.loop-rest.rest.now) first d (statement_of c.in-For.last.value) (statement_of c.in-For.body.value) c.loop-rest.code _
-    (ap statement_of c.in-For.is ∙ ap (λ z. Statement.For (statement_of z) d (statement_of c.in-For.last.value) (statement_of c.in-For.body.value)) (sym c.deref-in-For.ensures))
-    c.in_err-lower_statement-in-For.ensures.full))
+    (for_first (program_of c.args.program.now) c.args.depth (statement_of c.loop-rest.rest.now) first d last body c.loop-rest.code _ is c.in_err-lower_statement-in-For.ensures.full))
 
 pub lower_statement-returns-in_err-labels-in-For-clause-full : goal.lower_statement-returns-in_err-labels-in-For-clause-full
 lower_statement-returns-in_err-labels-in-For-clause-full t c =
     let p = err_from_is_err_and c.from_residual-in_err-labels-in-For.result c.from_residual-in_err-labels-in-For.ensures.1 in
-    let d = condition_of c.in-For.condition in
     let first = statement_of c.deref-in-For.result.now in
-    let last = statement_of c.deref-in-For-2.result.now in
-    let a0 = c.lower_statement-in-For.new.code in
+    let d = statement_of c.deref-in-For-2.result.now in
+    let last = statement_of c.deref-in-For-3.result.now in
+    let body = statement_of c.in-For.body.value in
+    let is : statement_of c.loop-rest.rest.now ≡ Statement.For first d last body =
+    ap statement_of c.in-For.is
+    ∙ ap (λ z. Statement.For (statement_of z) (statement_of c.in-For.condition.value) (statement_of c.in-For.last.value) (statement_of c.in-For.body.value)) (sym c.deref-in-For.ensures)
+    ∙ ap (λ z. Statement.For (statement_of c.deref-in-For.result.now) (statement_of z) (statement_of c.in-For.last.value) (statement_of c.in-For.body.value)) (sym c.deref-in-For-2.ensures)
+    ∙ ap (λ z. Statement.For (statement_of c.deref-in-For.result.now) (statement_of c.deref-in-For-2.result.now) (statement_of z) (statement_of c.in-For.body.value)) (sym c.deref-in-For-3.ensures) in
     rw (p.1, p.2) (c.loop-rest.invariant.behind.full _
-    (for_condition (program_of c.args.program.now) c.args.depth (statement_of c.loop-rest.rest.now) first d last (statement_of c.in-For.body.value) c.loop-rest.code a0 _
-    (ap statement_of c.in-For.is ∙ ap (λ z. Statement.For (statement_of z) d (statement_of c.in-For.last.value) (statement_of c.in-For.body.value)) (sym c.deref-in-For.ensures)
-    ∙ ap (λ z. Statement.For first d (statement_of z) (statement_of c.in-For.body.value)) (sym c.deref-in-For-2.ensures))
+    (for_condition (program_of c.args.program.now) c.args.depth (statement_of c.loop-rest.rest.now) first d last body c.loop-rest.code c.lower_statement-in-For.new.code _ is
     c.in_ok-lower_statement-in-For.ensures.lowers c.in_err-labels-in-For.ensures))
 
 pub lower_statement-returns-in_err-lower_statement-in-For-2-clause-full : goal.lower_statement-returns-in_err-lower_statement-in-For-2-clause-full
 lower_statement-returns-in_err-lower_statement-in-For-2-clause-full t c =
     let p = err_from_is_err_and c.from_residual-in_err-lower_statement-in-For-2.result c.from_residual-in_err-lower_statement-in-For-2.ensures.1 in
-    let d = condition_of c.in-For.condition in
     let first = statement_of c.deref-in-For.result.now in
-    let last = statement_of c.deref-in-For-2.result.now in
+    let d = statement_of c.deref-in-For-2.result.now in
+    let last = statement_of c.deref-in-For-3.result.now in
+    let body = statement_of c.deref-in-For-4.result.now in
+    let is : statement_of c.loop-rest.rest.now ≡ Statement.For first d last body =
+    ap statement_of c.in-For.is
+    ∙ ap (λ z. Statement.For (statement_of z) (statement_of c.in-For.condition.value) (statement_of c.in-For.last.value) (statement_of c.in-For.body.value)) (sym c.deref-in-For.ensures)
+    ∙ ap (λ z. Statement.For (statement_of c.deref-in-For.result.now) (statement_of z) (statement_of c.in-For.last.value) (statement_of c.in-For.body.value)) (sym c.deref-in-For-2.ensures)
+    ∙ ap (λ z. Statement.For (statement_of c.deref-in-For.result.now) (statement_of c.deref-in-For-2.result.now) (statement_of z) (statement_of c.in-For.body.value)) (sym c.deref-in-For-3.ensures)
+    ∙ ap (λ z. Statement.For (statement_of c.deref-in-For.result.now) (statement_of c.deref-in-For-2.result.now) (statement_of c.deref-in-For-3.result.now) (statement_of z)) (sym c.deref-in-For-4.ensures) in
     rw (p.1, p.2) (c.loop-rest.invariant.behind.full _
-    (for_body (program_of c.args.program.now) c.args.depth (statement_of c.loop-rest.rest.now) first d last
-    (statement_of c.deref-in-For-3.result.now) c.in_ok-labels-in-For.labels c.loop-rest.code c.lower_statement-in-For.new.code
-    c.open_for.new.code _
-    (ap statement_of c.in-For.is ∙ ap (λ z. Statement.For (statement_of z) d (statement_of c.in-For.last.value) (statement_of c.in-For.body.value)) (sym c.deref-in-For.ensures)
-    ∙ ap (λ z. Statement.For first d (statement_of z) (statement_of c.in-For.body.value)) (sym c.deref-in-For-2.ensures)
-    ∙ ap (λ z. Statement.For first d last (statement_of z)) (sym c.deref-in-For-3.ensures))
-    c.in_ok-lower_statement-in-For.ensures.lowers c.in_ok-labels-in-For.ensures c.in_err-lower_statement-in-For-2.ensures.full))
+    (for_body (program_of c.args.program.now) c.args.depth (statement_of c.loop-rest.rest.now) first d last body c.in_ok-labels-in-For.labels c.loop-rest.code c.lower_statement-in-For.new.code
+    c.open_for.new.code _ is c.in_ok-lower_statement-in-For.ensures.lowers c.in_ok-labels-in-For.ensures c.in_err-lower_statement-in-For-2.ensures.full))
 
 pub lower_statement-returns-in_err-lower_statement-in-For-3-clause-full : goal.lower_statement-returns-in_err-lower_statement-in-For-3-clause-full
 lower_statement-returns-in_err-lower_statement-in-For-3-clause-full t c =
     let p = err_from_is_err_and c.from_residual-in_err-lower_statement-in-For-3.result c.from_residual-in_err-lower_statement-in-For-3.ensures.1 in
-    let d = condition_of c.in-For.condition in
     let first = statement_of c.deref-in-For.result.now in
-    let last = statement_of c.deref-in-For-4.result.now in
-    let l = c.in_ok-labels-in-For.labels in
-    let a0 = c.lower_statement-in-For.new.code in
+    let d = statement_of c.deref-in-For-2.result.now in
+    let last = statement_of c.deref-in-For-5.result.now in
+    let body = statement_of c.deref-in-For-4.result.now in
+    let is : statement_of c.loop-rest.rest.now ≡ Statement.For first d last body =
+    ap statement_of c.in-For.is
+    ∙ ap (λ z. Statement.For (statement_of z) (statement_of c.in-For.condition.value) (statement_of c.in-For.last.value) (statement_of c.in-For.body.value)) (sym c.deref-in-For.ensures)
+    ∙ ap (λ z. Statement.For (statement_of c.deref-in-For.result.now) (statement_of z) (statement_of c.in-For.last.value) (statement_of c.in-For.body.value)) (sym c.deref-in-For-2.ensures)
+    ∙ ap (λ z. Statement.For (statement_of c.deref-in-For.result.now) (statement_of c.deref-in-For-2.result.now) (statement_of z) (statement_of c.in-For.body.value)) (sym c.deref-in-For-5.ensures)
+    ∙ ap (λ z. Statement.For (statement_of c.deref-in-For.result.now) (statement_of c.deref-in-For-2.result.now) (statement_of c.deref-in-For-5.result.now) (statement_of z)) (sym c.deref-in-For-4.ensures) in
     rw (p.1, p.2) (c.loop-rest.invariant.behind.full _
-    (for_last (program_of c.args.program.now) c.args.depth (statement_of c.loop-rest.rest.now) first d last (statement_of c.deref-in-For-3.result.now) l c.loop-rest.code a0 c.open_for.new.code
-    c.lower_statement-in-For-2.new.code c.turn_for.new.code c.site-last_site.result _
-    (ap statement_of c.in-For.is ∙ ap (λ z. Statement.For (statement_of z) d (statement_of c.in-For.last.value) (statement_of c.in-For.body.value)) (sym c.deref-in-For.ensures)
-    ∙ ap (λ z. Statement.For first d (statement_of z) (statement_of c.in-For.body.value)) (sym c.deref-in-For-4.ensures)
-    ∙ ap (λ z. Statement.For first d last (statement_of z)) (sym c.deref-in-For-3.ensures))
+    (let l = c.in_ok-labels-in-For.labels in
+    let a0 = c.lower_statement-in-For.new.code in
+    for_last (program_of c.args.program.now) c.args.depth (statement_of c.loop-rest.rest.now) first d last body l c.loop-rest.code a0 c.open_for.new.code
+    c.lower_statement-in-For-2.new.code c.turn_for.new.code c.site-last_site.result _ is
     c.in_ok-lower_statement-in-For.ensures.lowers
-    (subst (λ z. OpensTurn d l (at_site (a0.site + print_count (statement_of z)) a0) c.open_for.new.code) (c.deref-in-For-2.ensures ∙ sym c.deref-in-For-4.ensures) c.in_ok-labels-in-For.ensures)
+    (subst (λ z. OpensTurn d l (at_site (a0.site + print_count (statement_of z)) a0) c.open_for.new.code) (c.deref-in-For-3.ensures ∙ sym c.deref-in-For-5.ensures) c.in_ok-labels-in-For.ensures)
     c.in_ok-lower_statement-in-For-2.ensures.lowers c.site-last_site.ensures c.in_ok-turn_for-in-For.ensures c.in_err-lower_statement-in-For-3.ensures.full))
 
 pub lower_statement-returns-then-not-is_reached-clause-lowers : goal.lower_statement-returns-then-not-is_reached-clause-lowers
@@ -431,60 +512,67 @@ lower_statement-returns-then-not-is_reached-clause-lowers t c =
 
 pub lower_statement-returns-in_ok-bind-in-If-clause-lowers : goal.lower_statement-returns-in_ok-bind-in-If-clause-lowers
 lower_statement-returns-in_ok-bind-in-If-clause-lowers t c =
-    let s = statement_of c.loop-rest.rest.now in
-    let d = condition_of c.in-If.condition in
-    let one = statement_of c.deref-in-If.result.now in
-    let other = statement_of c.deref-in-If-2.result.now in
-    via_last (program_of c.args.program.now) c.args.around (statement_of c.args.statement.now) s c.args.code.now c.loop-rest.code c.bind.new.self c.loop-rest.invariant.via
-    (choice_lowers (program_of c.args.program.now) c.args.around s d one other c.in_ok-labels-in-If.labels c.loop-rest.code c.open_choice.new.code c.lower_statement-in-If.new.code
-    c.turn_choice.new.code
-    c.lower_statement-in-If-2.new.code c.bind.new.self
-    (ap statement_of c.in-If.is ∙ ap (λ z. Statement.If d (statement_of z) (statement_of c.in-If.alternative.value)) (sym c.deref-in-If.ensures)
-    ∙ ap (λ z. Statement.If d one (statement_of z)) (sym c.deref-in-If-2.ensures))
+    let d = statement_of c.deref-in-If.result.now in
+    let one = statement_of c.deref-in-If-2.result.now in
+    let other = statement_of c.deref-in-If-3.result.now in
+    let is : statement_of c.loop-rest.rest.now ≡ Statement.If d one other =
+    ap statement_of c.in-If.is
+    ∙ ap (λ z. Statement.If (statement_of z) (statement_of c.in-If.consequent.value) (statement_of c.in-If.alternative.value)) (sym c.deref-in-If.ensures)
+    ∙ ap (λ z. Statement.If (statement_of c.deref-in-If.result.now) (statement_of z) (statement_of c.in-If.alternative.value)) (sym c.deref-in-If-2.ensures)
+    ∙ ap (λ z. Statement.If (statement_of c.deref-in-If.result.now) (statement_of c.deref-in-If-2.result.now) (statement_of z)) (sym c.deref-in-If-3.ensures) in
+    via_last (program_of c.args.program.now) c.args.around (statement_of c.args.statement.now) (statement_of c.loop-rest.rest.now) c.args.code.now c.loop-rest.code c.bind.new.self c.loop-rest.invariant.via
+    (choice_lowers (program_of c.args.program.now) c.args.around (statement_of c.loop-rest.rest.now) d one other c.in_ok-labels-in-If.labels c.loop-rest.code c.open_choice.new.code c.lower_statement-in-If.new.code
+    c.turn_choice.new.code c.lower_statement-in-If-2.new.code c.bind.new.self is
     c.in_ok-labels-in-If.ensures c.in_ok-lower_statement-in-If.ensures.lowers c.in_ok-turn_choice-in-If.ensures c.in_ok-lower_statement-in-If-2.ensures.lowers c.in_ok-bind-in-If.ensures)
 
 pub lower_statement-returns-in_ok-close_turn-in-While-clause-lowers : goal.lower_statement-returns-in_ok-close_turn-in-While-clause-lowers
 lower_statement-returns-in_ok-close_turn-in-While-clause-lowers t c =
-    let s = statement_of c.loop-rest.rest.now in
-    let d = condition_of c.in-While.condition in
-    via_last (program_of c.args.program.now) c.args.around (statement_of c.args.statement.now) s c.args.code.now c.loop-rest.code c.close_turn.new.code c.loop-rest.invariant.via
-    (while_lowers (program_of c.args.program.now) c.args.around s d (statement_of c.deref-in-While.result.now) c.in_ok-labels-in-While.labels c.loop-rest.code c.open_turn.new.code
-    c.lower_statement-in-While.new.code
-    c.close_turn.new.code (ap statement_of c.in-While.is ∙ ap (λ z. Statement.While d (statement_of z)) (sym c.deref-in-While.ensures))
+    let d = statement_of c.deref-in-While.result.now in
+    let body = statement_of c.deref-in-While-2.result.now in
+    let is : statement_of c.loop-rest.rest.now ≡ Statement.While d body =
+    ap statement_of c.in-While.is
+    ∙ ap (λ z. Statement.While (statement_of z) (statement_of c.in-While.body.value)) (sym c.deref-in-While.ensures)
+    ∙ ap (λ z. Statement.While (statement_of c.deref-in-While.result.now) (statement_of z)) (sym c.deref-in-While-2.ensures) in
+    via_last (program_of c.args.program.now) c.args.around (statement_of c.args.statement.now) (statement_of c.loop-rest.rest.now) c.args.code.now c.loop-rest.code c.close_turn.new.code c.loop-rest.invariant.via
+    (while_lowers (program_of c.args.program.now) c.args.around (statement_of c.loop-rest.rest.now) d body c.in_ok-labels-in-While.labels c.loop-rest.code c.open_turn.new.code
+    c.lower_statement-in-While.new.code c.close_turn.new.code is
     c.in_ok-labels-in-While.ensures c.in_ok-lower_statement-in-While.ensures.lowers c.in_ok-close_turn-in-While.ensures)
 
 pub lower_statement-returns-in_ok-close_for-in-For-clause-lowers : goal.lower_statement-returns-in_ok-close_for-in-For-clause-lowers
 lower_statement-returns-in_ok-close_for-in-For-clause-lowers t c =
-    let s = statement_of c.loop-rest.rest.now in
-    let d = condition_of c.in-For.condition in
     let first = statement_of c.deref-in-For.result.now in
-    let last = statement_of c.deref-in-For-4.result.now in
-    let body = statement_of c.deref-in-For-3.result.now in
-    let l = c.in_ok-labels-in-For.labels in
+    let d = statement_of c.deref-in-For-2.result.now in
+    let last = statement_of c.deref-in-For-5.result.now in
+    let body = statement_of c.deref-in-For-4.result.now in
+    let is : statement_of c.loop-rest.rest.now ≡ Statement.For first d last body =
+    ap statement_of c.in-For.is
+    ∙ ap (λ z. Statement.For (statement_of z) (statement_of c.in-For.condition.value) (statement_of c.in-For.last.value) (statement_of c.in-For.body.value)) (sym c.deref-in-For.ensures)
+    ∙ ap (λ z. Statement.For (statement_of c.deref-in-For.result.now) (statement_of z) (statement_of c.in-For.last.value) (statement_of c.in-For.body.value)) (sym c.deref-in-For-2.ensures)
+    ∙ ap (λ z. Statement.For (statement_of c.deref-in-For.result.now) (statement_of c.deref-in-For-2.result.now) (statement_of z) (statement_of c.in-For.body.value)) (sym c.deref-in-For-5.ensures)
+    ∙ ap (λ z. Statement.For (statement_of c.deref-in-For.result.now) (statement_of c.deref-in-For-2.result.now) (statement_of c.deref-in-For-5.result.now) (statement_of z)) (sym c.deref-in-For-4.ensures) in
+    via_last (program_of c.args.program.now) c.args.around (statement_of c.args.statement.now) (statement_of c.loop-rest.rest.now) c.args.code.now c.loop-rest.code c.close_for.new.code c.loop-rest.invariant.via
+    (let l = c.in_ok-labels-in-For.labels in
     let a0 = c.lower_statement-in-For.new.code in
-    via_last (program_of c.args.program.now) c.args.around (statement_of c.args.statement.now) s c.args.code.now c.loop-rest.code c.close_for.new.code c.loop-rest.invariant.via
-    (for_lowers (program_of c.args.program.now) c.args.around s first d last body l c.loop-rest.code a0 c.open_for.new.code c.lower_statement-in-For-2.new.code c.turn_for.new.code
-    c.lower_statement-in-For-3.new.code
-    c.close_for.new.code c.site-last_site.result c.site-after.result
-    (ap statement_of c.in-For.is ∙ ap (λ z. Statement.For (statement_of z) d (statement_of c.in-For.last.value) (statement_of c.in-For.body.value)) (sym c.deref-in-For.ensures)
-    ∙ ap (λ z. Statement.For first d (statement_of z) (statement_of c.in-For.body.value)) (sym c.deref-in-For-4.ensures)
-    ∙ ap (λ z. Statement.For first d last (statement_of z)) (sym c.deref-in-For-3.ensures))
+    for_lowers (program_of c.args.program.now) c.args.around (statement_of c.loop-rest.rest.now) first d last body l c.loop-rest.code a0 c.open_for.new.code c.lower_statement-in-For-2.new.code c.turn_for.new.code
+    c.lower_statement-in-For-3.new.code c.close_for.new.code c.site-last_site.result c.site-after.result is
     c.in_ok-lower_statement-in-For.ensures.lowers c.site-last_site.ensures
-    (subst (λ z. OpensTurn d l (at_site (a0.site + print_count (statement_of z)) a0) c.open_for.new.code) (c.deref-in-For-2.ensures ∙ sym c.deref-in-For-4.ensures) c.in_ok-labels-in-For.ensures)
+    (subst (λ z. OpensTurn d l (at_site (a0.site + print_count (statement_of z)) a0) c.open_for.new.code) (c.deref-in-For-3.ensures ∙ sym c.deref-in-For-5.ensures) c.in_ok-labels-in-For.ensures)
     c.in_ok-lower_statement-in-For-2.ensures.lowers c.site-after.ensures c.in_ok-turn_for-in-For.ensures c.in_ok-lower_statement-in-For-3.ensures.lowers c.in_ok-close_for-in-For.ensures)
 
 pub lower_statement-lower_statement-requires-in-For : goal.lower_statement-lower_statement-requires-in-For
 lower_statement-lower_statement-requires-in-For t c =
-    let is : statement_of c.loop-rest.rest.now ≡ Statement.For (statement_of c.deref-in-For.result.now) (condition_of c.in-For.condition) (statement_of c.in-For.last.value)
-    (statement_of c.in-For.body.value) =
-    ap statement_of c.in-For.is ∙ ap (λ z. Statement.For (statement_of z) (condition_of c.in-For.condition) (statement_of c.in-For.last.value) (statement_of c.in-For.body.value))
-    (sym c.deref-in-For.ensures) in (
+    let first = statement_of c.deref-in-For.result.now in
+    let d = statement_of c.in-For.condition.value in
+    let last = statement_of c.in-For.last.value in
+    let body = statement_of c.in-For.body.value in
+    let is : statement_of c.loop-rest.rest.now ≡ Statement.For first d last body =
+    ap statement_of c.in-For.is
+    ∙ ap (λ z. Statement.For (statement_of z) (statement_of c.in-For.condition.value) (statement_of c.in-For.last.value) (statement_of c.in-For.body.value)) (sym c.deref-in-For.ensures) in (
       (let size = ap nested_size is in let before = c.loop-rest.invariant.less in omega (arith, size, before)),
       (
         c.requires.functions,
         (
-          (and_parts (is_taken false (statement_of c.deref-in-For.result.now)) (is_taken false (statement_of c.in-For.last.value) && is_taken true (statement_of c.in-For.body.value))
-              (sym (ap (is_taken (is_some c.args.around)) is) ∙ c.loop-rest.invariant.taken)).0,
+          (for_taken (is_some c.args.around) (statement_of c.loop-rest.rest.now) first d last body is c.loop-rest.invariant.taken).0,
           (
             tt,
             back_after c.args.code.now c.loop-rest.code c.loop-rest.invariant.proceeds.advances c.loop-rest.invariant.proceeds.back c.requires.back,
@@ -493,22 +581,39 @@ lower_statement-lower_statement-requires-in-For t c =
       ),
     )
 
+pub lower_statement-open_for-requires : goal.lower_statement-open_for-requires
+lower_statement-open_for-requires t c =
+    let first = statement_of c.deref-in-For.result.now in
+    let d = statement_of c.deref-in-For-2.result.now in
+    let last = statement_of c.deref-in-For-3.result.now in
+    let body = statement_of c.in-For.body.value in
+    let is : statement_of c.loop-rest.rest.now ≡ Statement.For first d last body =
+    ap statement_of c.in-For.is
+    ∙ ap (λ z. Statement.For (statement_of z) (statement_of c.in-For.condition.value) (statement_of c.in-For.last.value) (statement_of c.in-For.body.value)) (sym c.deref-in-For.ensures)
+    ∙ ap (λ z. Statement.For (statement_of c.deref-in-For.result.now) (statement_of z) (statement_of c.in-For.last.value) (statement_of c.in-For.body.value)) (sym c.deref-in-For-2.ensures)
+    ∙ ap (λ z. Statement.For (statement_of c.deref-in-For.result.now) (statement_of c.deref-in-For-2.result.now) (statement_of z) (statement_of c.in-For.body.value)) (sym c.deref-in-For-3.ensures) in
+    record { asked = (for_taken (is_some c.args.around) (statement_of c.loop-rest.rest.now) first d last body is c.loop-rest.invariant.taken).1 }
+
 pub lower_statement-lower_statement-requires-in-For-3 : goal.lower_statement-lower_statement-requires-in-For-3
 lower_statement-lower_statement-requires-in-For-3 t c =
-    let is : statement_of c.loop-rest.rest.now ≡ Statement.For (statement_of c.in-For.first.value) (condition_of c.in-For.condition) (statement_of c.deref-in-For-4.result.now)
-    (statement_of c.in-For.body.value) =
-    ap statement_of c.in-For.is ∙ ap (λ z. Statement.For (statement_of c.in-For.first.value) (condition_of c.in-For.condition) (statement_of z) (statement_of c.in-For.body.value))
-    (sym c.deref-in-For-4.ensures) in (
+    let first = statement_of c.deref-in-For.result.now in
+    let d = statement_of c.deref-in-For-2.result.now in
+    let last = statement_of c.deref-in-For-5.result.now in
+    let body = statement_of c.deref-in-For-4.result.now in
+    let is : statement_of c.loop-rest.rest.now ≡ Statement.For first d last body =
+    ap statement_of c.in-For.is
+    ∙ ap (λ z. Statement.For (statement_of z) (statement_of c.in-For.condition.value) (statement_of c.in-For.last.value) (statement_of c.in-For.body.value)) (sym c.deref-in-For.ensures)
+    ∙ ap (λ z. Statement.For (statement_of c.deref-in-For.result.now) (statement_of z) (statement_of c.in-For.last.value) (statement_of c.in-For.body.value)) (sym c.deref-in-For-2.ensures)
+    ∙ ap (λ z. Statement.For (statement_of c.deref-in-For.result.now) (statement_of c.deref-in-For-2.result.now) (statement_of z) (statement_of c.in-For.body.value)) (sym c.deref-in-For-5.ensures)
+    ∙ ap (λ z. Statement.For (statement_of c.deref-in-For.result.now) (statement_of c.deref-in-For-2.result.now) (statement_of c.deref-in-For-5.result.now) (statement_of z)) (sym c.deref-in-For-4.ensures) in (
       (let size = ap nested_size is in let before = c.loop-rest.invariant.less in omega (arith, size, before)),
       (
         c.requires.functions,
         (
-          (and_parts (is_taken false (statement_of c.deref-in-For-4.result.now)) (is_taken true (statement_of c.in-For.body.value))
-              (and_parts (is_taken false (statement_of c.in-For.first.value)) (is_taken false (statement_of c.deref-in-For-4.result.now) && is_taken true (statement_of c.in-For.body.value))
-              (sym (ap (is_taken (is_some c.args.around)) is) ∙ c.loop-rest.invariant.taken)).1).0,
+          (for_taken (is_some c.args.around) (statement_of c.loop-rest.rest.now) first d last body is c.loop-rest.invariant.taken).2,
           (
             tt,
-            for_back_target (condition_of c.in-For.condition) c.in_ok-labels-in-For.labels _ _ c.open_for.new.code c.lower_statement-in-For-2.new.code c.turn_for.new.code
+            for_back_target d c.in_ok-labels-in-For.labels _ _ c.open_for.new.code c.lower_statement-in-For-2.new.code c.turn_for.new.code
                 c.site-last_site.result c.in_ok-labels-in-For.ensures
                 c.in_ok-lower_statement-in-For-2.ensures.labels c.in_ok-turn_for-in-For.ensures
                 (back_after c.loop-rest.code c.lower_statement-in-For.new.code c.in_ok-lower_statement-in-For.ensures.labels.advances c.in_ok-lower_statement-in-For.ensures.labels.back
@@ -522,65 +627,12 @@ pub lower_statement-lower_simple-requires-clause-back : goal.lower_statement-low
 lower_statement-lower_simple-requires-clause-back t c =
     back_after c.args.code.now c.loop-rest.code c.loop-rest.invariant.proceeds.advances c.loop-rest.invariant.proceeds.back c.requires.back
 
-pub lower_statement-lower_simple-requires-in-None-clause-back : goal.lower_statement-lower_simple-requires-in-None-clause-back
-lower_statement-lower_simple-requires-in-None-clause-back t c =
-    back_after c.args.code.now c.loop-rest.code c.loop-rest.invariant.proceeds.advances c.loop-rest.invariant.proceeds.back c.requires.back
-
-pub lower_statement-lower_simple-requires-in-None-clause-targets : goal.lower_statement-lower_simple-requires-in-None-clause-targets
-lower_statement-lower_simple-requires-in-None-clause-targets t c =
-    targets_after c.args.around c.args.code.now.stages c.loop-rest.code.stages c.loop-rest.invariant.proceeds.advances c.requires.targets
-
-pub lower_statement-lower_simple-requires-in-Value-value-clause-back : goal.lower_statement-lower_simple-requires-in-Value-value-clause-back
-lower_statement-lower_simple-requires-in-Value-value-clause-back t c =
-    back_after c.args.code.now c.loop-rest.code c.loop-rest.invariant.proceeds.advances c.loop-rest.invariant.proceeds.back c.requires.back
-
-pub lower_statement-lower_simple-requires-in-Value-value-clause-targets : goal.lower_statement-lower_simple-requires-in-Value-value-clause-targets
-lower_statement-lower_simple-requires-in-Value-value-clause-targets t c =
-    targets_after c.args.around c.args.code.now.stages c.loop-rest.code.stages c.loop-rest.invariant.proceeds.advances c.requires.targets
-
-pub lower_statement-lower_simple-requires-in_default-rest-clause-back : goal.lower_statement-lower_simple-requires-in_default-rest-clause-back
-lower_statement-lower_simple-requires-in_default-rest-clause-back t c =
-    back_after c.args.code.now c.loop-rest.code c.loop-rest.invariant.proceeds.advances c.loop-rest.invariant.proceeds.back c.requires.back
-
-pub lower_statement-lower_simple-requires-in_default-rest-clause-targets : goal.lower_statement-lower_simple-requires-in_default-rest-clause-targets
-lower_statement-lower_simple-requires-in_default-rest-clause-targets t c =
-    targets_after c.args.around c.args.code.now.stages c.loop-rest.code.stages c.loop-rest.invariant.proceeds.advances c.requires.targets
-
-pub lower_statement-returns-in_err-lower_call-in-Call-right-clause-full : goal.lower_statement-returns-in_err-lower_call-in-Call-right-clause-full
-lower_statement-returns-in_err-lower_call-in-Call-right-clause-full t c =
-    let p = err_from_is_err_and c.from_residual-in_err-lower_call-in-Call-right.result c.from_residual-in_err-lower_call-in-Call-right.ensures.1 in
-    rw (p.1, p.2) (c.loop-rest.invariant.behind.full _
-    (assigned_for (program_of c.args.program.now) c.args.depth (statement_of c.loop-rest.rest.now) c.in-Assign.field-0 (place_of c.in-Assign.place.value) c.in-Call-right.function
-    (expressions_of c.deref-in-Call-right.result.now) c.loop-rest.code _
-    (ap statement_of c.in-Assign.is ∙ ap (λ z. Statement.Assign c.in-Assign.field-0 (place_of c.in-Assign.place.value) (right_side_of z)) c.in-Call-right.is
-    ∙ ap (λ a. Statement.Assign c.in-Assign.field-0 (place_of c.in-Assign.place.value) (RightSide.Call c.in-Call-right.function (expressions_of a)))
-    (sym c.deref-in-Call-right.ensures.value)) c.in_err-lower_call-in-Call-right.ensures.full))
-
-pub lower_statement-returns-in_err-lower_call-in-Call-value-clause-full : goal.lower_statement-returns-in_err-lower_call-in-Call-value-clause-full
-lower_statement-returns-in_err-lower_call-in-Call-value-clause-full t c =
-    let p = err_from_is_err_and c.from_residual-in_err-lower_call-in-Call-value.result c.from_residual-in_err-lower_call-in-Call-value.ensures.1 in
-    rw (p.1, p.2) (c.loop-rest.invariant.behind.full _
-    (returned_for (program_of c.args.program.now) c.args.depth (statement_of c.loop-rest.rest.now) c.in-Return.field-0 c.in-Call-value.function
-    (expressions_of c.deref-in-Call-value.result.now) c.loop-rest.code _
-    (ap statement_of c.in-Return.is ∙ ap (λ z. Statement.Return c.in-Return.field-0 (returned_of z)) c.in-Some.is ∙ ap
-    (λ z. Statement.Return c.in-Return.field-0 (Some (right_side_of z))) c.in-Call-value.is
-    ∙ ap (λ a. Statement.Return c.in-Return.field-0 (Some (RightSide.Call c.in-Call-value.function (expressions_of a)))) (sym c.deref-in-Call-value.ensures.value))
-    c.in_err-lower_call-in-Call-value.ensures.full))
-
-pub lower_statement-lower_handing-requires : goal.lower_statement-lower_handing-requires
-lower_statement-lower_handing-requires t c =
-    let labels = c.in_ok-lower_call-in-Call-value.ensures.labels c.args.around in
-    record {
-      back = back_after c.loop-rest.code c.lower_call-in-Call-value.new.code labels.advances labels.back
-          (back_after c.args.code.now c.loop-rest.code c.loop-rest.invariant.proceeds.advances c.loop-rest.invariant.proceeds.back c.requires.back);
-    }
-
 pub lower_call-returns-then-depth-eq0-clause-full : goal.lower_call-returns-then-depth-eq0-clause-full
-lower_call-returns-then-depth-eq0-clause-full t c = call_too_deep (program_of c.args.program.now) c.args.depth c.args.number (expressions_of c.args.arguments.now) c.args.code.now _ c.if-depth-eq0.true
+lower_call-returns-then-depth-eq0-clause-full t c = call_too_deep (program_of c.args.program.now) c.args.depth c.args.into c.args.number (expressions_of c.args.arguments.now) c.args.code.now _ c.if-depth-eq0.true
 
 pub lower_call-returns-in_default-clause-full : goal.lower_call-returns-in_default-clause-full
 lower_call-returns-in_default-clause-full t c =
-    call_unknown (program_of c.args.program.now) c.args.depth c.args.number (expressions_of c.args.arguments.now) c.args.code.now _
+    call_unknown (program_of c.args.program.now) c.args.depth c.args.into c.args.number (expressions_of c.args.arguments.now) c.args.code.now _
     (get_none function_of c.args.program.now.functions.items c.args.number (ap (λ l. slice_get l c.args.number) (sym c.deref.ensures.value) ∙ sym c.in_default.ensures))
 
 pub lower_call-lower_statement-requires : goal.lower_call-lower_statement-requires
@@ -597,7 +649,7 @@ lower_call-lower_statement-requires t c = (
       taken_body c.args.program.now c.args.number c.in-Some.function.now (ap (λ l. slice_get l c.args.number) (sym c.deref.ensures.value) ∙ sym c.in-Some.ensures) c.requires.functions,
       (
         tt,
-        call_back_target c.args.number (function_of c.in-Some.function.now) (expressions_of c.args.arguments.now) c.in_ok-caller.caller c.args.code.now c.open_call.new.code
+        call_back_target c.args.into c.args.number (function_of c.in-Some.function.now) (expressions_of c.args.arguments.now) c.in_ok-caller.caller c.args.code.now c.open_call.new.code
             c.in_ok-caller.ensures.opens c.in_ok-caller.ensures.open_,
       ),
     ),
@@ -606,13 +658,13 @@ lower_call-lower_statement-requires t c = (
 
 pub lower_call-close_call-requires-clause-open_ : goal.lower_call-close_call-requires-clause-open_
 lower_call-close_call-requires-clause-open_ t c =
-    done_open c.args.number (function_of c.in-Some.function.now) (expressions_of c.args.arguments.now) c.in_ok-caller.caller c.args.code.now c.open_call.new.code
+    done_open c.args.into c.args.number (function_of c.in-Some.function.now) (expressions_of c.args.arguments.now) c.in_ok-caller.caller c.args.code.now c.open_call.new.code
     c.in_ok-caller.ensures.opens c.in_ok-caller.ensures.open_ c.lower_statement.new.code
     c.in_ok-lower_statement.ensures.labels
 
 pub lower_call-close_call-requires-clause-back : goal.lower_call-close_call-requires-clause-back
 lower_call-close_call-requires-clause-back t c =
-    done_back c.args.number (function_of c.in-Some.function.now) (expressions_of c.args.arguments.now) c.in_ok-caller.caller c.args.code.now c.open_call.new.code
+    done_back c.args.into c.args.number (function_of c.in-Some.function.now) (expressions_of c.args.arguments.now) c.in_ok-caller.caller c.args.code.now c.open_call.new.code
     c.in_ok-caller.ensures.opens c.in_ok-caller.ensures.open_ c.lower_statement.new.code
     c.in_ok-lower_statement.ensures.labels
 
@@ -620,7 +672,7 @@ pub lower_call-returns-in_err-lower_statement-clause-full : goal.lower_call-retu
 lower_call-returns-in_err-lower_statement-clause-full t c =
     let p = err_from_is_err_and c.from_residual-in_err-lower_statement.result c.from_residual-in_err-lower_statement.ensures.1 in
     rw (p.1, p.2)
-    (call_body (program_of c.args.program.now) c.args.depth c.args.number (expressions_of c.args.arguments.now) c.args.code.now _ (function_of c.in-Some.function.now)
+    (call_body (program_of c.args.program.now) c.args.depth c.args.into c.args.number (expressions_of c.args.arguments.now) c.args.code.now _ (function_of c.in-Some.function.now)
     (get_mapped function_of c.args.program.now.functions.items c.args.number c.in-Some.function.now (ap (λ l. slice_get l c.args.number) (sym c.deref.ensures.value) ∙ sym c.in-Some.ensures))
     c.in_ok-caller.caller c.open_call.new.code c.in_ok-caller.ensures.opens c.requires.reached (c.args.depth - 1)
     (let some = c.if-depth-eq0.false in omega (arith, some)) c.in_err-lower_statement.ensures.full)
@@ -651,37 +703,38 @@ lower_statement-returns-in-Block t c = record {
 }
 
 pub lower_statement-returns-in_ok-lower_statement-in-DoWhile : goal.lower_statement-returns-in_ok-lower_statement-in-DoWhile
-lower_statement-returns-in_ok-lower_statement-in-DoWhile t c = record {
-  labels =
-      on_ok_weaker c.close_do.result
-      (λ lowered.
-      proceeds_both c.args.around c.args.code.now c.loop-rest.code c.close_do.new.code c.loop-rest.invariant.proceeds
-      (do_proceeds (condition_of c.in-DoWhile.condition) c.in_ok-labels-in-DoWhile.labels c.loop-rest.code c.open_loop.new.code c.lower_statement-in-DoWhile.new.code c.close_do.new.code
-      c.in_ok-labels-in-DoWhile.ensures c.in_ok-lower_statement-in-DoWhile.ensures.labels lowered c.args.around (sym c.is_reached.ensures ∙ c.if-not-is_reached.false)))
-      (match_ok _ _ c.close_do.result c.close_do.ensures);
-  lowers =
-      on_ok_weaker c.close_do.result
-      (λ lowered.
-      let s = statement_of c.loop-rest.rest.now in
-      let d = condition_of c.in-DoWhile.condition in
-      via_last (program_of c.args.program.now) c.args.around (statement_of c.args.statement.now) s c.args.code.now c.loop-rest.code c.close_do.new.code c.loop-rest.invariant.via
-      (do_lowers (program_of c.args.program.now) c.args.around s d (statement_of c.deref-in-DoWhile.result.now) c.in_ok-labels-in-DoWhile.labels c.loop-rest.code c.open_loop.new.code
-      c.lower_statement-in-DoWhile.new.code
-      c.close_do.new.code (ap statement_of c.in-DoWhile.is ∙ ap (λ z. Statement.DoWhile (statement_of z) d) (sym c.deref-in-DoWhile.ensures))
-      c.in_ok-labels-in-DoWhile.ensures c.in_ok-lower_statement-in-DoWhile.ensures.lowers lowered))
-      (match_ok _ _ c.close_do.result c.close_do.ensures);
-  full =
-      IfErr-weaker c.close_do.result _ _
-      (λ fault full.
-      let d = condition_of c.in-DoWhile.condition in
-      c.loop-rest.invariant.behind.full _
-      (do_condition (program_of c.args.program.now) c.args.depth (statement_of c.loop-rest.rest.now) d
-      (statement_of c.deref-in-DoWhile.result.now) c.in_ok-labels-in-DoWhile.labels c.loop-rest.code c.open_loop.new.code
-      c.lower_statement-in-DoWhile.new.code _
-      (ap statement_of c.in-DoWhile.is ∙ ap (λ z. Statement.DoWhile (statement_of z) d) (sym c.deref-in-DoWhile.ensures))
-      c.in_ok-labels-in-DoWhile.ensures c.in_ok-lower_statement-in-DoWhile.ensures.lowers full))
-      (match_err _ _ c.close_do.result c.close_do.ensures);
-}
+lower_statement-returns-in_ok-lower_statement-in-DoWhile t c =
+    let body = statement_of c.deref-in-DoWhile.result.now in
+    let d = statement_of c.deref-in-DoWhile-2.result.now in
+    let is : statement_of c.loop-rest.rest.now ≡ Statement.DoWhile body d =
+    ap statement_of c.in-DoWhile.is
+    ∙ ap (λ z. Statement.DoWhile (statement_of z) (statement_of c.in-DoWhile.condition.value)) (sym c.deref-in-DoWhile.ensures)
+    ∙ ap (λ z. Statement.DoWhile (statement_of c.deref-in-DoWhile.result.now) (statement_of z)) (sym c.deref-in-DoWhile-2.ensures) in
+    record {
+      labels =
+          on_ok_weaker c.close_do.result
+          (λ lowered.
+          proceeds_both c.args.around c.args.code.now c.loop-rest.code c.close_do.new.code c.loop-rest.invariant.proceeds
+          (do_proceeds d c.in_ok-labels-in-DoWhile.labels c.loop-rest.code c.open_loop.new.code c.lower_statement-in-DoWhile.new.code c.close_do.new.code
+          c.in_ok-labels-in-DoWhile.ensures c.in_ok-lower_statement-in-DoWhile.ensures.labels lowered c.args.around (sym c.is_reached.ensures ∙ c.if-not-is_reached.false)))
+          (match_ok _ _ c.close_do.result c.close_do.ensures);
+      lowers =
+          on_ok_weaker c.close_do.result
+          (λ lowered.
+          via_last (program_of c.args.program.now) c.args.around (statement_of c.args.statement.now) (statement_of c.loop-rest.rest.now) c.args.code.now c.loop-rest.code c.close_do.new.code c.loop-rest.invariant.via
+          (do_lowers (program_of c.args.program.now) c.args.around (statement_of c.loop-rest.rest.now) d body c.in_ok-labels-in-DoWhile.labels c.loop-rest.code c.open_loop.new.code
+          c.lower_statement-in-DoWhile.new.code c.close_do.new.code is
+          c.in_ok-labels-in-DoWhile.ensures c.in_ok-lower_statement-in-DoWhile.ensures.lowers lowered))
+          (match_ok _ _ c.close_do.result c.close_do.ensures);
+      full =
+          IfErr-weaker c.close_do.result _ _
+          (λ fault full.
+          c.loop-rest.invariant.behind.full _
+          (do_condition (program_of c.args.program.now) c.args.depth (statement_of c.loop-rest.rest.now) d body c.in_ok-labels-in-DoWhile.labels c.loop-rest.code c.open_loop.new.code
+          c.lower_statement-in-DoWhile.new.code _ is
+          c.in_ok-labels-in-DoWhile.ensures c.in_ok-lower_statement-in-DoWhile.ensures.lowers full))
+          (match_err _ _ c.close_do.result c.close_do.ensures);
+    }
 
 pub lower_statement-returns-in-Call : goal.lower_statement-returns-in-Call
 lower_statement-returns-in-Call t c = record {
@@ -696,98 +749,21 @@ lower_statement-returns-in-Call t c = record {
       let s = statement_of c.loop-rest.rest.now in
       let es = expressions_of c.deref-in-Call.result.now in
       via_last (program_of c.args.program.now) c.args.around (statement_of c.args.statement.now) s c.args.code.now c.loop-rest.code c.lower_call.new.code c.loop-rest.invariant.via
-      (call_lowers (program_of c.args.program.now) c.args.around s c.in-Call.field-0 c.in-Call.function es c.loop-rest.code c.lower_call.new.code
+      (call_lowers (program_of c.args.program.now) c.args.around s c.in-Call.field-0 c.in-Call.into c.in-Call.function es c.loop-rest.code c.lower_call.new.code
       (sym c.is_reached.ensures ∙ c.if-not-is_reached.false)
-      (ap statement_of c.in-Call.is ∙ ap (λ a. Statement.Call c.in-Call.field-0 c.in-Call.function (expressions_of a)) (sym c.deref-in-Call.ensures.value)) lowered))
+      (ap statement_of c.in-Call.is ∙ ap (λ a. Statement.Call c.in-Call.field-0 c.in-Call.into c.in-Call.function (expressions_of a)) (sym c.deref-in-Call.ensures.value)) lowered))
       c.lower_call.ensures.calls;
   full =
       IfErr-weaker c.lower_call.result _ _
       (λ fault full.
       c.loop-rest.invariant.behind.full _
-      (call_for (program_of c.args.program.now) c.args.depth (statement_of c.loop-rest.rest.now) c.in-Call.field-0 c.in-Call.function (expressions_of c.deref-in-Call.result.now) c.loop-rest.code _
-      (ap statement_of c.in-Call.is ∙ ap (λ a. Statement.Call c.in-Call.field-0 c.in-Call.function (expressions_of a)) (sym c.deref-in-Call.ensures.value)) full))
+      (call_for (program_of c.args.program.now) c.args.depth (statement_of c.loop-rest.rest.now) c.in-Call.field-0 c.in-Call.into c.in-Call.function (expressions_of c.deref-in-Call.result.now) c.loop-rest.code _
+      (ap statement_of c.in-Call.is ∙ ap (λ a. Statement.Call c.in-Call.field-0 c.in-Call.into c.in-Call.function (expressions_of a)) (sym c.deref-in-Call.ensures.value)) full))
       c.lower_call.ensures.full;
 }
 
-pub lower_statement-returns-in_ok-lower_call-in-Call-right : goal.lower_statement-returns-in_ok-lower_call-in-Call-right
-lower_statement-returns-in_ok-lower_call-in-Call-right t c = record {
-  labels =
-      on_ok_weaker c.lower_delivery.result
-      (λ lowered.
-      proceeds_both c.args.around c.args.code.now c.loop-rest.code c.lower_delivery.new.code c.loop-rest.invariant.proceeds
-      (proceeds_both c.args.around c.loop-rest.code c.lower_call-in-Call-right.new.code c.lower_delivery.new.code (c.in_ok-lower_call-in-Call-right.ensures.labels c.args.around)
-      (delivers_proceed (place_of c.deref-in-Call-right-2.result.now) c.lower_call-in-Call-right.new.code c.lower_delivery.new.code lowered c.args.around)))
-      c.lower_delivery.ensures.delivers;
-  lowers =
-      on_ok_weaker c.lower_delivery.result
-      (λ lowered.
-      let x = c.in-Assign in
-      let y = c.in-Call-right in
-      let s = statement_of c.loop-rest.rest.now in
-      let es = expressions_of c.deref-in-Call-right.result.now in
-      via_last (program_of c.args.program.now) c.args.around (statement_of c.args.statement.now) s c.args.code.now c.loop-rest.code c.lower_delivery.new.code c.loop-rest.invariant.via
-      (call_assigned (program_of c.args.program.now) c.args.around s x.field-0 (place_of c.deref-in-Call-right-2.result.now) y.function es c.loop-rest.code
-      c.lower_call-in-Call-right.new.code c.lower_delivery.new.code
-      (sym c.is_reached.ensures ∙ c.if-not-is_reached.false)
-      (ap statement_of x.is ∙ ap (λ z. Statement.Assign x.field-0 (place_of x.place.value) (right_side_of z)) y.is
-      ∙ ap (λ a. Statement.Assign x.field-0 (place_of x.place.value) (RightSide.Call y.function (expressions_of a))) (sym c.deref-in-Call-right.ensures.value)
-      ∙ ap (λ z. Statement.Assign x.field-0 (place_of z) (RightSide.Call y.function es)) (sym c.deref-in-Call-right-2.ensures))
-      c.in_ok-lower_call-in-Call-right.ensures.calls lowered))
-      c.lower_delivery.ensures.delivers;
-  full =
-      IfErr-weaker c.lower_delivery.result _ _
-      (λ fault full.
-      c.loop-rest.invariant.behind.full _
-      (delivery_for (program_of c.args.program.now) c.args.depth (statement_of c.loop-rest.rest.now) c.in-Assign.field-0 (place_of c.deref-in-Call-right-2.result.now) c.in-Call-right.function
-      (expressions_of c.deref-in-Call-right.result.now) c.loop-rest.code c.lower_call-in-Call-right.new.code _ (sym c.is_reached.ensures ∙ c.if-not-is_reached.false)
-      (ap statement_of c.in-Assign.is ∙ ap (λ z. Statement.Assign c.in-Assign.field-0 (place_of c.in-Assign.place.value) (right_side_of z)) c.in-Call-right.is
-      ∙ ap (λ a. Statement.Assign c.in-Assign.field-0 (place_of c.in-Assign.place.value) (RightSide.Call c.in-Call-right.function (expressions_of a)))
-      (sym c.deref-in-Call-right.ensures.value)
-      ∙ ap (λ z. Statement.Assign c.in-Assign.field-0 (place_of z) (RightSide.Call c.in-Call-right.function (expressions_of c.deref-in-Call-right.result.now)))
-      (sym c.deref-in-Call-right-2.ensures)) c.in_ok-lower_call-in-Call-right.ensures.calls full))
-      c.lower_delivery.ensures.full;
-}
-
-pub lower_statement-returns-in_ok-lower_call-in-Call-value : goal.lower_statement-returns-in_ok-lower_call-in-Call-value
-lower_statement-returns-in_ok-lower_call-in-Call-value t c = record {
-  labels =
-      on_ok_weaker c.lower_handing.result
-      (λ lowered.
-      proceeds_both c.args.around c.args.code.now c.loop-rest.code c.lower_handing.new.code c.loop-rest.invariant.proceeds
-      (proceeds_both c.args.around c.loop-rest.code c.lower_call-in-Call-value.new.code c.lower_handing.new.code (c.in_ok-lower_call-in-Call-value.ensures.labels c.args.around)
-      (hands_proceed c.lower_call-in-Call-value.new.code c.lower_handing.new.code lowered
-      (closed_reached c.in_ok-lower_call-in-Call-value.ensures.calls.caller c.in_ok-lower_call-in-Call-value.ensures.calls.done c.lower_call-in-Call-value.new.code
-      c.in_ok-lower_call-in-Call-value.ensures.calls.closes) c.args.around)))
-      c.lower_handing.ensures.hands;
-  lowers =
-      on_ok_weaker c.lower_handing.result
-      (λ lowered.
-      let x = c.in-Return in
-      let y = c.in-Call-value in
-      let s = statement_of c.loop-rest.rest.now in
-      let es = expressions_of c.deref-in-Call-value.result.now in
-      via_last (program_of c.args.program.now) c.args.around (statement_of c.args.statement.now) s c.args.code.now c.loop-rest.code c.lower_handing.new.code c.loop-rest.invariant.via
-      (call_returned (program_of c.args.program.now) c.args.around s x.field-0 y.function es c.loop-rest.code c.lower_call-in-Call-value.new.code c.lower_handing.new.code
-      (sym c.is_reached.ensures ∙ c.if-not-is_reached.false)
-      (ap statement_of x.is ∙ ap (λ z. Statement.Return x.field-0 (returned_of z)) c.in-Some.is ∙ ap (λ z. Statement.Return x.field-0 (Some (right_side_of z))) y.is
-      ∙ ap (λ a. Statement.Return x.field-0 (Some (RightSide.Call y.function (expressions_of a)))) (sym c.deref-in-Call-value.ensures.value))
-      c.in_ok-lower_call-in-Call-value.ensures.calls lowered))
-      c.lower_handing.ensures.hands;
-  full =
-      IfErr-weaker c.lower_handing.result _ _
-      (λ fault full.
-      c.loop-rest.invariant.behind.full _
-      (handing_for (program_of c.args.program.now) c.args.depth (statement_of c.loop-rest.rest.now) c.in-Return.field-0 c.in-Call-value.function
-      (expressions_of c.deref-in-Call-value.result.now) c.loop-rest.code c.lower_call-in-Call-value.new.code _ (sym c.is_reached.ensures ∙ c.if-not-is_reached.false)
-      (ap statement_of c.in-Return.is ∙ ap (λ z. Statement.Return c.in-Return.field-0 (returned_of z)) c.in-Some.is ∙ ap
-      (λ z. Statement.Return c.in-Return.field-0 (Some (right_side_of z))) c.in-Call-value.is
-      ∙ ap (λ a. Statement.Return c.in-Return.field-0 (Some (RightSide.Call c.in-Call-value.function (expressions_of a)))) (sym c.deref-in-Call-value.ensures.value))
-      c.in_ok-lower_call-in-Call-value.ensures.calls full))
-      c.lower_handing.ensures.full;
-}
-
-pub lower_statement-returns-in-Value : goal.lower_statement-returns-in-Value
-lower_statement-returns-in-Value t c = record {
+pub lower_statement-returns-in_default-rest : goal.lower_statement-returns-in_default-rest
+lower_statement-returns-in_default-rest t c = record {
   labels =
       on_ok_weaker c.lower_simple.result
       (λ lowered.
@@ -807,75 +783,6 @@ lower_statement-returns-in-Value t c = record {
       (λ fault full.
       c.loop-rest.invariant.behind.full _ (full (program_of c.args.program.now) c.args.depth))
       c.lower_simple.ensures.full;
-}
-
-pub lower_statement-returns-in-None : goal.lower_statement-returns-in-None
-lower_statement-returns-in-None t c = record {
-  labels =
-      on_ok_weaker c.lower_simple-in-None.result
-      (λ lowered.
-      proceeds_both c.args.around c.args.code.now c.loop-rest.code c.lower_simple-in-None.new.code c.loop-rest.invariant.proceeds
-      lowered)
-      c.lower_simple-in-None.ensures.labels;
-  lowers =
-      on_ok_weaker c.lower_simple-in-None.result
-      (λ lowered.
-      let s = statement_of c.loop-rest.rest.now in
-      via_last (program_of c.args.program.now) c.args.around (statement_of c.args.statement.now) s c.args.code.now c.loop-rest.code c.lower_simple-in-None.new.code c.loop-rest.invariant.via
-      (simple_lowers (program_of c.args.program.now) c.args.around s c.loop-rest.code c.lower_simple-in-None.new.code (sym c.is_reached.ensures ∙ c.if-not-is_reached.false)
-      (lowered (program_of c.args.program.now))))
-      c.lower_simple-in-None.ensures.lowers;
-  full =
-      IfErr-weaker c.lower_simple-in-None.result _ _
-      (λ fault full.
-      c.loop-rest.invariant.behind.full _ (full (program_of c.args.program.now) c.args.depth))
-      c.lower_simple-in-None.ensures.full;
-}
-
-pub lower_statement-returns-in-Value-value : goal.lower_statement-returns-in-Value-value
-lower_statement-returns-in-Value-value t c = record {
-  labels =
-      on_ok_weaker c.lower_simple-in-Value-value.result
-      (λ lowered.
-      proceeds_both c.args.around c.args.code.now c.loop-rest.code c.lower_simple-in-Value-value.new.code c.loop-rest.invariant.proceeds
-      lowered)
-      c.lower_simple-in-Value-value.ensures.labels;
-  lowers =
-      on_ok_weaker c.lower_simple-in-Value-value.result
-      (λ lowered.
-      let s = statement_of c.loop-rest.rest.now in
-      via_last (program_of c.args.program.now) c.args.around (statement_of c.args.statement.now) s c.args.code.now c.loop-rest.code c.lower_simple-in-Value-value.new.code c.loop-rest.invariant.via
-      (simple_lowers (program_of c.args.program.now) c.args.around s c.loop-rest.code c.lower_simple-in-Value-value.new.code (sym c.is_reached.ensures ∙ c.if-not-is_reached.false)
-      (lowered (program_of c.args.program.now))))
-      c.lower_simple-in-Value-value.ensures.lowers;
-  full =
-      IfErr-weaker c.lower_simple-in-Value-value.result _ _
-      (λ fault full.
-      c.loop-rest.invariant.behind.full _ (full (program_of c.args.program.now) c.args.depth))
-      c.lower_simple-in-Value-value.ensures.full;
-}
-
-pub lower_statement-returns-in_default-rest : goal.lower_statement-returns-in_default-rest
-lower_statement-returns-in_default-rest t c = record {
-  labels =
-      on_ok_weaker c.lower_simple-in_default-rest.result
-      (λ lowered.
-      proceeds_both c.args.around c.args.code.now c.loop-rest.code c.lower_simple-in_default-rest.new.code c.loop-rest.invariant.proceeds
-      lowered)
-      c.lower_simple-in_default-rest.ensures.labels;
-  lowers =
-      on_ok_weaker c.lower_simple-in_default-rest.result
-      (λ lowered.
-      let s = statement_of c.loop-rest.rest.now in
-      via_last (program_of c.args.program.now) c.args.around (statement_of c.args.statement.now) s c.args.code.now c.loop-rest.code c.lower_simple-in_default-rest.new.code c.loop-rest.invariant.via
-      (simple_lowers (program_of c.args.program.now) c.args.around s c.loop-rest.code c.lower_simple-in_default-rest.new.code (sym c.is_reached.ensures ∙ c.if-not-is_reached.false)
-      (lowered (program_of c.args.program.now))))
-      c.lower_simple-in_default-rest.ensures.lowers;
-  full =
-      IfErr-weaker c.lower_simple-in_default-rest.result _ _
-      (λ fault full.
-      c.loop-rest.invariant.behind.full _ (full (program_of c.args.program.now) c.args.depth))
-      c.lower_simple-in_default-rest.ensures.full;
 }
 
 pub lower_statement-returns-in_err-lower_statement-clause-labels : goal.lower_statement-returns-in_err-lower_statement-clause-labels
@@ -1008,26 +915,6 @@ lower_statement-returns-in_err-lower_statement-in-For-3-clause-lowers t c =
     let p = err_from_is_err_and c.from_residual-in_err-lower_statement-in-For-3.result c.from_residual-in_err-lower_statement-in-For-3.ensures.1 in
     rw p.1 tt
 
-pub lower_statement-returns-in_err-lower_call-in-Call-right-clause-labels : goal.lower_statement-returns-in_err-lower_call-in-Call-right-clause-labels
-lower_statement-returns-in_err-lower_call-in-Call-right-clause-labels t c =
-    let p = err_from_is_err_and c.from_residual-in_err-lower_call-in-Call-right.result c.from_residual-in_err-lower_call-in-Call-right.ensures.1 in
-    rw p.1 tt
-
-pub lower_statement-returns-in_err-lower_call-in-Call-right-clause-lowers : goal.lower_statement-returns-in_err-lower_call-in-Call-right-clause-lowers
-lower_statement-returns-in_err-lower_call-in-Call-right-clause-lowers t c =
-    let p = err_from_is_err_and c.from_residual-in_err-lower_call-in-Call-right.result c.from_residual-in_err-lower_call-in-Call-right.ensures.1 in
-    rw p.1 tt
-
-pub lower_statement-returns-in_err-lower_call-in-Call-value-clause-labels : goal.lower_statement-returns-in_err-lower_call-in-Call-value-clause-labels
-lower_statement-returns-in_err-lower_call-in-Call-value-clause-labels t c =
-    let p = err_from_is_err_and c.from_residual-in_err-lower_call-in-Call-value.result c.from_residual-in_err-lower_call-in-Call-value.ensures.1 in
-    rw p.1 tt
-
-pub lower_statement-returns-in_err-lower_call-in-Call-value-clause-lowers : goal.lower_statement-returns-in_err-lower_call-in-Call-value-clause-lowers
-lower_statement-returns-in_err-lower_call-in-Call-value-clause-lowers t c =
-    let p = err_from_is_err_and c.from_residual-in_err-lower_call-in-Call-value.result c.from_residual-in_err-lower_call-in-Call-value.ensures.1 in
-    rw p.1 tt
-
 pub lower_call-returns-in_err-lower_statement-clause-labels : goal.lower_call-returns-in_err-lower_statement-clause-labels
 lower_call-returns-in_err-lower_statement-clause-labels t c =
     let p = err_from_is_err_and c.from_residual-in_err-lower_statement.result c.from_residual-in_err-lower_statement.ensures.1 in
@@ -1074,7 +961,7 @@ lower_call-returns t c = record {
       on_ok_weaker c.close_call.result
       (λ closes.
       λ around.
-      calls_proceed c.args.number (function_of c.in-Some.function.now) (expressions_of c.args.arguments.now) c.in_ok-caller.caller c.args.code.now c.open_call.new.code
+      calls_proceed c.args.into c.args.number (function_of c.in-Some.function.now) (expressions_of c.args.arguments.now) c.in_ok-caller.caller c.args.code.now c.open_call.new.code
       c.in_ok-caller.ensures.opens c.in_ok-caller.ensures.open_ c.lower_statement.new.code
       c.in_ok-lower_statement.ensures.labels c.close_call.new.code closes (let e = c.in_ok-caller.ensures.label in omega (arith, e)) c.requires.reached around)
       c.close_call.ensures.closes;
@@ -1095,7 +982,7 @@ lower_call-returns t c = record {
   full =
       IfErr-weaker c.close_call.result _ _
       (λ fault full.
-      call_closing (program_of c.args.program.now) c.args.depth c.args.number (expressions_of c.args.arguments.now) c.args.code.now _ (function_of c.in-Some.function.now)
+      call_closing (program_of c.args.program.now) c.args.depth c.args.into c.args.number (expressions_of c.args.arguments.now) c.args.code.now _ (function_of c.in-Some.function.now)
       (get_mapped function_of c.args.program.now.functions.items c.args.number c.in-Some.function.now (ap (λ l. slice_get l c.args.number) (sym c.deref.ensures.value) ∙ sym c.in-Some.ensures))
       c.in_ok-caller.caller c.open_call.new.code c.in_ok-caller.ensures.opens c.requires.reached c.lower_statement.new.code c.in_ok-lower_statement.ensures.lowers full)
       c.close_call.ensures.full;
@@ -1108,7 +995,7 @@ lower_call-returns-in_err-caller t c =
       labels = rw p.1 tt;
       calls = rw p.1 tt;
       full =
-          rw (p.1, p.2) (λ S w size seated deep fits words good call among now is.
+          rw (p.1, p.2) (λ S w size seated deep fits good call among now is.
           let large = c.in_err-caller.ensures.full is in
           let operations = now.size in
           let steps = now.steps in
