@@ -5,7 +5,7 @@ use Rattle.hls_ints.specs.Types.{int_type, long_int}
 use Rattle.c_program.specs.declared.tree.Storage.TheVariants.{Automatic, Static}
 use Rattle.c_program.specs.declared.tree.ReturnType.TheVariants.{Pointer}
 use Rattle.c_program.specs.declared.tree.ThreadObject.{ThreadObject}
-use Rattle.c_program.specs.Tree.{Expression, Place, RightSide, ObjectPlace, ThreadCall, Statement, Function, Program}
+use Rattle.c_program.specs.Tree.{Expression, Place, ObjectPlace, ThreadCall, Statement, Function, Program}
 use Rattle.bank_partition.specs.Counts.{bank_count}
 use Rattle.global_naming.specs.Naming.{naming_threads}
 
@@ -14,17 +14,17 @@ null = Expression.Constant long_int (pos 0)
 
 -- x[0] = 0
 abbrev names_x : Statement
-names_x = Statement.Assign 0 (Place.Element Static 0 6 int_type null) (RightSide.Value null)
+names_x = Statement.Assign 0 (Place.Element Static 0 6 int_type null) null
 
 -- a local of the same number
 abbrev names_local : Statement
-names_local = Statement.Assign 0 (Place.Scalar Automatic 0 int_type) (RightSide.Value null)
+names_local = Statement.Assign 0 (Place.Scalar Automatic 0 int_type) null
 
 abbrev creates : ℕ → Statement
 creates routine = Statement.Thread 0 (ThreadCall.Create (ObjectPlace.Single 0) routine null)
 
 abbrev function_of : Statement → Function
-function_of body = record { name = []; returns = Pointer; parameters = 1; locals = []; local_names = []; body = body; end = 0 }
+function_of body = record { name = []; returns = Pointer; parameters = 1; declared_locals = 0; locals = []; local_names = []; body = body; end = 0 }
 
 abbrev program_of : List Function → List ThreadObject → Program
 program_of functions threads = record {
@@ -53,7 +53,7 @@ four_banks = refl
 -- a global named only by a function that main and two threads call
 of_three : Program
 of_three =
-    program_of (function_of (Statement.Call 0 1 []) ∷ function_of names_x ∷ function_of (Statement.Call 0 1 []) ∷ [])
+    program_of (function_of (Statement.Call 0 None 1 []) ∷ function_of names_x ∷ function_of (Statement.Call 0 None 1 []) ∷ [])
     (record { length = 2; routine = Some 2 } ∷ [])
 
 three : naming_threads of_three 0 ≡ 3

@@ -4,7 +4,7 @@ use Rattle.std.specs.Prelude.{◌≡◌, ◌<◌, ◌≤◌, ℕ, Bool, nat_eq, 
 use Rattle.std.specs.List.{flat_map}
 use Rattle.c_program.specs.declared.tree.Storage.{Storage}
 use Rattle.c_program.specs.declared.tree.Storage.TheVariants.{Automatic, Static}
-use Rattle.c_program.specs.Tree.{Expression, Place, Condition, RightSide, ObjectPlace, ThreadCall, Statement, Function, Program}
+use Rattle.c_program.specs.Tree.{Expression, Place, ObjectPlace, ThreadCall, Statement, Function, Program}
 use Rattle.c_program.specs.Weight.{inlined, thread_count, hardware_routines}
 use Rattle.bank_partition.specs.Counts.{one_if}
 
@@ -18,18 +18,14 @@ abbrev pub expression_globals : Expression → List ℕ
 expression_globals (Expression.Constant ty number) = []
 expression_globals (Expression.Variable storage variable ty) = variable_globals storage variable
 expression_globals (Expression.Element storage variable length ty index) = variable_globals storage variable ++ expression_globals index
+expression_globals (Expression.Row outer outer_length inner inner_length) = expression_globals outer ++ expression_globals inner
 expression_globals (Expression.Unary operator ty operand) = expression_globals operand
 expression_globals (Expression.Binary operator ty left right) = expression_globals left ++ expression_globals right
 expression_globals (Expression.Cast ty operand) = expression_globals operand
+expression_globals (Expression.Kept slot ty) = []
 
 abbrev pub expressions_globals : List Expression → List ℕ
 expressions_globals list = flat_map expression_globals list
-
-abbrev pub condition_globals : Condition → List ℕ
-condition_globals (Condition.Operand offset operand) = expression_globals operand
-condition_globals (Condition.Both first second) = condition_globals first ++ condition_globals second
-condition_globals (Condition.Either first second) = condition_globals first ++ condition_globals second
-condition_globals (Condition.Opposite inner) = condition_globals inner
 
 abbrev pub place_globals : Place → List ℕ
 place_globals (Place.Scalar storage variable ty) = variable_globals storage variable
@@ -39,14 +35,9 @@ abbrev pub object_globals : ObjectPlace → List ℕ
 object_globals (ObjectPlace.Single object) = []
 object_globals (ObjectPlace.Element object length index) = expression_globals index
 
--- a call without the callee
-abbrev pub right_side_globals : RightSide → List ℕ
-right_side_globals (RightSide.Value expression) = expression_globals expression
-right_side_globals (RightSide.Call function arguments) = expressions_globals arguments
-
-abbrev pub returned_globals : Option RightSide → List ℕ
+abbrev pub returned_globals : Option Expression → List ℕ
 returned_globals None = []
-returned_globals (Some right) = right_side_globals right
+returned_globals (Some right) = expression_globals right
 
 abbrev pub thread_call_globals : ThreadCall → List ℕ
 thread_call_globals (ThreadCall.Create thread routine argument) = object_globals thread ++ expression_globals argument
@@ -59,24 +50,33 @@ thread_call_globals (ThreadCall.BarrierInit barrier count) = object_globals barr
 thread_call_globals (ThreadCall.BarrierDestroy barrier) = object_globals barrier
 thread_call_globals (ThreadCall.BarrierWait barrier) = object_globals barrier
 
+-- a call without the callee
 abbrev pub statement_globals : Statement → List ℕ
 statement_globals Statement.Done = []
 statement_globals (Statement.Sequence first rest) = statement_globals first ++ statement_globals rest
 statement_globals Statement.Empty = []
 statement_globals (Statement.Block body) = statement_globals body
 statement_globals (Statement.Declare offset local operators) = []
-statement_globals (Statement.Assign offset place right) = place_globals place ++ right_side_globals right
+statement_globals (Statement.Assign offset place right) = place_globals place ++ expression_globals right
 statement_globals (Statement.Update offset place operator ty right) = place_globals place ++ expression_globals right
+statement_globals (Statement.Call offset into function arguments) = expressions_globals arguments
+statement_globals (Statement.Keep offset slot ty operand) = expression_globals operand
+statement_globals (Statement.Truth slot condition) = statement_globals condition
+statement_globals (Statement.Test offset operand) = expression_globals operand
+statement_globals (Statement.Both first second) = statement_globals first ++ statement_globals second
+statement_globals (Statement.Either first second) = statement_globals first ++ statement_globals second
+statement_globals (Statement.Opposite inner) = statement_globals inner
 statement_globals (Statement.If condition consequent alternative) =
-    condition_globals condition ++ (statement_globals consequent ++ statement_globals alternative)
-statement_globals (Statement.While condition body) = condition_globals condition ++ statement_globals body
-statement_globals (Statement.DoWhile body condition) = statement_globals body ++ condition_globals condition
+    statement_globals condition ++ (statement_globals consequent ++ statement_globals alternative)
+statement_globals (Statement.While condition body) = statement_globals condition ++ statement_globals body
+statement_globals (Statement.DoWhile body condition) = statement_globals body ++ statement_globals condition
 statement_globals (Statement.For first condition last body) =
-    statement_globals first ++ (condition_globals condition ++ (statement_globals last ++ statement_globals body))
+    statement_globals first ++ (statement_globals condition ++ (statement_globals last ++ statement_globals body))
+statement_globals (Statement.Switch offset ty operand body) = expression_globals operand ++ statement_globals body
+statement_globals (Statement.Label value operators) = []
 statement_globals Statement.Break = []
 statement_globals Statement.Continue = []
 statement_globals (Statement.Return offset right) = returned_globals right
-statement_globals (Statement.Call offset function arguments) = expressions_globals arguments
 statement_globals (Statement.Print offset format arguments) = expressions_globals arguments
 statement_globals (Statement.Thread offset call) = thread_call_globals call
 

@@ -1,13 +1,11 @@
 // The globals that the parts of a function name.
 ghost use Rattle.std.specs.Prelude.{◌≡◌, ◌++◌, IfOk};
-ghost use Rattle.c_program.specs.Plain.{expression_of, expressions_of, place_of, condition_of, right_side_of, object_place_of};
+ghost use Rattle.c_program.specs.Plain.{expression_of, expressions_of, place_of, object_place_of};
 ghost use Rattle.c_program.specs.Plain.{thread_call_of, statement_of};
-ghost use Rattle.global_naming.specs.Naming.{variable_globals, expression_globals, expressions_globals, condition_globals, place_globals};
-ghost use Rattle.global_naming.specs.Naming.{object_globals, right_side_globals, thread_call_globals, statement_globals};
+ghost use Rattle.global_naming.specs.Naming.{variable_globals, expression_globals, expressions_globals, place_globals};
+ghost use Rattle.global_naming.specs.Naming.{object_globals, thread_call_globals, statement_globals};
 
-use c_program::tree::{
-    Condition, Expression, ObjectPlace, Place, RightSide, Statement, Storage, ThreadCall,
-};
+use c_program::tree::{Expression, ObjectPlace, Place, Statement, Storage, ThreadCall};
 use std::alloc::AllocError;
 
 /// Appends a variable, where it is a global.
@@ -29,7 +27,7 @@ pub fn push_expression(expression: &Expression, names: &mut Vec<u32>) -> Result<
     ensures { IfOk result (λ _. names.new.items ≡ names.old.items ++ expression_globals (expression_of expression.now)) }
 {
     match expression {
-        Expression::Constant(_, _) => Ok(()),
+        Expression::Constant(_, _) | Expression::Kept(_, _) => Ok(()),
         Expression::Variable(storage, variable, _) => push_variable(*storage, *variable, names),
         Expression::Element(storage, variable, _, _, index) => {
             push_variable(*storage, *variable, names)?;
@@ -38,7 +36,7 @@ pub fn push_expression(expression: &Expression, names: &mut Vec<u32>) -> Result<
         Expression::Unary(_, _, inner) | Expression::Cast(_, inner) => push_expression(
             inner, names,
         ),
-        Expression::Binary(_, _, left, right) => {
+        Expression::Binary(_, _, left, right) | Expression::Row(left, _, right, _) => {
             push_expression(left, names)?;
             push_expression(right, names)
         }
@@ -53,19 +51,6 @@ pub fn push_expressions(expressions: &[Expression], names: &mut Vec<u32>) -> Res
         push_expression(expression, names)?;
     }
     Ok(())
-}
-
-fn push_condition(condition: &Condition, names: &mut Vec<u32>) -> Result<(), AllocError>
-    ensures { IfOk result (λ _. names.new.items ≡ names.old.items ++ condition_globals (condition_of condition.now)) }
-{
-    match condition {
-        Condition::Operand(_, operand) => push_expression(operand, names),
-        Condition::Both(first, second) | Condition::Either(first, second) => {
-            push_condition(first, names)?;
-            push_condition(second, names)
-        }
-        Condition::Opposite(inner) => push_condition(inner, names),
-    }
 }
 
 fn push_place(place: &Place, names: &mut Vec<u32>) -> Result<(), AllocError>
@@ -87,15 +72,6 @@ pub fn push_object(place: &ObjectPlace, names: &mut Vec<u32>) -> Result<(), Allo
     match place {
         ObjectPlace::Single(_) => Ok(()),
         ObjectPlace::Element(_, _, index) => push_expression(index, names),
-    }
-}
-
-fn push_right_side(right: &RightSide, names: &mut Vec<u32>) -> Result<(), AllocError>
-    ensures { IfOk result (λ _. names.new.items ≡ names.old.items ++ right_side_globals (right_side_of right.now)) }
-{
-    match right {
-        RightSide::Value(expression) => push_expression(expression, names),
-        RightSide::Call(_, arguments) => push_expressions(arguments, names),
     }
 }
 
@@ -123,46 +99,46 @@ pub fn push_globals(statement: &Statement, names: &mut Vec<u32>) -> Result<(), A
     ensures { IfOk result (λ _. names.new.items ≡ names.old.items ++ statement_globals (statement_of statement.now)) }
 {
     match statement {
-        Statement::Sequence(first, rest) => {
+        Statement::Sequence(first, second)
+        | Statement::Both(first, second)
+        | Statement::Either(first, second)
+        | Statement::While(first, second)
+        | Statement::DoWhile(first, second) => {
             push_globals(first, names)?;
-            push_globals(rest, names)
+            push_globals(second, names)
         }
-        Statement::Block(body) => push_globals(body, names),
-        Statement::Assign(_, place, right) => {
-            push_place(place, names)?;
-            push_right_side(right, names)
-        }
-        Statement::Update(_, place, _, _, right) => {
+        Statement::Block(inner) | Statement::Truth(_, inner) | Statement::Opposite(inner) =>
+            push_globals(inner, names),
+        Statement::Assign(_, place, right) | Statement::Update(_, place, _, _, right) => {
             push_place(place, names)?;
             push_expression(right, names)
         }
         Statement::If(condition, consequent, alternative) => {
-            push_condition(condition, names)?;
+            push_globals(condition, names)?;
             push_globals(consequent, names)?;
             push_globals(alternative, names)
         }
-        Statement::While(condition, body) => {
-            push_condition(condition, names)?;
-            push_globals(body, names)
-        }
-        Statement::DoWhile(body, condition) => {
-            push_globals(body, names)?;
-            push_condition(condition, names)
-        }
         Statement::For(first, condition, last, body) => {
             push_globals(first, names)?;
-            push_condition(condition, names)?;
+            push_globals(condition, names)?;
             push_globals(last, names)?;
             push_globals(body, names)
         }
-        Statement::Return(_, Some(right)) => push_right_side(right, names),
-        Statement::Call(_, _, arguments) | Statement::Print(_, _, arguments) => {
+        Statement::Switch(_, _, operand, body) => {
+            push_expression(operand, names)?;
+            push_globals(body, names)
+        }
+        Statement::Keep(_, _, _, operand)
+        | Statement::Test(_, operand)
+        | Statement::Return(_, Some(operand)) => push_expression(operand, names),
+        Statement::Call(_, _, _, arguments) | Statement::Print(_, _, arguments) => {
             push_expressions(arguments, names)
         }
         Statement::Thread(_, call) => push_thread_call(call, names),
         Statement::Done
         | Statement::Empty
         | Statement::Declare(_, _, _)
+        | Statement::Label(_, _)
         | Statement::Return(_, None)
         | Statement::Break
         | Statement::Continue => Ok(()),
