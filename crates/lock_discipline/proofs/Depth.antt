@@ -1,16 +1,16 @@
 -- No call of a resolved program is deeper than it has functions: each has a rank above those of the functions that it calls.
-use Rattle.std.proofs.Common.{◌≡◌, ℕ, zero, suc, ◌+◌, ◌<◌, ◌≤◌, List, [], ◌∷◌, ◌++◌, length, map, filter, refl, subst, arith}
+use Rattle.std.proofs.Common.{◌≡◌, ℕ, zero, suc, ◌+◌, ◌<◌, ◌≤◌, List, [], ◌∷◌, ◌++◌, length, map, filter, refl, arith}
 use Rattle.std.specs.Prelude.{⊤, Bool, true, false, cond, Option, Some, None, slice_get, Contains}
 use Rattle.std.specs.List.{AllByRecursion, flat_map, list_any, range_with_len}
 use Rattle.lists.proofs.Places.{all_front, all_back}
-use Rattle.c_program.specs.Tree.{Condition, Place, RightSide, ThreadCall, Statement, Function, Program}
-use Rattle.c_program.specs.Calls.{IsAcyclic, calls_of, calls_of_right, calls_of_returned}
+use Rattle.c_program.specs.Tree.{Expression, Place, ThreadCall, Statement, Function, Program}
+use Rattle.c_program.specs.Calls.{IsAcyclic, calls_of}
 use Rattle.c_program.specs.Resolved.{IsResolved}
 use Rattle.c_program.specs.Weight.{is_routine, routines}
 use Rattle.global_naming.specs.Naming.{expression_globals, expressions_globals, thread_call_globals}
 use Rattle.lock_discipline.specs.Sets.{Sets, lowered}
-use Rattle.lock_discipline.specs.Walk.{Access, Seen, Touches, TooDeep, Passed, Walker, access, reads, index_globals, target_globals, asked, assigned}
-use Rattle.lock_discipline.specs.Walk.{around, calls_in, calls_within, joined, join_loop, walk_assign, walk_return, walk_for, walk, walk_code, walk_within}
+use Rattle.lock_discipline.specs.Walk.{Seen, Touches, TooDeep, Passed, Walker, access, reads, index_globals, target_globals, asked, assigned}
+use Rattle.lock_discipline.specs.Walk.{around, calls_in, calls_within, joined, join_loop, walk_asked, walk_call, walk_return, walk_for, walk, walk_code, walk_within}
 use Rattle.lock_discipline.specs.Discipline.{is_too_deep, walked, all_seen}
 use Rattle.lock_discipline.specs.Calm.{NoneTooDeep}
 
@@ -31,12 +31,6 @@ accesses : (w : Walker) (s : Sets) (offset : ℕ) (written : Bool) (globals : Li
 accesses w s offset written [] = tt
 accesses w s offset written (x ∷ xs) = (tt, accesses w s offset written xs)
 
-asked_are : (w : Walker) (s : Sets) (condition : Condition) → AreAccesses (asked w s condition)
-asked_are w s (Condition.Operand offset operand) = accesses w s offset false (expression_globals operand)
-asked_are w s (Condition.Both first second) = both (asked w s first) (asked w s second) (asked_are w s first) (asked_are w s second)
-asked_are w s (Condition.Either first second) = both (asked w s first) (asked w s second) (asked_are w s first) (asked_are w s second)
-asked_are w s (Condition.Opposite inner) = asked_are w s inner
-
 assigned_are : (w : Walker) (s : Sets) (offset : ℕ) (place : Place) → AreAccesses (assigned w s offset place)
 assigned_are w s offset place =
     both (reads w s offset (index_globals place)) (map (access w s offset true) (target_globals place)) (accesses w s offset false (index_globals place))
@@ -45,65 +39,99 @@ assigned_are w s offset place =
 -- ---- a statement, of whose calls each meets accesses alone
 
 module _ (w : Walker) (inner : ℕ → List ThreadCall) (call : ℕ → Sets → Passed) (Low : ℕ → Type 0) (low : (g : ℕ) → Low g → (s : Sets) → AreAccesses (call g s).seen) where
-  assign_are : (offset : ℕ) (place : Place) (right : RightSide) (s : Sets) → AllByRecursion Low (calls_of_right right) → AreAccesses (walk_assign w inner call offset place right s).seen
-  assign_are offset place (RightSide.Value e) s h =
-      both (reads w s offset (expression_globals e)) (assigned w s offset place) (accesses w s offset false (expression_globals e)) (assigned_are w s offset place)
-  assign_are offset place (RightSide.Call g arguments) s h =
-      let l = lowered s (inner g) in
-      both (reads w l offset (expressions_globals arguments)) ((call g l).seen ++ assigned w l offset place) (accesses w l offset false (expressions_globals arguments))
-      (both (call g l).seen (assigned w l offset place) (low g h.0 l) (assigned_are w l offset place))
+  boths : (xs ys : List Seen) (fs gs : List ℕ) → AllByRecursion Low (fs ++ gs) → (AllByRecursion Low fs → AreAccesses xs) → (AllByRecursion Low gs → AreAccesses ys) →
+      AreAccesses (xs ++ ys)
+  boths xs ys fs gs h p q = both xs ys (p (all_front Low fs gs h)) (q (all_back Low fs gs h))
 
-  return_are : (offset : ℕ) (right : Option RightSide) (s : Sets) → AllByRecursion Low (calls_of_returned right) → AreAccesses (walk_return w inner call offset right s).seen
-  return_are offset None s h = tt
-  return_are offset (Some (RightSide.Value e)) s h = accesses w s offset false (expression_globals e)
-  return_are offset (Some (RightSide.Call g arguments)) s h =
-      let l = lowered s (inner g) in
-      both (reads w l offset (expressions_globals arguments)) (call g l).seen (accesses w l offset false (expressions_globals arguments)) (low g h.0 l)
+  asked_are : (st : Statement) (s : Sets) → AllByRecursion Low (calls_of st) → AreAccesses (asked w inner call s st)
+  asked_are (Statement.Sequence first rest) s h =
+      boths (asked w inner call s first) (asked w inner call s rest) (calls_of first) (calls_of rest) h (asked_are first s) (asked_are rest s)
+  asked_are (Statement.Call offset into g arguments) s h =
+      both (reads w s offset (expressions_globals arguments)) (call g s).seen (accesses w s offset false (expressions_globals arguments)) (low g h.0 s)
+  asked_are (Statement.Keep offset slot ty operand) s h = accesses w s offset false (expression_globals operand)
+  asked_are (Statement.Truth slot condition) s h = asked_are condition s h
+  asked_are (Statement.Test offset operand) s h = accesses w s offset false (expression_globals operand)
+  asked_are (Statement.Both first second) s h =
+      boths (asked w inner call s first) (asked w inner call s second) (calls_of first) (calls_of second) h (asked_are first s) (asked_are second s)
+  asked_are (Statement.Either first second) s h =
+      boths (asked w inner call s first) (asked w inner call s second) (calls_of first) (calls_of second) h (asked_are first s) (asked_are second s)
+  asked_are (Statement.Opposite condition) s h = asked_are condition s h
+  asked_are (Statement.If condition consequent alternative) s h =
+      boths (asked w inner call s condition) (asked w inner call s consequent ++ asked w inner call s alternative) (calls_of condition) (calls_of consequent ++ calls_of alternative) h
+      (asked_are condition s)
+      (λ g. boths (asked w inner call s consequent) (asked w inner call s alternative) (calls_of consequent) (calls_of alternative) g (asked_are consequent s) (asked_are alternative s))
+  asked_are st s h = tt
+
+  alone_are : (st : Statement) (s : Sets) → AllByRecursion Low (calls_of st) → AreAccesses (walk_asked w inner call st s).seen
+  alone_are st s h = asked_are st (lowered s (calls_in inner st)) h
+
+  call_are : (offset : ℕ) (into : Option ℕ) (g : ℕ) (arguments : List Expression) (s : Sets) → Low g → AreAccesses (walk_call w inner call offset into g arguments s).seen
+  call_are offset None g arguments s h =
+      both (reads w s offset (expressions_globals arguments)) (call g s).seen (accesses w s offset false (expressions_globals arguments)) (low g h s)
+  call_are offset (Some slot) g arguments s h = alone_are (Statement.Call offset (Some slot) g arguments) s (h, tt)
+
+  return_are : (offset : ℕ) (right : Option Expression) (s : Sets) → AreAccesses (walk_return w inner call offset right s).seen
+  return_are offset None s = tt
+  return_are offset (Some e) s = accesses w s offset false (expression_globals e)
 
   for_are : (loop : Option ℕ) (s : Sets) (other : Passed) → AreAccesses other.seen → AreAccesses (walk_for w inner call loop s other).seen
   for_are None s other h = h
   for_are (Some t) s other h = tt
 
-  walk_are : (st : Statement) (s : Sets) → AllByRecursion Low (calls_of st) → AreAccesses (walk w inner call st s).seen
-  walk_are Statement.Done s h = tt
-  walk_are (Statement.Sequence first rest) s h =
-      let t = (walk w inner call first s).after in
-      both (walk w inner call first s).seen (walk w inner call rest t).seen (walk_are first s (all_front Low (calls_of first) (calls_of rest) h))
-      (walk_are rest t (all_back Low (calls_of first) (calls_of rest) h))
-  walk_are Statement.Empty s h = tt
-  walk_are (Statement.Block body) s h = walk_are body s h
-  walk_are (Statement.Declare offset local operators) s h = tt
-  walk_are (Statement.Assign offset place right) s h = assign_are offset place right s h
-  walk_are (Statement.Update offset place operator ty right) s h =
+  walk_are : (labels : Option Sets) (st : Statement) (s : Sets) → AllByRecursion Low (calls_of st) → AreAccesses (walk w inner call labels st s).seen
+  walk_are labels Statement.Done s h = tt
+  walk_are labels (Statement.Sequence first rest) s h =
+      let t = (walk w inner call labels first s).after in
+      boths (walk w inner call labels first s).seen (walk w inner call labels rest t).seen (calls_of first) (calls_of rest) h (walk_are labels first s) (walk_are labels rest t)
+  walk_are labels Statement.Empty s h = tt
+  walk_are labels (Statement.Block body) s h = walk_are None body s h
+  walk_are labels (Statement.Declare offset local operators) s h = tt
+  walk_are labels (Statement.Assign offset place right) s h =
+      both (reads w s offset (expression_globals right)) (assigned w s offset place) (accesses w s offset false (expression_globals right)) (assigned_are w s offset place)
+  walk_are labels (Statement.Update offset place operator ty right) s h =
       both (reads w s offset (expression_globals right)) (reads w s offset (target_globals place) ++ assigned w s offset place) (accesses w s offset false (expression_globals right))
       (both (reads w s offset (target_globals place)) (assigned w s offset place) (accesses w s offset false (target_globals place)) (assigned_are w s offset place))
-  walk_are (Statement.If condition consequent alternative) s h =
-      both (asked w s condition) ((walk w inner call consequent s).seen ++ (walk w inner call alternative s).seen) (asked_are w s condition)
-      (both (walk w inner call consequent s).seen (walk w inner call alternative s).seen (walk_are consequent s (all_front Low (calls_of consequent) (calls_of alternative) h))
-      (walk_are alternative s (all_back Low (calls_of consequent) (calls_of alternative) h)))
-  walk_are (Statement.While condition body) s h =
+  walk_are labels (Statement.Call offset into g arguments) s h = call_are offset into g arguments s h.0
+  walk_are labels (Statement.Keep offset slot ty operand) s h = alone_are (Statement.Keep offset slot ty operand) s h
+  walk_are labels (Statement.Truth slot condition) s h = alone_are (Statement.Truth slot condition) s h
+  walk_are labels (Statement.Test offset operand) s h = alone_are (Statement.Test offset operand) s h
+  walk_are labels (Statement.Both first second) s h = alone_are (Statement.Both first second) s h
+  walk_are labels (Statement.Either first second) s h = alone_are (Statement.Either first second) s h
+  walk_are labels (Statement.Opposite condition) s h = alone_are (Statement.Opposite condition) s h
+  walk_are labels (Statement.If condition consequent alternative) s h =
+      let l = lowered s (calls_in inner condition) in
+      let one = walk w inner call None consequent l in
+      let other = walk w inner call None alternative l in
+      boths (asked w inner call l condition) (one.seen ++ other.seen) (calls_of condition) (calls_of consequent ++ calls_of alternative) h (asked_are condition l)
+      (λ g. boths one.seen other.seen (calls_of consequent) (calls_of alternative) g (walk_are None consequent l) (walk_are None alternative l))
+  walk_are labels (Statement.While condition body) s h =
+      let l = lowered s (calls_in inner condition ++ calls_in inner body) in
+      boths (asked w inner call l condition) (walk w inner call None body l).seen (calls_of condition) (calls_of body) h (asked_are condition l) (walk_are None body l)
+  walk_are labels (Statement.DoWhile body condition) s h =
+      let l = lowered s (calls_in inner body ++ calls_in inner condition) in
+      both (asked w inner call l condition) (walk w inner call None body l).seen (asked_are condition l (all_back Low (calls_of body) (calls_of condition) h))
+      (walk_are None body l (all_front Low (calls_of body) (calls_of condition) h))
+  walk_are labels (Statement.For first condition last body) s h =
+      let l = lowered s (calls_in inner first ++ (calls_in inner condition ++ (calls_in inner last ++ calls_in inner body))) in
+      let ends = all_back Low (calls_of first) (calls_of condition ++ (calls_of last ++ calls_of body)) h in
+      let begin = walk w inner call None first l in
+      let next = walk w inner call None last l in
+      let inside = walk w inner call None body l in
+      for_are (join_loop first condition last body) s (around l (asked w inner call l condition) (joined begin (joined next inside)))
+      (both (asked w inner call l condition) (begin.seen ++ (next.seen ++ inside.seen))
+      (asked_are condition l (all_front Low (calls_of condition) (calls_of last ++ calls_of body) ends))
+      (both begin.seen (next.seen ++ inside.seen) (walk_are None first l (all_front Low (calls_of first) (calls_of condition ++ (calls_of last ++ calls_of body)) h))
+      (boths next.seen inside.seen (calls_of last) (calls_of body) (all_back Low (calls_of condition) (calls_of last ++ calls_of body) ends) (walk_are None last l)
+      (walk_are None body l))))
+  walk_are labels (Statement.Switch offset ty operand body) s h =
       let l = lowered s (calls_in inner body) in
-      both (asked w l condition) (walk w inner call body l).seen (asked_are w l condition) (walk_are body l h)
-  walk_are (Statement.DoWhile body condition) s h =
-      let l = lowered s (calls_in inner body) in
-      both (asked w l condition) (walk w inner call body l).seen (asked_are w l condition) (walk_are body l h)
-  walk_are (Statement.For first condition last body) s h =
-      let l = lowered s (calls_in inner first ++ (calls_in inner last ++ calls_in inner body)) in
-      let rest = all_back Low (calls_of first) (calls_of last ++ calls_of body) h in
-      let begin = walk w inner call first l in
-      let next = walk w inner call last l in
-      let inside = walk w inner call body l in
-      for_are (join_loop first condition last body) s (around l (asked w l condition) (joined begin (joined next inside)))
-      (both (asked w l condition) (begin.seen ++ (next.seen ++ inside.seen)) (asked_are w l condition)
-      (both begin.seen (next.seen ++ inside.seen) (walk_are first l (all_front Low (calls_of first) (calls_of last ++ calls_of body) h))
-      (both next.seen inside.seen (walk_are last l (all_front Low (calls_of last) (calls_of body) rest)) (walk_are body l (all_back Low (calls_of last) (calls_of body) rest)))))
-  walk_are Statement.Break s h = tt
-  walk_are Statement.Continue s h = tt
-  walk_are (Statement.Return offset right) s h = return_are offset right s h
-  walk_are (Statement.Call offset g arguments) s h =
-      both (reads w s offset (expressions_globals arguments)) (call g s).seen (accesses w s offset false (expressions_globals arguments)) (low g h.0 s)
-  walk_are (Statement.Print offset format arguments) s h = accesses w s offset false (expressions_globals arguments)
-  walk_are (Statement.Thread offset c) s h = accesses w s offset false (thread_call_globals c)
+      both (reads w l offset (expression_globals operand)) (walk w inner call (Some l) body l).seen (accesses w l offset false (expression_globals operand)) (walk_are (Some l) body l h)
+  walk_are labels (Statement.Label value operators) s h = tt
+  walk_are labels Statement.Break s h = tt
+  walk_are labels Statement.Continue s h = tt
+  walk_are labels (Statement.Return offset right) s h = return_are offset right s
+  walk_are labels (Statement.Print offset format arguments) s h = accesses w s offset false (expressions_globals arguments)
+  walk_are labels (Statement.Thread offset c) s h = accesses w s offset false (thread_call_globals c)
 
 -- ---- a function of a rank below the depth
 
@@ -125,7 +153,7 @@ module _ (w : Walker) (functions : List Function) (acyclic : IsAcyclic functions
           AreAccesses (walk_code w (calls_within functions depth) (walk_within w functions depth) o s).seen
       go None found again = tt
       go (Some code) found again =
-          walk_are w (calls_within functions depth) (walk_within w functions depth) (λ g. acyclic.rank g < depth) again code.body s (low code found)
+          walk_are w (calls_within functions depth) (walk_within w functions depth) (λ g. acyclic.rank g < depth) again None code.body s (low code found)
 
 -- ---- main and the start routines
 

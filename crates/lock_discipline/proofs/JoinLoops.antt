@@ -13,21 +13,22 @@ use Rattle.c_program.specs.declared.tree.BinaryOperator.TheVariants.{Less, Add}
 use Rattle.std.proofs.lemmas.List.Sums.{sum_by-cons}
 use Rattle.c_program.specs.declared.tree.ThreadObject.{ThreadObject}
 use Rattle.c_program.specs.Limits.{thread_ids}
-use Rattle.c_program.specs.Tree.{Expression, Place, Condition, RightSide, ObjectPlace, ThreadCall, Statement, Function, Program}
-use Rattle.c_program.specs.Resolved.{IsStatement, thread_length, IsResolved}
+use Rattle.c_program.specs.Tree.{Expression, Place, ObjectPlace, ThreadCall, Statement, Function, Program}
+use Rattle.c_program.specs.Resolved.{IsStatement, Around, within, thread_length, IsResolved}
 use Rattle.thread_semantics.specs.declared.cause.UndefinedCause.{UndefinedCause}
 use Rattle.thread_semantics.specs.declared.cause.UndefinedCause.TheVariants.{Index}
 use Rattle.thread_semantics.specs.Memory.{Memory, Evaluation, Gives, Fails, after_reads, and_then, element, row_element, with_row, with_element}
 use Rattle.thread_semantics.specs.Value.{value, calculated, load, local_value, binary_value, checked_index}
-use Rattle.thread_semantics.specs.Work.{Loop, Work, Act, Going, Onward, in_order, opened, settled, decided, for_loop, first_operand, first_offset, waiting_parts}
+use Rattle.thread_semantics.specs.Work.{Loop, Work, Act, Going, Onward, in_order, opened, settled, decided, for_loop}
 use Rattle.thread_semantics.specs.Work.{asked as asked_loop}
 use Rattle.thread_semantics.specs.State.{Frame}
-use Rattle.thread_semantics.specs.Move.{Move, moving, going_on, Target, stored, first_thread, object_number, alone, prepared, statement_move, operand_move, work_move}
+use Rattle.thread_semantics.specs.Move.{Move, moving, going_on, Target, stored, first_thread, object_number, alone, prepared, statement_move, work_move}
 use Rattle.lock_discipline.specs.Sets.{Sets, joined_in}
 use Rattle.lock_discipline.specs.Walk.{Joined, is_scalar, is_number, is_value, is_constant, begins_at_zero, counts_up, is_bounded, joined_at, joined_place, joined_by, join_of, nothing}
 use Rattle.lock_discipline.proofs.Constants.{small_fits, small_wrapped, constantly, IsConstantly}
 use Rattle.lock_discipline.specs.Walk.{Seen, TooDeep, Walker, calls_within, walk_within}
-use Rattle.lock_discipline.proofs.Good.{Weak, Good}
+use Rattle.lock_discipline.proofs.Good.{Weak, Good, to_ask}
+use Rattle.lock_discipline.proofs.Loops.{bounded_opens}
 use Rattle.lock_discipline.proofs.Moves.{AreCallers, AreCalls, goes_on}
 use Rattle.lock_discipline.proofs.Operands.{threads_at}
 
@@ -68,7 +69,7 @@ pub body_is : (body : Statement) (j : Joined) → join_of body ≡ Some j → Is
 body_is (Statement.Block body) j q = let is = join_is body j q in record { offset = is.offset; ty = is.ty; opens = is.opens }
 body_is body j q = join_is body j q
 
-join_array : (P : Program) (f : Function) (b : Bool) (body : Statement) (j : Joined) → joined_by body ≡ Some j → IsStatement P f b body → threads_at P j.object ≡ Some j.length
+join_array : (P : Program) (f : Function) (b : Around) (body : Statement) (j : Joined) → joined_by body ≡ Some j → IsStatement P f b body → threads_at P j.object ≡ Some j.length
 join_array P f b (Statement.Thread offset (ThreadCall.Join place)) j q is =
     let at = at_place place j q in
     let there : IsStatement P f b (joining offset (ObjectPlace.Element j.object j.length (Expression.Variable Automatic j.index at.ty))) =
@@ -77,8 +78,8 @@ join_array P f b (Statement.Thread offset (ThreadCall.Join place)) j q is =
 join_array P f b st j q is = absurd cc
 
 -- the array is declared so
-pub body_array : (P : Program) (f : Function) (b : Bool) (body : Statement) (j : Joined) → join_of body ≡ Some j → IsStatement P f b body → threads_at P j.object ≡ Some j.length
-body_array P f b (Statement.Block body) j q is = join_array P f b body j q is
+pub body_array : (P : Program) (f : Function) (b : Around) (body : Statement) (j : Joined) → join_of body ≡ Some j → IsStatement P f b body → threads_at P j.object ≡ Some j.length
+body_array P f b (Statement.Block body) j q is = join_array P f (within b) body j q is
 body_array P f b body j q is = join_array P f b body j q is
 
 -- ---- the counter
@@ -135,20 +136,20 @@ counter_value m i v knows = go (element m.locals i 0) refl
 module _ (P : Program) (IsMet : Seen → Type 0) (w : Walker) where
   -- where the thread is in the loop, in which so many threads of the array are joined
   pub data IsStage (loop : Loop) (rest : List Work) (thread counter length value : ℕ) (f : Frame) : Type 0 where
-    Asks : (is : f.work ≡ asked_loop loop rest) (knows : Knows counter value f.locals) → IsStage loop rest thread counter length value f
+    Asks : (is : f.work ≡ to_ask loop rest) (knows : Knows counter value f.locals) → IsStage loop rest thread counter length value f
     Joins : (offset : ℕ) (ty : IntegerType)
         (is : f.work ≡ Work.Do (Statement.Thread offset (ThreadCall.Join (ObjectPlace.Element thread length (Expression.Variable Automatic counter ty)))) ∷ Work.Next loop ∷ rest)
         (knows : Knows counter value f.locals) (less : value < length) → IsStage loop rest thread counter length value f
     Performs : (offset : ℕ) (is : f.work ≡ Work.Perform offset Act.Join ∷ Work.Next loop ∷ rest) (kept : f.kept ≡ pos (first_thread P thread + value) ∷ [])
         (knows : Knows counter value f.locals) (less : value < length) → IsStage loop rest thread counter length value f
-    Counts : (old : ℕ) (next : value ≡ suc old) (is : f.work ≡ Work.Do loop.last ∷ asked_loop loop rest) (knows : Knows counter old f.locals) →
+    Counts : (old : ℕ) (next : value ≡ suc old) (is : f.work ≡ Work.Do loop.last ∷ to_ask loop rest) (knows : Knows counter old f.locals) →
         IsStage loop rest thread counter length value f
 
   pub record IsJoining (fs : List Frame) (f : Frame) (a : Sets) : Type 0 where
     pub code : Function
     pub found : slice_get P.functions f.function ≡ Some code
     pub depth : ℕ
-    pub condition : Condition
+    pub condition : Statement
     pub last : Statement
     pub body : Statement
     pub rest : List Work
@@ -206,22 +207,23 @@ module _ (P : Program) (IsMet : Seen → Type 0) (w : Walker) where
         (counter_value m i v knows)
 
     -- the step of its condition
-    compare_move : (condition : Condition) (n : ℕ) (f : Frame) (fs : List Frame) (k : List Work) → is_bounded i n condition ≡ true → n < 128 →
-        (operand_move (first_offset condition) (value (first_operand condition) m) f fs (waiting_parts condition k)
-        ≡ Move.Moves (record f { work = decided (nat_lt v n) k; kept = [] } ∷ fs) [] None)
-        ⊎ ((offset : ℕ) × (cause : UndefinedCause) × (operand_move (first_offset condition) (value (first_operand condition) m) f fs (waiting_parts condition k) ≡ Move.Faults offset cause))
-    compare_move (Condition.Operand offset (Expression.Binary Less ty (Expression.Variable Automatic x t) right)) n f fs k bounded less =
+    compare_move : (condition : Statement) (n : ℕ) (f : Frame) (fs : List Frame) (loop : Loop) (k : List Work) → is_bounded i n condition ≡ true → n < 128 →
+        (statement_move P m f fs (Work.Turn loop ∷ k) condition
+        ≡ Move.Moves (record f { work = decided (nat_lt v n) (Work.Turn loop ∷ k); kept = [] } ∷ fs) [] None)
+        ⊎ ((offset : ℕ) × (cause : UndefinedCause) × (statement_move P m f fs (Work.Turn loop ∷ k) condition ≡ Move.Faults offset cause))
+    compare_move (Statement.Test offset (Expression.Binary Less ty (Expression.Variable Automatic x t) right)) n f fs loop k bounded less =
         let both = and_parts (nat_eq x i) (is_constant n right) bounded in
+        let to : Bool → List Work = λ b. decided b (Work.Turn loop ∷ k) in
         ⊎_elim
-        (λ gives. inl (ap (λ e. moving offset e (λ z reads. Move.Moves (record f { work = decided (not (is_zero z)) k; kept = [] } ∷ fs) reads None)) gives
-        ∙ ap (λ (b : Bool). Move.Moves (record f { work = decided b k; kept = [] } ∷ fs) [] None) (truth (nat_lt v n))))
-        (λ fails. inr (offset, fails.0, ap (λ e. moving offset e (λ z reads. Move.Moves (record f { work = decided (not (is_zero z)) k; kept = [] } ∷ fs) reads None)) fails.1))
+        (λ gives. inl (ap (λ e. moving offset e (λ z reads. Move.Moves (record f { work = to (not (is_zero z)); kept = [] } ∷ fs) reads None)) gives
+        ∙ ap (λ (b : Bool). Move.Moves (record f { work = to b; kept = [] } ∷ fs) [] None) (truth (nat_lt v n))))
+        (λ fails. inr (offset, fails.0, ap (λ e. moving offset e (λ z reads. Move.Moves (record f { work = to (not (is_zero z)); kept = [] } ∷ fs) reads None)) fails.1))
         (compared n x ty t right (eqb-true x i both.0) less both.1)
       where
         truth : (b : Bool) → not (is_zero (pos (bit_of b))) ≡ b
         truth true = refl
         truth false = refl
-    compare_move condition n f fs k bounded less = absurd (false≢true bounded)
+    compare_move condition n f fs loop k bounded less = absurd (false≢true bounded)
 
     -- the step of its body
     join_move : (offset thread length : ℕ) (ty : IntegerType) (f : Frame) (fs : List Frame) (k : List Work) → v < length →
@@ -318,6 +320,12 @@ module _ (P : Program) (IsMet : Seen → Type 0) (w : Walker) where
     later = x.later;
   }
 
+  -- nothing comes before its condition is asked
+  pub asks_next : (condition last body : Statement) (rest : List Work) (i n : ℕ) → is_bounded i n condition ≡ true →
+      settled Onward (to_ask (for_loop condition last body) rest) ≡ to_ask (for_loop condition last body) rest
+  asks_next condition last body rest i n q =
+      bounded_opens condition i n (Work.Turn (for_loop condition last body) ∷ rest) (λ going. settled going (Work.Turn (for_loop condition last body) ∷ rest)) q
+
   counts_open : (i : ℕ) (st : Statement) (k : List Work) (rest : Going → List Work) → counts_up i st ≡ true → opened st k rest ≡ Work.Do st ∷ k
   counts_open i (Statement.Update offset place operator ty e) k rest up = refl
   counts_open i st k rest up = absurd (false≢true up)
@@ -332,7 +340,7 @@ module _ (P : Program) (IsMet : Seen → Type 0) (w : Walker) where
           work_move P (record { locals = f.locals; globals = globals }) f fs f.work ≡ mv
       moved_as k mv is e = ap (λ q. work_move P (record { locals = f.locals; globals = globals }) f fs q) is ∙ e
 
-      asks : (b : Bool) → nat_lt x.value x.length ≡ b → f.work ≡ asked_loop (for_loop x.condition x.last x.body) x.rest → Knows x.counter x.value f.locals →
+      asks : (b : Bool) → nat_lt x.value x.length ≡ b → f.work ≡ to_ask (for_loop x.condition x.last x.body) x.rest → Knows x.counter x.value f.locals →
           work_move P (record { locals = f.locals; globals = globals }) f fs f.work
           ≡ Move.Moves (record f { work = decided b (Work.Turn (for_loop x.condition x.last x.body) ∷ x.rest); kept = [] } ∷ fs) [] None →
           IsJoinMove fs f a x (work_move P (record { locals = f.locals; globals = globals }) f fs f.work)
@@ -358,10 +366,10 @@ module _ (P : Program) (IsMet : Seen → Type 0) (w : Walker) where
           let short = x.short in
           let within = x.within in
           ⊎_elim
-          (λ e. asks (nat_lt x.value x.length) refl is knows (moved_as (asked_loop (for_loop x.condition x.last x.body) x.rest) _ is e))
-          (λ e. Stops e.0 e.1 (moved_as (asked_loop (for_loop x.condition x.last x.body) x.rest) _ is e.2))
+          (λ e. asks (nat_lt x.value x.length) refl is knows (moved_as (to_ask (for_loop x.condition x.last x.body) x.rest) _ is e))
+          (λ e. Stops e.0 e.1 (moved_as (to_ask (for_loop x.condition x.last x.body) x.rest) _ is e.2))
           (compare_move (record { locals = f.locals; globals = globals }) x.counter x.value knows (omega (arith, short, within)) x.condition x.length f fs
-          (Work.Turn (for_loop x.condition x.last x.body) ∷ x.rest) x.bounded x.short)
+          (for_loop x.condition x.last x.body) x.rest x.bounded x.short)
       go (Joins offset ty is knows less) =
           let short = x.short in
           let g : Frame = record f { work = Work.Perform offset Act.Join ∷ Work.Next (for_loop x.condition x.last x.body) ∷ x.rest; kept = pos (first_thread P x.thread + x.value) ∷ [] } in
@@ -375,8 +383,8 @@ module _ (P : Program) (IsMet : Seen → Type 0) (w : Walker) where
           Unites g
           (at_stage fs f g a x refl (suc x.value) less
           (Counts x.value refl
-          (counts_open x.counter x.last (asked_loop (for_loop x.condition x.last x.body) x.rest)
-          (λ going. in_order going (asked_loop (for_loop x.condition x.last x.body) x.rest) (λ h. settled h x.rest)) x.counts) knows))
+          (counts_open x.counter x.last (to_ask (for_loop x.condition x.last x.body) x.rest)
+          (λ going. in_order going (asked_loop (for_loop x.condition x.last x.body) x.rest (λ h. settled h x.rest)) (λ h. settled h x.rest)) x.counts) knows))
           refl refl offset
           (moved_as _ _ is (ap (λ (vs : List ℤ). Move.Acts offset Act.Join vs (g ∷ fs)) kept))
       go (Counts old next is knows) =
@@ -384,14 +392,16 @@ module _ (P : Program) (IsMet : Seen → Type 0) (w : Walker) where
           let within = x.within in
           ⊎_elim
           (λ e. Same e.0
-          (at_stage fs f e.0 a x e.2 x.value x.within (Asks e.3 (subst (λ n. Knows x.counter n e.0.locals) (sym next) e.4))) refl refl (moved_as _ _ is e.1))
+          (at_stage fs f e.0 a x e.2 x.value x.within
+          (Asks (e.3 ∙ asks_next x.condition x.last x.body x.rest x.counter x.length x.bounded) (subst (λ n. Knows x.counter n e.0.locals) (sym next) e.4))) refl refl
+          (moved_as _ _ is e.1))
           (λ e. Stops e.0 e.1 (moved_as _ _ is e.2))
           (count_move (record { locals = f.locals; globals = globals }) x.counter old knows (omega (arith, short, within, next)) x.last f fs
-          (asked_loop (for_loop x.condition x.last x.body) x.rest) refl x.counts (omega (arith, short, within, next)))
+          (to_ask (for_loop x.condition x.last x.body) x.rest) refl x.counts (omega (arith, short, within, next)))
 
   -- the step that sets the counter
   zero_place : (m : Memory) (i offset : ℕ) (place : Place) (e : Expression) (f : Frame) (fs : List Frame) (k : List Work) → (is_scalar i place && is_number (pos 0) e) ≡ true →
-      (g : Frame) × (statement_move P m f fs k (Statement.Assign offset place (RightSide.Value e)) ≡ Move.Moves (g ∷ fs) [] None) × (g.function ≡ f.function)
+      (g : Frame) × (statement_move P m f fs k (Statement.Assign offset place e) ≡ Move.Moves (g ∷ fs) [] None) × (g.function ≡ f.function)
       × (g.work ≡ settled Onward k) × Knows i 0 g.locals
   zero_place m i offset (Place.Scalar Automatic x t) (Expression.Constant u z) f fs k zero_is =
       let both = and_parts (nat_eq x i) (int_eq z (pos 0)) zero_is in
@@ -408,7 +418,7 @@ module _ (P : Program) (IsMet : Seen → Type 0) (w : Walker) where
 
   pub zero_move : (m : Memory) (i : ℕ) (first : Statement) (f : Frame) (fs : List Frame) (k : List Work) → begins_at_zero i first ≡ true →
       (g : Frame) × (statement_move P m f fs k first ≡ Move.Moves (g ∷ fs) [] None) × (g.function ≡ f.function) × (g.work ≡ settled Onward k) × Knows i 0 g.locals
-  zero_move m i (Statement.Assign offset place (RightSide.Value e)) f fs k zero_is = zero_place m i offset place e f fs k zero_is
+  zero_move m i (Statement.Assign offset place e) f fs k zero_is = zero_place m i offset place e f fs k zero_is
   zero_move m i first f fs k zero_is = absurd (false≢true zero_is)
 
   -- the length of an array of threads is at most their number

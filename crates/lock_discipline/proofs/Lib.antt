@@ -7,6 +7,7 @@ pub mod ReadGlobals
 pub mod Moves
 pub mod Numbers
 pub mod Operands
+pub mod Runners
 pub mod Sure
 pub mod Effects
 pub mod Verdicts

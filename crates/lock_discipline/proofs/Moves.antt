@@ -2,29 +2,29 @@
 use Rattle.std.proofs.Common.{◌≡◌, ℕ, zero, suc, List, [], ◌∷◌, ◌++◌, map, refl, sym, subst, inl, inr}
 use Rattle.std.specs.Prelude.{◌⊎◌, Bool, true, false, not, Option, Some, None, slice_get, ℤ}
 use Rattle.std.specs.List.{AllByRecursion}
-use Rattle.hls_ints.specs.Types.{wrapped}
+use Rattle.hls_ints.specs.Types.{IntegerType, wrapped}
 use Rattle.hls_ints.specs.Operators.{is_zero}
 use Rattle.c_program.specs.declared.tree.Storage.{Storage}
 use Rattle.c_program.specs.declared.tree.Storage.TheVariants.{Automatic, Static}
 use Rattle.lists.proofs.Places.{all_front, all_back}
-use Rattle.c_program.specs.Tree.{Place, Condition, RightSide, ThreadCall, Statement, Function, Program}
-use Rattle.c_program.specs.Resolved.{IsThreadCall, IsFunction, IsResolved}
+use Rattle.c_program.specs.Tree.{Expression, ThreadCall, Statement, Function, Program}
+use Rattle.c_program.specs.Resolved.{IsThreadCall, IsFunction, IsResolved, nowhere, in_switch}
 use Rattle.thread_semantics.specs.Memory.{Location, Memory, Evaluation, Gives, Fails}
 use Rattle.thread_semantics.specs.Value.{value, values}
-use Rattle.thread_semantics.specs.Work.{Work, Act, Going, Onward, settled, decided, waiting_parts, first_operand, first_offset}
+use Rattle.thread_semantics.specs.Work.{Work, Act, Going, Onward, Turning, settled, decided, noted, switched}
 use Rattle.thread_semantics.specs.State.{Frame, begun}
-use Rattle.thread_semantics.specs.Move.{Move, Write, moving, going_on, Assignment, assignment, update, delivery, stored_in, entered, resumed, return_type, returned_value, returned}
-use Rattle.thread_semantics.specs.Move.{operands_of, act_of, prepared, statement_move, store_move, hand_move, end_offset, work_move}
+use Rattle.thread_semantics.specs.Move.{Move, Write, moving, going_on, Assignment, assignment, update, slot_place, keep_in, stored_in, entered, resumed, return_type, returned_value, returned}
+use Rattle.thread_semantics.specs.Move.{operands_of, act_of, prepared, truth_in, statement_move, end_offset, work_move}
 use Rattle.thread_semantics.specs.Races.{Touch, read_of, write_of}
 use Rattle.global_naming.specs.Naming.{variable_globals, expression_globals, expressions_globals, thread_call_globals}
 use Rattle.race_model.proofs.Lists.{all_at}
 use Rattle.lock_discipline.specs.Sets.{Sets, meet, meet_with, past, lowered}
-use Rattle.lock_discipline.specs.Walk.{Seen, TooDeep, Passed, Walker, access, reads, writes, index_globals, target_globals, asked, assigned, calls_in, calls_of_code, calls_within, walk, walk_code, walk_within}
-use Rattle.lock_discipline.proofs.Order.{IsBelow, below_refl, below_trans, meet_left, meet_right, AreSpared, lowered_below, lowered_spares}
+use Rattle.lock_discipline.specs.Walk.{Seen, TooDeep, Passed, Walker, access, reads, writes, index_globals, target_globals, assigned, calls_in, calls_of_code, calls_within, walk, walk_code, walk_within}
+use Rattle.lock_discipline.proofs.Order.{IsBelow, below_refl, below_trans, meet_left, meet_right, AreSpared, lowered_below, lowered_spares, keeps_lowered}
 use Rattle.lock_discipline.proofs.Keeps.{IsBelowIfAny, keeps, keeps_within}
-use Rattle.lock_discipline.proofs.Good.{Weak, weak, weaker, weak_map, WeakIfAny, MayMake, Good, Ready}
-use Rattle.lock_discipline.proofs.Opens.{settled_ready, decided_ready, waiting_good}
-use Rattle.lock_discipline.proofs.ReadGlobals.{Among, AreAmong, Gets, Any, value_gets, values_gets, IsFor, assignment_gets, delivery_gets, update_gets, operands_get}
+use Rattle.lock_discipline.proofs.Good.{Weak, weak, weaker, weak_map, WeakIfAny, MayMake, Covers, Jumps, IsAsked, IsDone, Good, Ready}
+use Rattle.lock_discipline.proofs.Opens.{settled_ready, decided_ready, switched_ready}
+use Rattle.lock_discipline.proofs.ReadGlobals.{Among, AreAmong, Gets, Any, value_gets, values_gets, IsFor, assignment_gets, update_gets, operands_get}
 
 module _ (P : Program) (IsMet : Seen → Type 0) (w : Walker) where
   abbrev pub inside : ℕ → ℕ → List ThreadCall
@@ -163,22 +163,22 @@ module _ (P : Program) (resolved : IsResolved P) (IsMet : Seen → Type 0) (boun
       (weak_map (GoodAt depth (Callers fs) code k Onward) (ReadyAt depth (Callers fs) code (settled Onward k)) s (settles depth (Callers fs) code k Onward) z))
 
   -- a caller goes on
-  resumes : (vs : List ℤ) (k : List Work) (f : Frame) (fs : List Frame) (s : Sets) → f.work ≡ k → IsCall P IsMet w (Callers fs) f s → Weak (Calls (resumed vs k f ∷ fs)) s
-  resumes vs (Work.Drop ∷ k) f fs s is c =
-      let good : GoodAt c.depth (Callers fs) c.code (Work.Drop ∷ k) Onward s = subst (λ q. GoodAt c.depth (Callers fs) c.code q Onward s) is c.good in
-      goes_on c.depth c.code (going_on f k) fs k s c.found refl (weak (GoodAt c.depth (Callers fs) c.code k Onward) s good)
-  resumes vs k f fs s is c =
+  resumes : (v : Option ℤ) (k : List Work) (f : Frame) (fs : List Frame) (s : Sets) → f.work ≡ k → IsCall P IsMet w (Callers fs) f s → Weak (Calls (resumed v k f ∷ fs)) s
+  resumes v (Work.Take into ∷ k) f fs s is c =
+      let good : GoodAt c.depth (Callers fs) c.code (Work.Take into ∷ k) Onward s = subst (λ q. GoodAt c.depth (Callers fs) c.code q Onward s) is c.good in
+      goes_on c.depth c.code (record (going_on f k) { locals = keep_in into v f.locals }) fs k s c.found refl (weak (GoodAt c.depth (Callers fs) c.code k Onward) s good)
+  resumes v k f fs s is c =
       let good : GoodAt c.depth (Callers fs) c.code k Onward s = subst (λ q. GoodAt c.depth (Callers fs) c.code q Onward s) is c.good in
-      rests c.depth c.code (record f { work = k; kept = vs }) fs s c.found (weak (ReadyAt c.depth (Callers fs) c.code k) s (inl good))
+      goes_on c.depth c.code (going_on f k) fs k s c.found refl (weak (GoodAt c.depth (Callers fs) c.code k Onward) s good)
 
   -- a return, after these reads
-  returns_fine : (offset : ℕ) (vs : List ℤ) (rs : List Location) (f : Frame) (fs : List Frame) (s : Sets) → AreTold P IsMet w s (map read_of rs) → Weak (Callers fs) s →
-      IsFine P IsMet w s (returned P offset vs rs f fs)
-  returns_fine offset vs rs f [] s told z = told
-  returns_fine offset vs rs f (g ∷ gs) s told z =
-      let values = returned_value (return_type (slice_get P.functions f.function)) vs in (
+  returns_fine : (offset : ℕ) (v : Option ℤ) (rs : List Location) (f : Frame) (fs : List Frame) (s : Sets) → AreTold P IsMet w s (map read_of rs) → Weak (Callers fs) s →
+      IsFine P IsMet w s (returned P offset v rs f fs)
+  returns_fine offset v rs f [] s told z = told
+  returns_fine offset v rs f (g ∷ gs) s told z =
+      let given = returned_value (return_type (slice_get P.functions f.function)) v in (
         told_both s (map read_of rs) [] told tt,
-        weaker (Calls (resumed values g.work g ∷ gs)) z.0 s z.1 (resumes values g.work g gs z.0 refl z.2),
+        weaker (Calls (resumed given g.work g ∷ gs)) z.0 s z.1 (resumes given g.work g gs z.0 refl z.2),
       )
 
   -- a value is stored, after these reads
@@ -200,7 +200,7 @@ module _ (P : Program) (resolved : IsResolved P) (IsMet : Seen → Type 0) (boun
   below_with l end (Some r) b = (below_trans l (meet end r) end b (meet_left end r), below_trans l (meet end r) r b (meet_right end r))
 
   abbrev body_of : ℕ → Function → Sets → Passed
-  body_of d code s = walk w (calls_within P.functions d) (walk_within w P.functions d) code.body s
+  body_of d code s = walk w (calls_within P.functions d) (walk_within w P.functions d) None code.body s
 
   -- the work of a function that is called
   pub begins : (Returns : Sets → Type 0) (d g : ℕ) (s l : Sets) (code : Function) (arguments : List ℤ) → slice_get P.functions g ≡ Some code →
@@ -210,13 +210,16 @@ module _ (P : Program) (resolved : IsResolved P) (IsMet : Seen → Type 0) (boun
   begins Returns d g s l code arguments at met may after returns z =
       let is : IsFunction P code = all_at (IsFunction P) P.functions g code resolved.functions at in
       settles d Returns code (Work.Do code.body ∷ []) Onward s
-      (record {
-        in_loop = false;
+      (inl (record {
+        place = nowhere;
+        labels = None;
         is = is.body;
         covers = record { met = met; returns = weak_if Returns l (body_of d code s).returns z returns; may = may };
         after = weaker Returns l (body_of d code s).after after z;
-        jumps = tt;
-      })
+        at_labels = tt;
+        leaving = tt;
+        turning = tt;
+      }))
 
   -- the caller of a call, from sets from which its work is good
   waiting : (depth : ℕ) (code : Function) (f : Frame) (fs : List Frame) (k : List Work) (s : Sets) → slice_get P.functions f.function ≡ Some code →
@@ -241,7 +244,7 @@ module _ (P : Program) (resolved : IsResolved P) (IsMet : Seen → Type 0) (boun
           IsFine P IsMet w l (entered o g arguments rs f fs k)
       go None at m q p = tt
       go (Some callee) at m q p =
-          let kept = keeps w (calls_within P.functions d) (walk_within w P.functions d) l (λ h t. keeps_within w P.functions d h l t) callee.body l (below_refl l) p in
+          let kept = keeps w (calls_within P.functions d) (walk_within w P.functions d) l (λ h t. keeps_within w P.functions d h l t) None callee.body l tt (below_refl l) p in
           let begun_ready = begins (Callers (record f { work = k; kept = [] } ∷ fs)) d g l l callee arguments at m q kept.0 kept.1 (waiting (suc d) code f fs k l found z) in (
             told_both l (map read_of rs) [] told tt,
             rests d callee (begun callee g arguments) (record f { work = k; kept = [] } ∷ fs) l at begun_ready,
@@ -251,23 +254,23 @@ module _ (P : Program) (resolved : IsResolved P) (IsMet : Seen → Type 0) (boun
   plain_called : (depth g : ℕ) (code : Function) (arguments : List ℤ) (rs : List Location) (f : Frame) (fs : List Frame) (k : List Work) (s : Sets) →
       slice_get P.functions f.function ≡ Some code → AreTold P IsMet w s (map read_of rs) → AllByRecursion IsMet (walk_within w P.functions depth g s).seen →
       AllByRecursion (MayMake w) (calls_within P.functions depth g) →
-      Weak (GoodAt depth (Callers fs) code k Onward) (walk_within w P.functions depth g s).after → IsFine P IsMet w s (entered (slice_get P.functions g) g arguments rs f fs (Work.Drop ∷ k))
+      Weak (GoodAt depth (Callers fs) code k Onward) (walk_within w P.functions depth g s).after → IsFine P IsMet w s (entered (slice_get P.functions g) g arguments rs f fs (Work.Take None ∷ k))
   plain_called zero g code arguments rs f fs k s found told met may z = absurd (bounded met.0)
   plain_called (suc d) g code arguments rs f fs k s found told met may z = go (slice_get P.functions g) refl met may z
     where
       go : (o : Option Function) → slice_get P.functions g ≡ o → AllByRecursion IsMet (walk_code w (calls_within P.functions d) (walk_within w P.functions d) o s).seen →
           AllByRecursion (MayMake w) (calls_of_code (calls_within P.functions d) o) →
           Weak (GoodAt (suc d) (Callers fs) code k Onward) (walk_code w (calls_within P.functions d) (walk_within w P.functions d) o s).after →
-          IsFine P IsMet w s (entered o g arguments rs f fs (Work.Drop ∷ k))
+          IsFine P IsMet w s (entered o g arguments rs f fs (Work.Take None ∷ k))
       go None at m q y = tt
       go (Some callee) at m q y =
           let l : Sets = meet_with (body_of d callee s).after (body_of d callee s).returns in
           let kept = below_with l (body_of d callee s).after (body_of d callee s).returns (below_refl l) in
           let begun_ready =
-          begins (Callers (record f { work = Work.Drop ∷ k; kept = [] } ∷ fs)) d g s l callee arguments at m q kept.0 kept.1
-          (waiting (suc d) code f fs (Work.Drop ∷ k) l found y) in (
+          begins (Callers (record f { work = Work.Take None ∷ k; kept = [] } ∷ fs)) d g s l callee arguments at m q kept.0 kept.1
+          (waiting (suc d) code f fs (Work.Take None ∷ k) l found y) in (
             told_both s (map read_of rs) [] told tt,
-            rests d callee (begun callee g arguments) (record f { work = Work.Drop ∷ k; kept = [] } ∷ fs) s at begun_ready,
+            rests d callee (begun callee g arguments) (record f { work = Work.Take None ∷ k; kept = [] } ∷ fs) s at begun_ready,
           )
 
   abbrev Fine : Move → Sets → Type 0
@@ -286,35 +289,122 @@ module _ (P : Program) (resolved : IsResolved P) (IsMet : Seen → Type 0) (boun
   written_told : (s : Sets) (offset : ℕ) (ys : List ℕ) → AllByRecursion IsMet (writes w s offset ys) → (x : ℕ) → Among x ys → (o : ℕ) × IsMet (access w s o true x)
   written_told s offset ys m x a = (offset, met_at (access w s offset true) ys x m a)
 
+  decides : (depth : ℕ) (code : Function) (f : Frame) (fs : List Frame) (k : List Work) (truth : Bool) (locals : List (List (Option ℤ))) (s : Sets) →
+      slice_get P.functions f.function ≡ Some code → Weak (GoodAt depth (Callers fs) code k Onward) s →
+      Weak (Calls (record f { locals = locals; work = decided truth k; kept = [] } ∷ fs)) s
+  decides depth code f fs k truth locals s found z =
+      rests depth code (record f { locals = locals; work = decided truth k; kept = [] }) fs s found
+      (weak_map (GoodAt depth (Callers fs) code k Onward) (ReadyAt depth (Callers fs) code (decided truth k)) s
+      (decided_ready P IsMet w (calls_within P.functions depth) (walk_within w P.functions depth) (keeps_within w P.functions depth) (Callers fs) code truth k) z)
+
+  abbrev AskedAt : ℕ → (Sets → Type 0) → Function → Bool → Statement → Sets → Type 0
+  AskedAt depth Returns code truth st s = IsAsked P IsMet w (calls_within P.functions depth) (walk_within w P.functions depth) Returns code truth st s
+
+  -- the step of what is evaluated before another step
+  before_fine : (depth : ℕ) (code : Function) (m : Memory) (f : Frame) (fs : List Frame) (k : List Work) (s : Sets) (st : Statement) →
+      slice_get P.functions f.function ≡ Some code → AskedAt depth (Callers fs) code false st s → Weak (GoodAt depth (Callers fs) code k Onward) s →
+      Fine (statement_move P m f fs k st) s
+  before_fine depth code m f fs k s (Statement.Call offset (Some slot) h arguments) found q z =
+      let front = all_front IsMet (reads w s offset (expressions_globals arguments)) (walk_within w P.functions depth h s).seen q.met in
+      let callee = all_back IsMet (reads w s offset (expressions_globals arguments)) (walk_within w P.functions depth h s).seen q.met in
+      moving_fine s Any (expressions_globals arguments) offset (values arguments m) (λ vs rs. entered (slice_get P.functions h) h vs rs f fs (Work.Take (Some slot) ∷ k))
+      (values_gets arguments m)
+      (λ vs rs _ among. value_called depth h code vs rs f fs (Work.Take (Some slot) ∷ k) s found
+      (reads_told s offset (expressions_globals arguments) rs front among) callee q.may q.spares z)
+  before_fine depth code m f fs k s (Statement.Keep offset slot ty operand) found q z =
+      moving_fine s (IsFor (slot_place slot)) (expression_globals operand ++ []) offset (assignment (slot_place slot) (Expression.Cast ty operand) m)
+      (λ a rs. stored_in a.target.storage a rs f fs k)
+      (assignment_gets (slot_place slot) (Expression.Cast ty operand) m)
+      (λ a rs is among. stored_fine depth code a.target.storage a rs f fs k s [] found
+      (both_told s offset (expression_globals operand) [] rs q.met tt among) (written_told s offset [] tt) is z)
+  before_fine depth code m f fs k s Statement.Done found q z = tt
+  before_fine depth code m f fs k s (Statement.Sequence first next) found q z = tt
+  before_fine depth code m f fs k s (Statement.Truth slot condition) found q z = tt
+  before_fine depth code m f fs k s (Statement.If condition x y) found q z = tt
+  before_fine depth code m f fs k s st found q z = absurd q.is
+
+  -- an operand of a condition
+  operand_fine : (depth : ℕ) (code : Function) (m : Memory) (f : Frame) (fs : List Frame) (k : List Work) (s : Sets) (st : Statement) →
+      slice_get P.functions f.function ≡ Some code → AskedAt depth (Callers fs) code true st s → Weak (GoodAt depth (Callers fs) code k Onward) s →
+      Fine (statement_move P m f fs k st) s
+  operand_fine depth code m f fs k s (Statement.Test offset operand) found q z =
+      moving_fine s Any (expression_globals operand) offset (value operand m)
+      (λ v rs. Move.Moves (record f { locals = truth_in (noted (not (is_zero v)) k) f.locals; work = decided (not (is_zero v)) k; kept = [] } ∷ fs) rs None)
+      (value_gets operand m)
+      (λ v rs _ among. (
+        told_only s offset (expression_globals operand) rs (λ x b. met_at (access w s offset false) (expression_globals operand) x q.met b) among,
+        decides depth code f fs k (not (is_zero v)) (truth_in (noted (not (is_zero v)) k) f.locals) s found z,
+      ))
+  operand_fine depth code m f fs k s (Statement.Sequence first next) found q z = tt
+  operand_fine depth code m f fs k s (Statement.Both first second) found q z = tt
+  operand_fine depth code m f fs k s (Statement.Either first second) found q z = tt
+  operand_fine depth code m f fs k s (Statement.Opposite turned) found q z = tt
+  operand_fine depth code m f fs k s st found q z = absurd q.is
+
+  part_fine : (depth : ℕ) (code : Function) (m : Memory) (f : Frame) (fs : List Frame) (k : List Work) (s : Sets) (st : Statement) (truth : Bool) →
+      slice_get P.functions f.function ≡ Some code → AskedAt depth (Callers fs) code truth st s → Weak (GoodAt depth (Callers fs) code k Onward) s →
+      Fine (statement_move P m f fs k st) s
+  part_fine depth code m f fs k s st true found q z = operand_fine depth code m f fs k s st found q z
+  part_fine depth code m f fs k s st false found q z = before_fine depth code m f fs k s st found q z
+
+  abbrev DoneAt : ℕ → Function → List Frame → List Work → Statement → Sets → Type 0
+  DoneAt depth code fs k st s =
+      IsDone P IsMet w (calls_within P.functions depth) (walk_within w P.functions depth) (Callers fs) code
+      (Good P IsMet w (calls_within P.functions depth) (walk_within w P.functions depth) (Callers fs) code k) st s
+
+  -- a switch, with the sets that are so throughout it
+  switch_fine : (depth : ℕ) (code : Function) (m : Memory) (f : Frame) (fs : List Frame) (k : List Work) (s : Sets) (offset : ℕ) (ty : IntegerType) (operand : Expression)
+      (body : Statement) → slice_get P.functions f.function ≡ Some code → DoneAt depth code fs k (Statement.Switch offset ty operand body) s →
+      Weak (Fine (statement_move P m f fs k (Statement.Switch offset ty operand body))) s
+  switch_fine depth code m f fs k s offset ty operand body found g =
+      let calls = calls_in (calls_within P.functions depth) body in
+      let l : Sets = lowered s calls in
+      let is = g.is in
+      let passed = walk w (calls_within P.functions depth) (walk_within w P.functions depth) (Some l) body l in
+      let front = all_front IsMet (reads w l offset (expression_globals operand)) passed.seen g.covers.met in
+      let covers : Covers P IsMet w (calls_within P.functions depth) (walk_within w P.functions depth) (Callers fs) code (Some l) body l =
+      record { met = all_back IsMet (reads w l offset (expression_globals operand)) passed.seen g.covers.met; returns = g.covers.returns; may = g.covers.may } in
+      let spares = lowered_spares s calls in (
+        l,
+        lowered_below s calls,
+        moving_fine l Any (expression_globals operand) offset (value operand m)
+            (λ v rs. Move.Moves (record f { work = switched (wrapped ty v) body k; kept = [] } ∷ fs) rs None) (value_gets operand m)
+            (λ v rs _ among. (
+              told_only l offset (expression_globals operand) rs (λ x b. met_at (access w l offset false) (expression_globals operand) x front b) among,
+              rests depth code (record f { work = switched (wrapped ty v) body k; kept = [] }) fs l found
+                  (switched_ready P IsMet w (calls_within P.functions depth) (walk_within w P.functions depth) (keeps_within w P.functions depth) (Callers fs) code (wrapped ty v) body
+                  (in_switch ty g.place) l k is.2 covers spares g.after (l, (below_refl l, spares, below_refl l), g.after)
+                  (turns depth code fs k body s (Statement.Switch offset ty operand body) g.place.turns g.labels refl g.turning)),
+            )),
+      )
+    where
+      turns : (depth : ℕ) (code : Function) (fs : List Frame) (k : List Work) (body : Statement) (s : Sets) (st : Statement) (b : Bool) (labels : Option Sets) →
+          calls_in (calls_within P.functions depth) st ≡ calls_in (calls_within P.functions depth) body →
+          Jumps P IsMet w (calls_within P.functions depth) (walk_within w P.functions depth) (Callers fs) code b (GoodAt depth (Callers fs) code k Turning) labels st s →
+          let l = lowered s (calls_in (calls_within P.functions depth) body) in
+          Jumps P IsMet w (calls_within P.functions depth) (walk_within w P.functions depth) (Callers fs) code b (GoodAt depth (Callers fs) code k Turning) (Some l) body l
+      turns depth code fs k body s st false labels same j = tt
+      turns depth code fs k body s st true labels same j =
+          let calls = calls_in (calls_within P.functions depth) body in
+          let spared : AreSpared j.0 calls = subst (AreSpared j.0) same j.1.1 in
+          let below = keeps_lowered j.0 s calls j.1.0 spared in
+          (j.0, (below, spared, below), j.2)
+
   -- a statement that takes a step
   statement_fine : (depth : ℕ) (code : Function) (m : Memory) (f : Frame) (fs : List Frame) (k : List Work) (s : Sets) (st : Statement) →
-      slice_get P.functions f.function ≡ Some code → GoodAt depth (Callers fs) code (Work.Do st ∷ k) Onward s → Weak (Fine (statement_move P m f fs k st)) s
+      slice_get P.functions f.function ≡ Some code → DoneAt depth code fs k st s → Weak (Fine (statement_move P m f fs k st)) s
   statement_fine depth code m f fs k s (Statement.Declare offset x operators) found g =
       weak (Fine (statement_move P m f fs k (Statement.Declare offset x operators))) s (tt, goes_on depth code _ fs k s found refl g.after)
-  statement_fine depth code m f fs k s (Statement.Assign offset place (RightSide.Value right)) found g =
+  statement_fine depth code m f fs k s (Statement.Assign offset place right) found g =
       let front = all_front IsMet (reads w s offset (expression_globals right)) (assigned w s offset place) g.covers.met in
       let back = all_back IsMet (reads w s offset (expression_globals right)) (assigned w s offset place) g.covers.met in
       let index = all_front IsMet (reads w s offset (index_globals place)) (writes w s offset (target_globals place)) back in
       let target = all_back IsMet (reads w s offset (index_globals place)) (writes w s offset (target_globals place)) back in
-      weak (Fine (statement_move P m f fs k (Statement.Assign offset place (RightSide.Value right)))) s
+      weak (Fine (statement_move P m f fs k (Statement.Assign offset place right))) s
       (moving_fine s (IsFor place) (expression_globals right ++ index_globals place) offset (assignment place right m) (λ a rs. stored_in a.target.storage a rs f fs k)
       (assignment_gets place right m)
       (λ a rs is among. stored_fine depth code a.target.storage a rs f fs k s (target_globals place) found
       (both_told s offset (expression_globals right) (index_globals place) rs front index among) (written_told s offset (target_globals place) target) is g.after))
-  statement_fine depth code m f fs k s (Statement.Assign offset place (RightSide.Call h arguments)) found g =
-      let l : Sets = lowered s (calls_within P.functions depth h) in
-      let front = all_front IsMet (reads w l offset (expressions_globals arguments)) ((walk_within w P.functions depth h l).seen ++ assigned w l offset place) g.covers.met in
-      let back = all_back IsMet (reads w l offset (expressions_globals arguments)) ((walk_within w P.functions depth h l).seen ++ assigned w l offset place) g.covers.met in
-      let callee = all_front IsMet (walk_within w P.functions depth h l).seen (assigned w l offset place) back in
-      let stores = all_back IsMet (walk_within w P.functions depth h l).seen (assigned w l offset place) back in (
-        l,
-        lowered_below s (calls_within P.functions depth h),
-        moving_fine l Any (expressions_globals arguments) offset (values arguments m) (λ vs rs. entered (slice_get P.functions h) h vs rs f fs (Work.Store offset place ∷ k))
-            (values_gets arguments m)
-            (λ vs rs _ among. value_called depth h code vs rs f fs (Work.Store offset place ∷ k) l found
-            (reads_told l offset (expressions_globals arguments) rs front among) callee g.covers.may (lowered_spares s (calls_within P.functions depth h))
-            (weak (GoodAt depth (Callers fs) code (Work.Store offset place ∷ k) Onward) l (stores, g.after))),
-      )
   statement_fine depth code m f fs k s (Statement.Update offset place operator ty right) found g =
       let whole = reads w s offset (target_globals place) ++ assigned w s offset place in
       let front = all_front IsMet (reads w s offset (expression_globals right)) whole g.covers.met in
@@ -336,30 +426,31 @@ module _ (P : Program) (resolved : IsResolved P) (IsMet : Seen → Type 0) (boun
       (λ x b. met_at (access w s offset false) (expression_globals right) x front b) tell) among)
       (written_told s offset (target_globals place) target) is g.after))
   statement_fine depth code m f fs k s (Statement.Return offset None) found g =
-      weak (Fine (statement_move P m f fs k (Statement.Return offset None))) s (returns_fine offset [] [] f fs s tt g.covers.returns)
-  statement_fine depth code m f fs k s (Statement.Return offset (Some (RightSide.Value e))) found g =
-      weak (Fine (statement_move P m f fs k (Statement.Return offset (Some (RightSide.Value e))))) s
-      (moving_fine s Any (expression_globals e) offset (value e m) (λ v rs. returned P offset (v ∷ []) rs f fs) (value_gets e m)
-      (λ v rs _ among. returns_fine offset (v ∷ []) rs f fs s (reads_told s offset (expression_globals e) rs g.covers.met among) g.covers.returns))
-  statement_fine depth code m f fs k s (Statement.Return offset (Some (RightSide.Call h arguments))) found g =
-      let l : Sets = lowered s (calls_within P.functions depth h) in
-      let front = all_front IsMet (reads w l offset (expressions_globals arguments)) (walk_within w P.functions depth h l).seen g.covers.met in
-      let callee = all_back IsMet (reads w l offset (expressions_globals arguments)) (walk_within w P.functions depth h l).seen g.covers.met in (
-        l,
-        lowered_below s (calls_within P.functions depth h),
-        moving_fine l Any (expressions_globals arguments) offset (values arguments m) (λ vs rs. entered (slice_get P.functions h) h vs rs f fs (Work.Hand offset ∷ k))
-            (values_gets arguments m)
-            (λ vs rs _ among. value_called depth h code vs rs f fs (Work.Hand offset ∷ k) l found
-            (reads_told l offset (expressions_globals arguments) rs front among) callee g.covers.may (lowered_spares s (calls_within P.functions depth h))
-            (weak (GoodAt depth (Callers fs) code (Work.Hand offset ∷ k) Onward) l g.covers.returns)),
-      )
-  statement_fine depth code m f fs k s (Statement.Call offset h arguments) found g =
+      weak (Fine (statement_move P m f fs k (Statement.Return offset None))) s (returns_fine offset None [] f fs s tt g.covers.returns)
+  statement_fine depth code m f fs k s (Statement.Return offset (Some e)) found g =
+      weak (Fine (statement_move P m f fs k (Statement.Return offset (Some e)))) s
+      (moving_fine s Any (expression_globals e) offset (value e m) (λ v rs. returned P offset (Some v) rs f fs) (value_gets e m)
+      (λ v rs _ among. returns_fine offset (Some v) rs f fs s (reads_told s offset (expression_globals e) rs g.covers.met among) g.covers.returns))
+  statement_fine depth code m f fs k s (Statement.Call offset None h arguments) found g =
       let front = all_front IsMet (reads w s offset (expressions_globals arguments)) (walk_within w P.functions depth h s).seen g.covers.met in
       let callee = all_back IsMet (reads w s offset (expressions_globals arguments)) (walk_within w P.functions depth h s).seen g.covers.met in
-      weak (Fine (statement_move P m f fs k (Statement.Call offset h arguments))) s
-      (moving_fine s Any (expressions_globals arguments) offset (values arguments m) (λ vs rs. entered (slice_get P.functions h) h vs rs f fs (Work.Drop ∷ k))
+      weak (Fine (statement_move P m f fs k (Statement.Call offset None h arguments))) s
+      (moving_fine s Any (expressions_globals arguments) offset (values arguments m) (λ vs rs. entered (slice_get P.functions h) h vs rs f fs (Work.Take None ∷ k))
       (values_gets arguments m)
       (λ vs rs _ among. plain_called depth h code vs rs f fs k s found (reads_told s offset (expressions_globals arguments) rs front among) callee g.covers.may g.after))
+  statement_fine depth code m f fs k s (Statement.Call offset (Some slot) h arguments) found g =
+      let calls = calls_within P.functions depth h in (
+        lowered s calls,
+        lowered_below s calls,
+        before_fine depth code m f fs k (lowered s calls) (Statement.Call offset (Some slot) h arguments) found
+            (record { is = g.is; met = g.covers.met; may = g.covers.may; spares = lowered_spares s calls }) g.after,
+      )
+  statement_fine depth code m f fs k s (Statement.Keep offset slot ty operand) found g =
+      weak (Fine (statement_move P m f fs k (Statement.Keep offset slot ty operand))) s
+      (before_fine depth code m f fs k s (Statement.Keep offset slot ty operand) found
+      (record { is = g.is; met = g.covers.met; may = tt; spares = tt }) g.after)
+  statement_fine depth code m f fs k s (Statement.Test offset operand) found g = absurd g.is
+  statement_fine depth code m f fs k s (Statement.Switch offset ty operand body) found g = switch_fine depth code m f fs k s offset ty operand body found g
   statement_fine depth code m f fs k s (Statement.Print offset format arguments) found g =
       weak (Fine (statement_move P m f fs k (Statement.Print offset format arguments))) s
       (moving_fine s Any (expressions_globals arguments) offset (values arguments m)
@@ -406,54 +497,14 @@ module _ (P : Program) (resolved : IsResolved P) (IsMet : Seen → Type 0) (boun
           )
   statement_fine depth code m f fs k s st found g = weak (Fine (statement_move P m f fs k st)) s tt
 
-  -- the operand of a condition that is asked first
-  first_met : (condition : Condition) (s : Sets) (rs : List Location) → AllByRecursion IsMet (asked w s condition) → AreAmong (expression_globals (first_operand condition)) rs →
-      AreTold P IsMet w s (map read_of rs)
-  first_met (Condition.Operand offset operand) s rs m a = reads_told s offset (expression_globals operand) rs m a
-  first_met (Condition.Both first second) s rs m a = first_met first s rs (all_front IsMet (asked w s first) (asked w s second) m) a
-  first_met (Condition.Either first second) s rs m a = first_met first s rs (all_front IsMet (asked w s first) (asked w s second) m) a
-  first_met (Condition.Opposite inner) s rs m a = first_met inner s rs m a
-
-  decides : (depth : ℕ) (code : Function) (f : Frame) (fs : List Frame) (k : List Work) (truth : Bool) (s : Sets) → slice_get P.functions f.function ≡ Some code →
-      GoodAt depth (Callers fs) code k Onward s → Weak (Calls (record f { work = decided truth k; kept = [] } ∷ fs)) s
-  decides depth code f fs k truth s found g =
-      rests depth code (record f { work = decided truth k; kept = [] }) fs s found
-      (decided_ready P IsMet w (calls_within P.functions depth) (walk_within w P.functions depth) (keeps_within w P.functions depth) (Callers fs) code truth k s g)
-
-  store_fine : (depth : ℕ) (code : Function) (offset : ℕ) (place : Place) (m : Memory) (f : Frame) (fs : List Frame) (k : List Work) (kept : List ℤ) (s : Sets) →
-      slice_get P.functions f.function ≡ Some code → GoodAt depth (Callers fs) code (Work.Store offset place ∷ k) Onward s → IsFine P IsMet w s (store_move offset place m f fs k kept)
-  store_fine depth code offset place m f fs k [] s found g = tt
-  store_fine depth code offset place m f fs k (v ∷ vs) s found g =
-      let index = all_front IsMet (reads w s offset (index_globals place)) (writes w s offset (target_globals place)) g.0 in
-      let target = all_back IsMet (reads w s offset (index_globals place)) (writes w s offset (target_globals place)) g.0 in
-      moving_fine s (IsFor place) (index_globals place) offset (delivery place v m) (λ a rs. stored_in a.target.storage a rs f fs k) (delivery_gets place v m)
-      (λ a rs is among. stored_fine depth code a.target.storage a rs f fs k s (target_globals place) found
-      (reads_told s offset (index_globals place) rs index among) (written_told s offset (target_globals place) target) is g.1)
-
-  hand_fine : (offset : ℕ) (f : Frame) (fs : List Frame) (kept : List ℤ) (s : Sets) → Weak (Callers fs) s → IsFine P IsMet w s (hand_move P offset f fs kept)
-  hand_fine offset f fs [] s z = tt
-  hand_fine offset f fs (v ∷ vs) s z = returns_fine offset (v ∷ []) [] f fs s tt z
-
   -- the step of a call, by its first work
   pub work_fine : (depth : ℕ) (code : Function) (m : Memory) (f : Frame) (fs : List Frame) (work : List Work) (s : Sets) → slice_get P.functions f.function ≡ Some code →
       GoodAt depth (Callers fs) code work Onward s → Weak (Fine (work_move P m f fs work)) s
   work_fine depth code m f fs [] s found g =
-      weak (Fine (work_move P m f fs [])) s (returns_fine (end_offset (slice_get P.functions f.function)) [] [] f fs s tt (weak (Callers fs) s g))
-  work_fine depth code m f fs (Work.Do st ∷ k) s found g = statement_fine depth code m f fs k s st found g
-  work_fine depth code m f fs (Work.Ask condition ∷ k) s found g =
-      weak (Fine (work_move P m f fs (Work.Ask condition ∷ k))) s
-      (moving_fine s Any (expression_globals (first_operand condition)) (first_offset condition) (value (first_operand condition) m)
-      (λ v rs. Move.Moves (record f { work = decided (not (is_zero v)) (waiting_parts condition k); kept = [] } ∷ fs) rs None)
-      (value_gets (first_operand condition) m)
-      (λ v rs _ among. (
-        told_both s (map read_of rs) [] (first_met condition s rs g.0 among) tt,
-        decides depth code f fs (waiting_parts condition k) (not (is_zero v)) s found
-            (waiting_good P IsMet w (calls_within P.functions depth) (walk_within w P.functions depth) (keeps_within w P.functions depth) (Callers fs) code condition k s g.0 g.1),
-      )))
-  work_fine depth code m f fs (Work.Store offset place ∷ k) s found g =
-      weak (Fine (work_move P m f fs (Work.Store offset place ∷ k))) s (store_fine depth code offset place m f fs k f.kept s found g)
-  work_fine depth code m f fs (Work.Hand offset ∷ k) s found g =
-      weak (Fine (work_move P m f fs (Work.Hand offset ∷ k))) s (hand_fine offset f fs f.kept s g)
+      weak (Fine (work_move P m f fs [])) s (returns_fine (end_offset (slice_get P.functions f.function)) None [] f fs s tt (weak (Callers fs) s g))
+  work_fine depth code m f fs (Work.Do st ∷ k) s found (inl g) = statement_fine depth code m f fs k s st found g
+  work_fine depth code m f fs (Work.Do st ∷ k) s found (inr g) =
+      weak (Fine (work_move P m f fs (Work.Do st ∷ k))) s (part_fine depth code m f fs k s st g.0 found g.1 g.2)
   work_fine depth code m f fs (Work.Perform offset act ∷ k) s found g = absurd g
   work_fine depth code m f fs (item ∷ k) s found g = weak (Fine (work_move P m f fs (item ∷ k))) s tt
 

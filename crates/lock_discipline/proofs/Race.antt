@@ -10,11 +10,12 @@ use Rattle.thread_semantics.specs.State.{Frame, Slot, Unused, Running, State}
 use Rattle.thread_semantics.specs.Races.{Touch}
 use Rattle.lock_discipline.specs.Sets.{Sets, has, has_all}
 use Rattle.lock_discipline.specs.Walk.{Access, Touches}
-use Rattle.lock_discipline.specs.Discipline.{all_seen}
+use Rattle.lock_discipline.specs.Discipline.{all_seen, owners}
 use Rattle.lock_discipline.proofs.Moves.{IsTold}
 use Rattle.lock_discipline.proofs.Numbers.{object_at}
+use Rattle.lock_discipline.proofs.Runners.{runner, owner_is_one}
 use Rattle.lock_discipline.proofs.Sure.{walker, IsHeld, IsIdOf, IsSure}
-use Rattle.lock_discipline.proofs.Verdicts.{IsOne, IsDisciplined, IsKeptApart, Main, Guard, kept_apart}
+use Rattle.lock_discipline.proofs.Verdicts.{IsOne, IsDisciplined, IsKeptApart, Own, Guard, kept_apart}
 use Rattle.lock_discipline.proofs.Founded.{IsMet}
 
 data Where (a b : ℕ) : Type 0 where
@@ -51,7 +52,7 @@ module _ (P : Program) where
     pub one : IsOne (Touches access) (all_seen P)
     pub global : access.global ≡ t.place.variable
     pub written : access.written ≡ t.written
-    pub main : access.main ≡ nat_eq i 0
+    pub function : access.function ≡ runner P i
     pub quiet : access.quiet ≡ true → (i ≡ 0) × ((x j : ℕ) → IsIdOf P x j → slice_get s.slots j ≡ Some Unused)
     pub held : (m : ℕ) → has access.held m ≡ true → IsHeld P s i m
 
@@ -66,14 +67,14 @@ module _ (P : Program) where
       offset = told.0;
       global = t.place.variable;
       written = t.written;
-      main = nat_eq i 0;
+      function = runner P i;
       quiet = nat_eq i 0 && has_all (length P.threads) a.unused;
       held = a.held;
     };
     one = told.1;
     global = refl;
     written = refl;
-    main = refl;
+    function = refl;
     quiet = λ e. (let both = and_parts (nat_eq i 0) (has_all (length P.threads) a.unused) e in
         let zero_is : i ≡ 0 = eqb-true i 0 both.0 in
         (zero_is, λ x j id. sure.unused zero_is x j (has_each (length P.threads) x a.unused both.1 (below P.threads x id.object id.found)) id));
@@ -116,13 +117,10 @@ module _ (P : Program) where
         let qa : a.access.quiet ≡ false = loud a.access.quiet (λ e. alone i j js p a e apart atj) in
         let qb : b.access.quiet ≡ false = loud b.access.quiet (λ e. alone j i is q b e (λ z. apart (sym z)) ati) in
         let w : (a.access.written || b.access.written) ≡ true = ap (λ (x : Bool). x || b.access.written) a.written ∙ ap (λ (x : Bool). p.written || x) b.written ∙ written in
-        go (kept_apart (length P.mutexes) (all_seen P) p.place.variable a.access b.access (d.each p.place.variable declared) a.one b.one a.global (b.global ∙ sym same) qa qb w)
+        go (kept_apart (owners P) (length P.mutexes) (all_seen P) p.place.variable a.access b.access (d.each p.place.variable declared) a.one b.one a.global (b.global ∙ sym same) qa qb w)
       where
-        go : IsKeptApart a.access b.access → ⊥
-        go (Main x y) =
-            let zi : i ≡ 0 = eqb-true i 0 (sym a.main ∙ x) in
-            let zj : j ≡ 0 = eqb-true j 0 (sym b.main ∙ y) in
-            apart (zi ∙ sym zj)
+        go : IsKeptApart (owners P) a.access b.access → ⊥
+        go (Own f own x y) = apart (owner_is_one P i j f own (sym a.function ∙ x) (sym b.function ∙ y))
         go (Guard m x y) =
             let both = sym (a.held m x).owned ∙ (b.held m y).owned in
             apart cc

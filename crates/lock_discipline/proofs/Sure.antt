@@ -16,11 +16,12 @@ use Rattle.lock_discipline.specs.Walk.{Walker}
 use Rattle.lock_discipline.proofs.Order.{IsBelow, set_back, unset_has, unset_back}
 use Rattle.lock_discipline.proofs.Numbers.{one_object}
 use Rattle.lock_discipline.proofs.Operands.{IsNumber, threads_at, mutexes_at}
+use Rattle.lock_discipline.proofs.Runners.{runner}
 
 module _ (P : Program) where
   -- whose walk a thread's is
   abbrev pub walker : ℕ → Walker
-  walker i = record { main = nat_eq i 0; threads = length P.threads }
+  walker i = record { main = nat_eq i 0; function = runner P i; threads = length P.threads }
 
   -- thread i holds the mutex, which is an object with an element
   pub record IsHeld (s : State) (i m : ℕ) : Type 0 where
