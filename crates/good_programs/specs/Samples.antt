@@ -4,7 +4,7 @@ use Rattle.hls_ints.specs.Types.{int_type, long_int}
 use Rattle.c_program.specs.declared.tree.Storage.TheVariants.{Automatic, Static}
 use Rattle.c_program.specs.declared.tree.BinaryOperator.TheVariants.{Add, Multiply}
 use Rattle.c_program.specs.declared.tree.ReturnType.TheVariants.{Integer, Pointer}
-use Rattle.c_program.specs.Tree.{Expression, Place, RightSide, ObjectPlace, ThreadCall, Piece, Statement, Function, Program}
+use Rattle.c_program.specs.Tree.{Expression, Place, ObjectPlace, ThreadCall, Piece, Statement, Function, Program}
 use Rattle.c_program.specs.Resolved.{scalar}
 
 abbrev number : ℕ → Expression
@@ -14,7 +14,7 @@ abbrev x : Expression
 x = Expression.Variable Automatic 0 int_type
 
 abbrev assigned : Expression → Statement
-assigned e = Statement.Assign 0 (Place.Scalar Automatic 0 int_type) (RightSide.Value e)
+assigned e = Statement.Assign 0 (Place.Scalar Automatic 0 int_type) e
 
 -- int main(void) { int x = 6; x = x * 7; printf("%d\n", x); return 0; }
 abbrev pub first : Program
@@ -23,13 +23,14 @@ first = record {
     name = [];
     returns = Integer int_type;
     parameters = 0;
+    declared_locals = 1;
     locals = scalar int_type ∷ [];
     local_names = (120 ∷ []) ∷ [];
     body =
         Statement.Sequence (assigned (number 6))
         (Statement.Sequence (assigned (Expression.Binary Multiply int_type x (number 7)))
         (Statement.Sequence (Statement.Print 0 (Piece.Conversion int_type ∷ Piece.Text (10 ∷ []) ∷ []) (x ∷ []))
-        (Statement.Return 0 (Some (RightSide.Value (number 0))))));
+        (Statement.Return 0 (Some (number 0)))));
     end = 0;
   } ∷ [];
   main = 0;
@@ -54,6 +55,7 @@ routine_of body = record {
   name = 119 ∷ [];
   returns = Pointer;
   parameters = 1;
+  declared_locals = 1;
   locals = scalar long_int ∷ [];
   local_names = (97 ∷ []) ∷ [];
   body = list_of body;
@@ -66,6 +68,7 @@ main_of body = record {
   name = codes "main";
   returns = Integer int_type;
   parameters = 0;
+  declared_locals = 0;
   locals = [];
   local_names = [];
   body = list_of body;
@@ -92,13 +95,13 @@ only = ObjectPlace.Single 0
 abbrev raised : Statement
 raised =
     Statement.Assign 0 (Place.Scalar Static 0 int_type)
-    (RightSide.Value (Expression.Binary Add int_type (Expression.Variable Static 0 int_type) (number 1)))
+    (Expression.Binary Add int_type (Expression.Variable Static 0 int_type) (number 1))
 
 abbrev return_null : Statement
-return_null = Statement.Return 0 (Some (RightSide.Value null))
+return_null = Statement.Return 0 (Some null)
 
 abbrev return_zero : Statement
-return_zero = Statement.Return 0 (Some (RightSide.Value (number 0)))
+return_zero = Statement.Return 0 (Some (number 0))
 
 abbrev create : Statement
 create = called (ThreadCall.Create only 0 null)
