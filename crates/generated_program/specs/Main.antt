@@ -4,7 +4,7 @@ use Rattle.hls_ints.specs.Types.{int_type, unsigned_int, long_int}
 use Rattle.c_program.specs.declared.tree.Storage.TheVariants.{Automatic, Static}
 use Rattle.c_program.specs.declared.tree.BinaryOperator.TheVariants.{Less, Add}
 use Rattle.c_program.specs.declared.tree.ReturnType.TheVariants.{Integer}
-use Rattle.c_program.specs.Tree.{Expression, Place, Condition, RightSide, ObjectPlace, ThreadCall, Piece, Statement, Function}
+use Rattle.c_program.specs.Tree.{Expression, Place, ObjectPlace, ThreadCall, Piece, Statement, Function}
 use Rattle.c_program.specs.Resolved.{scalar}
 use Rattle.generated_program.specs.Worker.{side_by_side, int_number}
 
@@ -17,8 +17,8 @@ counter_place = Place.Scalar Automatic 0 int_type
 -- for (i = 0; i < threads; i++) { body }
 abbrev pub counted : ℕ → ℕ → ℕ → ℕ → Statement → Statement
 counted threads first test step body =
-    Statement.For (Statement.Assign first counter_place (RightSide.Value (int_number 0)))
-    (Condition.Operand test (Expression.Binary Less int_type counter (int_number threads)))
+    Statement.For (Statement.Assign first counter_place (int_number 0))
+    (Statement.Test test (Expression.Binary Less int_type counter (int_number threads)))
     (Statement.Update step counter_place Add int_type (int_number 1))
     (Statement.Block body)
 
@@ -47,7 +47,7 @@ main_statements threads at =
     ∷ counted threads (at 10) (at 11) (at 12) (printed (at 13) (Expression.Element Static 1 threads unsigned_int counter))
     ∷ printed (at 14) (Expression.Variable Static 0 unsigned_int)
     ∷ Statement.Thread (at 15) (ThreadCall.MutexDestroy (ObjectPlace.Single 0))
-    ∷ Statement.Return (at 16) (Some (RightSide.Value (int_number 0)))
+    ∷ Statement.Return (at 16) (Some (int_number 0))
     ∷ []
 
 pub record IsMain (threads : ℕ) (f : Function) : Type 0 where

@@ -12,7 +12,7 @@ use Rattle.c_program.specs.declared.tree.BinaryOperator.{BinaryOperator}
 use Rattle.c_program.specs.declared.tree.BinaryOperator.TheVariants as operator
 use Rattle.c_program.specs.declared.tree.LocalVariable.{LocalVariable}
 use Rattle.c_program.specs.declared.tree.ReturnType.TheVariants.{Pointer}
-use Rattle.c_program.specs.Tree.{Expression, Place, Condition, RightSide, ObjectPlace, ThreadCall, Statement, Function}
+use Rattle.c_program.specs.Tree.{Expression, Place, ObjectPlace, ThreadCall, Statement, Function}
 use Rattle.c_program.specs.Resolved.{scalar}
 
 -- the statements that stand side by side in one, in their order, however they are joined
@@ -47,7 +47,7 @@ abbrev pub id : Expression
 id = Expression.Variable Automatic 1 long_int
 
 abbrev pub assigned : ℕ → Letter → Expression → Statement
-assigned offset x e = Statement.Assign offset (Place.Scalar Automatic (local_of x) unsigned_int) (RightSide.Value e)
+assigned offset x e = Statement.Assign offset (Place.Scalar Automatic (local_of x) unsigned_int) e
 
 abbrev pub unsigned_binary : BinaryOperator → Expression → Expression → Expression
 unsigned_binary operator e f = Expression.Binary operator unsigned_int e f
@@ -60,7 +60,7 @@ own_element threads = Expression.Element Static 1 threads unsigned_int id
 
 -- g[id] = e;
 abbrev pub published : ℕ → ℕ → Expression → Statement
-published threads offset e = Statement.Assign offset (Place.Element Static 1 threads unsigned_int id) (RightSide.Value e)
+published threads offset e = Statement.Assign offset (Place.Element Static 1 threads unsigned_int id) e
 
 -- s += e;
 abbrev pub added : ℕ → Expression → Statement
@@ -77,7 +77,7 @@ unlocked offset = Statement.Thread offset (ThreadCall.MutexUnlock (ObjectPlace.S
 -- if (y < z) { x = x + 1; }
 abbrev pub raised : (ℕ → ℕ) → Letter → Letter → Letter → Statement
 raised at x y z =
-    Statement.If (Condition.Operand (at 0) (unsigned_binary operator.Less (variable y) (variable z)))
+    Statement.If (Statement.Test (at 0) (unsigned_binary operator.Less (variable y) (variable z)))
     (Statement.Block (assigned (at 1) x (unsigned_binary operator.Add (variable x) (int_number 1))))
     Statement.Done
 
@@ -107,7 +107,7 @@ AreLines threads (line ∷ lines) statements =
 -- long id = (long)arg; unsigned a = (unsigned)id + 1, b = 2, c = 3, d = 4;
 abbrev pub opening : (ℕ → ℕ) → List Statement
 opening at =
-    Statement.Assign (at 0) (Place.Scalar Automatic 1 long_int) (RightSide.Value (Expression.Cast long_int argument))
+    Statement.Assign (at 0) (Place.Scalar Automatic 1 long_int) (Expression.Cast long_int argument)
     ∷ assigned (at 1) A (unsigned_binary operator.Add (Expression.Cast unsigned_int id) (int_number 1))
     ∷ assigned (at 2) B (int_number 2)
     ∷ assigned (at 3) C (int_number 3)
@@ -130,7 +130,7 @@ closing threads at =
     ∷ locked (at 6)
     ∷ added (at 7) (own_element threads)
     ∷ unlocked (at 8)
-    ∷ Statement.Return (at 9) (Some (RightSide.Value (Expression.Constant long_int (pos 0))))
+    ∷ Statement.Return (at 9) (Some (Expression.Constant long_int (pos 0)))
     ∷ []
 
 pub record IsWorker (threads : ℕ) (lines : List Line) (f : Function) : Type 0 where
