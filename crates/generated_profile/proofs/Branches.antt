@@ -21,7 +21,7 @@ use Rattle.c_tree.specs.declared.statement.Statement.TheVariants as st
 use Rattle.c_tree.specs.Trees as tree
 use Rattle.c_program.specs.declared.tree.Storage.TheVariants.{Static}
 use Rattle.c_program.specs.declared.tree.BinaryOperator.TheVariants as operator
-use Rattle.c_program.specs.Tree.{Expression, Place, Condition, RightSide, ObjectPlace, ThreadCall, Statement}
+use Rattle.c_program.specs.Tree.{Expression, Place, ObjectPlace, ThreadCall, Statement}
 use Rattle.c_rules.specs.declared.findings.Findings.{Findings}
 use Rattle.c_rules.specs.declared.names.Scope.{Scope}
 use Rattle.c_rules.specs.Names.{opened, closed}
@@ -29,7 +29,8 @@ use Rattle.c_rules.specs.Walks.{Outcome, and_then, pure, place_in_tree, ◌>>=�
 use Rattle.c_expressions.specs.Expressions.{value, condition, operated, is_short_circuit}
 use Rattle.c_expressions.proofs.ConditionLemmas.{condition-other}
 use Rattle.c_resolution.specs.States.{State, state, in_scope, scoping}
-use Rattle.c_resolution.specs.Statements.{Adds, item, with_step, branch, block_statement, block_step, block_of, if_of, sequence}
+use Rattle.c_resolution.specs.Sequences.{sequence}
+use Rattle.c_resolution.specs.Statements.{Adds, item, with_step, branch, block_statement, block_step, block_of, if_of}
 use Rattle.generated_text.specs.declared.draws.Letter.{Letter}
 use Rattle.generated_text.specs.declared.draws.Kind.{Kind as LineKind}
 use Rattle.generated_text.specs.declared.draws.Kind.TheVariants.{Sum, Difference, Product, ExclusiveOr, Quotient, Raise, Publish, Add}
@@ -61,20 +62,20 @@ module _ (s : Scope) (size : ℕ) (found : Findings) (means : word.Means s size)
       node.between_value s (at 2) (at 3) b.Less (tr.variable (tr.lettered y (at 2))) (tr.variable (tr.lettered z (at 4))) (word.read_of y) (word.read_of z) (less_of y z) found
       (word.letter_value s size found means y (at 2)) (word.letter_value s size found means z (at 4)) refl
 
-  compared_condition : (at : ℕ → ℕ) (y z : Letter) → condition s (compared at y z) found ≡ Outcome.Gives (Condition.Operand (place_in_tree (at 2)) (less_of y z)) found
+  compared_condition : (at : ℕ → ℕ) (y z : Letter) → condition s (compared at y z) found ≡ Outcome.Gives (Statement.Test (place_in_tree (at 2)) (less_of y z)) found
   compared_condition at y z =
       let e : ExpressionTree = tr.variable (tr.lettered y (at 2)) in
       let f : ExpressionTree = tr.variable (tr.lettered z (at 4)) in
       ap (λ w. w found)
       (condition-other s (compared at y z) e (tree.term (b.Less, at 3) f ∷ []) refl
       (ap (λ (t : TermLayer). is_short_circuit t.operator && true) (out-roll-Term (record { operator = b.Less; offset = at 3; operand = f }))))
-      ∙ ap (λ (r : Outcome Findings Expression). and_then r (λ x. pure (Condition.Operand (place_in_tree (at 2)) x))) (compared_value at y z)
+      ∙ ap (λ (r : Outcome Findings Expression). and_then r (λ x. pure (Statement.Test (place_in_tree (at 2)) x))) (compared_value at y z)
 
 -- ---- if (y < z) { x = x + 1; }
 
 abbrev pub raised : (ℕ → ℕ) → Letter → Letter → Letter → Statement
 raised at x y z =
-    Statement.If (Condition.Operand (place_in_tree (at 2)) (less_of y z))
+    Statement.If (Statement.Test (place_in_tree (at 2)) (less_of y z))
     (Statement.Block (word.set_to (at 7) x (word.unsigned_of operator.Add (word.read_of x) (word.int_number 1)))) Statement.Done
 
 abbrev one_more : (ℕ → ℕ) → Letter → ExpressionTree
@@ -92,8 +93,8 @@ module _ (s : Scope) (size : ℕ) (found : Findings) (means : word.Means s size)
       let both = node.between_value (opened s) (at 9) (at 10) b.Add (tr.variable (tr.lettered x (at 9))) (tr.constant 1 (at 11)) (word.read_of x) (word.int_number 1) v found
       (word.letter_value (opened s) size found inner x (at 9)) (node.constant_value (opened s) 1 (at 11) found) refl in
       word.simple_item (opened s) size found inner (tr.changed (at 7) (tr.alone (tr.lettered x (at 7))) Set (one_more at x)) (word.set_to (at 7) x v) []
-      (word.set_letter (opened s) size found inner x (at 7) (one_more at x) (RightSide.Value v)
-      (word.right_between (opened s) size found inner (at 9) (at 10) b.Add (tr.variable (tr.lettered x (at 9))) (tr.constant 1 (at 11)) v both))
+      (word.set_letter (opened s) size found inner x (at 7) (one_more at x) v
+      (word.right_between (opened s) size found inner (place_in_tree (at 7)) (opened s).kept_from (at 9) (at 10) b.Add (tr.variable (tr.lettered x (at 9))) (tr.constant 1 (at 11)) v both))
 
   pub raise_step : (at : ℕ → ℕ) (x y z : Letter) (steps : List Statement) → item (tr.raise_item at x y z) steps (state s found)
       ≡ Outcome.Gives (steps ++ (raised at x y z ∷ [])) (state s found)
@@ -101,12 +102,12 @@ module _ (s : Scope) (size : ℕ) (found : Findings) (means : word.Means s size)
   raise_step at x y z steps =
       let block = tree.block (raise_inner at x ∷ []) (at 13) in
       let test : ExpressionTree = compared at y z in
-      let c : Condition = Condition.Operand (place_in_tree (at 2)) (less_of y z) in
+      let c : Statement = Statement.Test (place_in_tree (at 2)) (less_of y z) in
       ap (λ (add : Adds). add steps (state s found))
       (node.statement_item (st.If test (st.Block block) None)
       ∙ ap with_step (node.branch_statement test (st.Block block)
       ∙ ap (λ g. branch test g None) (node.inner_block block ∙ ap block_statement (node.block_is (raise_inner at x ∷ []) (at 13)))))
-      ∙ ap (λ (r : Outcome Findings Condition). and_then (and_then (in_scope s r)
+      ∙ ap (λ (r : Outcome Findings Statement). and_then (and_then (in_scope s r)
       (λ d. (block_statement (block_step (record { items = item (raise_inner at x) ∷ []; close = at 13 })) >>= (λ a. pure (if_of d a Statement.Done)))))
       (λ step. pure (steps ++ (step ∷ [])))) (compared_condition s size found means at y z)
       ∙ ap (λ (r : Outcome State (List Statement)). and_then (and_then (and_then (and_then r (λ done. pure (sequence done)))
@@ -123,7 +124,7 @@ statements_in size ExclusiveOr at x y z = word.set_to (at 0) x (word.unsigned_of
 statements_in size Quotient at x y z = word.set_to (at 0) x (word.unsigned_of operator.Divide (word.read_of y) (word.odd_of z)) ∷ []
 statements_in size Raise at x y z = raised at x y z ∷ []
 statements_in size Publish at x y z =
-    Statement.Assign (place_in_tree (at 0)) (Place.Element Static 1 size unsigned_int word.id_value) (RightSide.Value (word.read_of x)) ∷ []
+    Statement.Assign (place_in_tree (at 0)) (Place.Element Static 1 size unsigned_int word.id_value) (word.read_of x) ∷ []
 statements_in size Add at x y z =
     Statement.Thread (place_in_tree (at 0)) (ThreadCall.MutexLock (ObjectPlace.Single 0))
     ∷ Statement.Update (place_in_tree (at 6)) (Place.Scalar Static 0 unsigned_int) operator.Add unsigned_int (word.read_of x)

@@ -1,6 +1,6 @@
 -- What the worker of a generated text ends with.
 use Rattle.std.proofs.Common.{◌≡◌, ℕ, List, [], ◌∷◌, ◌++◌, Some, None, refl, ap, ◌∙◌}
-use Rattle.std.specs.Prelude.{codes, not, pos}
+use Rattle.std.specs.Prelude.{codes, not, pos, Option}
 use Rattle.hls_ints.specs.Types.{unsigned_int, long_int}
 use Rattle.c_tree.specs.declared.expression.BinaryOperator.TheVariants as b
 use Rattle.c_tree.specs.declared.expression.Argument.{Argument as ArgumentTree}
@@ -20,16 +20,17 @@ use Rattle.c_tree.specs.declared.statement.Statement.TheVariants as st
 use Rattle.c_tree.specs.Trees as tree
 use Rattle.c_program.specs.declared.tree.Storage.TheVariants.{Static}
 use Rattle.c_program.specs.declared.tree.BinaryOperator.TheVariants as operator
-use Rattle.c_program.specs.Tree.{Expression, Place, RightSide, ObjectPlace, ThreadCall, Statement}
+use Rattle.c_program.specs.Tree.{Expression, Place, ObjectPlace, ThreadCall, Statement}
 use Rattle.c_rules.specs.declared.fault.Rule.TheVariants as rule
 use Rattle.c_rules.specs.declared.findings.Findings.{Findings}
 use Rattle.c_rules.specs.declared.names.Gives.{Gives}
 use Rattle.c_rules.specs.declared.names.Gives.TheVariants as gives
 use Rattle.c_rules.specs.declared.names.Known.TheVariants as known
 use Rattle.c_rules.specs.declared.names.Scope.{Scope}
-use Rattle.c_rules.specs.Walks.{Outcome, and_then, pure, finds_if, place_in_tree, ◌>>=◌}
+use Rattle.c_rules.specs.Walks.{Finds, Outcome, and_then, pure, finds_if, place_in_tree, ◌>>=◌}
 use Rattle.c_expressions.specs.Expressions.{value, term, operated, named_value, object_value}
 use Rattle.c_calls.specs.Arguments.{pointer_value, operand_value}
+use Rattle.c_resolution.specs.Sequences.{behind_cuts}
 use Rattle.c_resolution.specs.Simple.{returned, may_return}
 use Rattle.c_resolution.specs.States.{state, in_scope}
 use Rattle.c_resolution.specs.Statements.{Adds, item, with_step}
@@ -69,15 +70,15 @@ module _ (s : Scope) (size : ℕ) (found : Findings) (means : word.Means s size)
       ∙ node.terms_none s mixed found
 
   pub mix_step : (at : ℕ → ℕ) (steps : List Statement) → item (tr.mix_item at) steps (state s found)
-      ≡ Outcome.Gives (steps ++ (Statement.Assign (place_in_tree (at 0)) (Place.Element Static 1 size unsigned_int word.id_value) (RightSide.Value mixed) ∷ [])) (state s found)
+      ≡ Outcome.Gives (steps ++ (Statement.Assign (place_in_tree (at 0)) (Place.Element Static 1 size unsigned_int word.id_value) mixed ∷ [])) (state s found)
   mix_step at steps =
       let place : PlaceTree = tree.place (tr.named (codes "g") (at 0)) (Some (tr.variable (tr.named (codes "id") (at 2)))) in
       let f : Form = form.Binary (tr.variable (tr.lettered A (at 5))) (letters at) in
       word.simple_item s size found means (tr.changed (at 0) place Set (tree.expression (at 5) f)) _ steps
-      (word.set_by s size found means (at 0) place (tree.expression (at 5) f) (Place.Element Static 1 size unsigned_int word.id_value) (RightSide.Value mixed)
+      (word.set_by s size found means (at 0) place (tree.expression (at 5) f) (Place.Element Static 1 size unsigned_int word.id_value) mixed
       (node.target_element s (tr.named (codes "g") (at 0)) (tr.variable (tr.named (codes "id") (at 2))) word.id_value (known.Declared (word.static 1 (Some size))) found
       (word.id_gives s size found means (at 2)) means.elements refl)
-      (node.right_of s (at 5) f (Form-F.Binary (tr.variable (tr.lettered A (at 5))) (letters at)) mixed found
+      (node.right_of s (place_in_tree (at 0)) s.kept_from (at 5) f (Form-F.Binary (tr.variable (tr.lettered A (at 5))) (letters at)) mixed found
       (form.outs-Binary (tr.variable (tr.lettered A (at 5))) (letters at)) refl (mixed_value at)))
 
   pub last_lock_step : (at : ℕ → ℕ) (steps : List Statement) → item (tr.last_lock_item at) steps (state s found)
@@ -117,16 +118,18 @@ module _ (s : Scope) (size : ℕ) (found : Findings) (means : word.Means s size)
   null_value o = ap (λ (p : PointerLayer). operand_value s p.operand found) (out-roll-Pointer (record { operand = None; offset = o }))
 
   null_return : (o p : ℕ) → returned s (returned_as.Pointer (tree.null p)) o found
-      ≡ Outcome.Gives (Statement.Return (place_in_tree o) (Some (RightSide.Value (Expression.Constant long_int (pos 0))))) found
+      ≡ Outcome.Gives (Statement.Return (place_in_tree o) (Some (Expression.Constant long_int (pos 0)))) found
   unfolding returned
   null_return o p =
+      let alone : Expression → Finds (List Statement × Option Expression) = λ x. pure ([], Some x) in
+      let to : List Statement × Option Expression → Finds Statement = λ given. pure (behind_cuts given.0 (Statement.Return (place_in_tree o) given.1)) in
       ap (λ (g : Gives). and_then (finds_if (not (may_return g (returned_as.Pointer (tree.null p)))) rule.Kind o found)
-      (λ u. ((pointer_value s (tree.null p) >>= (λ x. pure (Some (RightSide.Value x)))) >>= (λ right. pure (Statement.Return (place_in_tree o) right))))) back
-      ∙ ap (λ (r : Outcome Findings Expression). and_then (and_then r (λ x. pure (Some (RightSide.Value x)))) (λ right. pure (Statement.Return (place_in_tree o) right)))
+      (λ u. ((pointer_value s (tree.null p) >>= alone) >>= to))) back
+      ∙ ap (λ (r : Outcome Findings Expression). and_then (and_then r alone) to)
       (null_value p)
 
   pub null_step : (at : ℕ → ℕ) (steps : List Statement) → item (tr.null_item at) steps (state s found)
-      ≡ Outcome.Gives (steps ++ (Statement.Return (place_in_tree (at 32)) (Some (RightSide.Value (Expression.Constant long_int (pos 0)))) ∷ [])) (state s found)
+      ≡ Outcome.Gives (steps ++ (Statement.Return (place_in_tree (at 32)) (Some (Expression.Constant long_int (pos 0))) ∷ [])) (state s found)
   null_step at steps =
       ap (λ (a : Adds). a steps (state s found))
       (node.statement_item (st.Return (returned_as.Pointer (tree.null (at 33))) (at 32))

@@ -48,6 +48,8 @@ use Rattle.c_resolution.specs.Statements.{loop_body, for_head, for_loop}
 use Rattle.c_resolution.specs.Statements.{items}
 use Rattle.c_resolution.specs.States.{state}
 use Rattle.c_resolution.specs.Globals.{text}
+use Rattle.c_resolution.specs.Declarators.{block_declarators}
+use Rattle.c_resolution.specs.Slots.{slots_end}
 use Rattle.c_resolution.specs.Files.{File, Tables, file}
 use Rattle.c_resolution.specs.Resolving.{no_tables, scope_with}
 use Rattle.c_resolution.specs.Texts.{declaration as declares}
@@ -58,8 +60,9 @@ use Rattle.generated_profile.proofs.Lettered as word
 
 -- ---- files
 
-abbrev outside : Names → List Header → Gives → Scope
-outside names headers back = record {
+-- at file scope, where values were kept from that local on in the function before
+abbrev outside : Names → List Header → Gives → ℕ → Scope
+outside names headers back kept_from = record {
   definitions = definitions;
   outer = [];
   inner = names;
@@ -69,6 +72,7 @@ outside names headers back = record {
   locals = [];
   local_names = [];
   loops = 0;
+  kept_from = kept_from;
 }
 
 abbrev pub tables : ℕ → List Function → Tables
@@ -83,7 +87,7 @@ tables size functions = record {
 }
 
 abbrev pub behind_objects : ℕ → File
-behind_objects size = file (outside (object_names size) [] gives.Unlisted) nothing (tables size [])
+behind_objects size = file (outside (object_names size) [] gives.Unlisted 0) nothing (tables size [])
 
 -- the length of an array that is declared with so many elements
 abbrev pub size_of : ℕ → ℕ
@@ -112,7 +116,7 @@ array_is s k o found =
 
 abbrev pub with_threads : ℕ → File
 with_threads size =
-    file (outside ((codes "t", meaning.Object (record { kind = Thread; number = 0; length = Some size })) ∷ []) [] gives.Unlisted) nothing
+    file (outside ((codes "t", meaning.Object (record { kind = Thread; number = 0; length = Some size })) ∷ []) [] gives.Unlisted 0) nothing
     (record no_tables { threads = record { length = size; routine = None } ∷ [] })
 
 pub threads_declared : (k : ℕ) (at : ℕ → ℕ) → declares (tr.threads_object (suc k) at) (file (scope_with definitions) nothing no_tables)
@@ -129,7 +133,7 @@ threads_declared k at = rw (array_is (scope_with definitions) k (at 3) nothing) 
 abbrev pub with_mutex : ℕ → File
 with_mutex size =
     file (outside ((codes "t", meaning.Object (record { kind = Thread; number = 0; length = Some size }))
-    ∷ (codes "m", meaning.Object (record { kind = Mutex; number = 0; length = None })) ∷ []) [] gives.Unlisted) nothing
+    ∷ (codes "m", meaning.Object (record { kind = Mutex; number = 0; length = None })) ∷ []) [] gives.Unlisted 0) nothing
     (record no_tables { threads = record { length = size; routine = None } ∷ []; mutexes = record { length = 1; initialised = false } ∷ [] })
 
 pub mutex_declared : (size : ℕ) (at : ℕ → ℕ) → declares (tr.mutex_object at) (with_threads size) ≡ Outcome.Gives tt (with_mutex size)
@@ -146,7 +150,7 @@ abbrev pub with_sum : ℕ → File
 with_sum size =
     file (outside ((codes "t", meaning.Object (record { kind = Thread; number = 0; length = Some size }))
     ∷ (codes "m", meaning.Object (record { kind = Mutex; number = 0; length = None }))
-    ∷ (codes "s", word.static 0 None) ∷ []) [] gives.Unlisted) nothing
+    ∷ (codes "s", word.static 0 None) ∷ []) [] gives.Unlisted 0) nothing
     (record no_tables {
       threads = record { length = size; routine = None } ∷ [];
       mutexes = record { length = 1; initialised = false } ∷ [];
@@ -179,6 +183,7 @@ worker_function body end = record {
   name = text (codes "worker");
   returns = returns_as.Pointer;
   parameters = 1;
+  declared_locals = 6;
   locals = scalar long_int ∷ scalar long_int ∷ scalar unsigned_int ∷ scalar unsigned_int ∷ scalar unsigned_int ∷ scalar unsigned_int ∷ [];
   local_names = map text (codes "arg" ∷ codes "id" ∷ codes "a" ∷ codes "b" ∷ codes "c" ∷ codes "d" ∷ []);
   body = body;
@@ -186,10 +191,10 @@ worker_function body end = record {
 }
 
 abbrev pub behind_worker : ℕ → Function → File
-behind_worker size f = file (outside (names_with_worker size) (worker_header ∷ []) gives.Pointer) nothing (tables size (f ∷ []))
+behind_worker size f = file (outside (names_with_worker size) (worker_header ∷ []) gives.Pointer 6) nothing (tables size (f ∷ []))
 
 pub worker_declared : (size : ℕ) (at : ℕ → ℕ) (body : Block) (b : Statement) →
-    items body (state (with_argument size) nothing) ≡ Outcome.Gives b (state (worker_scope size) nothing) →
+    block_declarators body ≡ 5 → slots_end b ≡ 0 → items body (state (with_argument size) nothing) ≡ Outcome.Gives b (state (worker_scope size) nothing) →
     declares (tr.worker_by at (Some body)) (behind_objects size) ≡ Outcome.Gives tt (behind_worker size (worker_function b (out-Block body).close))
 unfolding first function_named look_up is_taken declaring opened closed base_of pieces_from library_place library_name constant object_value
     named_value operated converted place_value cast terms_value target object_at object_named routine value_argument value_arguments null_argument
@@ -198,7 +203,7 @@ unfolding first function_named look_up is_taken declaring opened closed base_of 
     declare_function parameter_meaning parameter parameters definition head function_by function global_variable global_object global_as global
     objects length_from array_length new_local local declare initialised_by initialised declarator declaration compound_by assigned compound step
     simple returned check_jump loop_body for_head for_loop
-worker_declared size at body b h = rw h refl
+worker_declared size at body b from none h = rw from (rw h (rw from (rw none refl)))
 
 -- ---- main, by its body
 
@@ -219,6 +224,7 @@ in_main size inner locals names = record {
   locals = locals;
   local_names = names;
   loops = 0;
+  kept_from = 1;
 }
 
 abbrev pub main_begins : ℕ → Scope
@@ -232,6 +238,7 @@ main_function body end = record {
   name = text (codes "main");
   returns = returns_as.Integer int_type;
   parameters = 0;
+  declared_locals = 1;
   locals = scalar int_type ∷ [];
   local_names = map text (codes "i" ∷ []);
   body = body;
@@ -240,10 +247,10 @@ main_function body end = record {
 
 -- with the creation of a worker
 abbrev pub behind_main : ℕ → Function → Function → Findings → File
-behind_main size worker f found = file (outside (names_with_main size) (worker_header ∷ main_header ∷ []) gives.Integer) found (tables size (worker ∷ f ∷ []))
+behind_main size worker f found = file (outside (names_with_main size) (worker_header ∷ main_header ∷ []) gives.Integer 1) found (tables size (worker ∷ f ∷ []))
 
 pub main_declared : (size : ℕ) (at : ℕ → ℕ) (worker : Function) (body : Block) (b : Statement) (found : Findings) →
-    items body (state (main_begins size) nothing) ≡ Outcome.Gives b (state (main_scope size) found) →
+    block_declarators body ≡ 1 → slots_end b ≡ 0 → items body (state (main_begins size) nothing) ≡ Outcome.Gives b (state (main_scope size) found) →
     declares (tr.main_by at (Some body)) (behind_worker size worker) ≡ Outcome.Gives tt (behind_main size worker (main_function b (out-Block body).close) found)
 unfolding first function_named look_up is_taken declaring opened closed base_of pieces_from library_place library_name constant object_value
     named_value operated converted place_value cast terms_value target object_at object_named routine value_argument value_arguments null_argument
@@ -252,4 +259,4 @@ unfolding first function_named look_up is_taken declaring opened closed base_of 
     declare_function parameter_meaning parameter parameters definition head function_by function global_variable global_object global_as global
     objects length_from new_local local declare initialised_by initialised declarator declaration compound_by assigned compound step simple returned
     check_jump loop_body for_head for_loop
-main_declared size at worker body b found h = rw h refl
+main_declared size at worker body b found from none h = rw from (rw h (rw from (rw none refl)))

@@ -8,7 +8,7 @@ use Rattle.c_program.specs.Tree.{Statement, GlobalVariable, Program}
 use Rattle.c_rules.specs.Walks.{place_in_tree}
 use Rattle.c_rules.specs.Findings.{nothing}
 use Rattle.c_resolution.specs.Globals.{text}
-use Rattle.c_resolution.specs.Statements.{sequence}
+use Rattle.c_resolution.specs.Sequences.{sequence}
 use Rattle.generated_text.specs.declared.draws.Letter.{Letter}
 use Rattle.generated_text.specs.declared.draws.Kind.{Kind}
 use Rattle.generated_text.specs.declared.draws.Kind.TheVariants.{Sum, Difference, Product, ExclusiveOr, Quotient, Raise, Publish, Add}

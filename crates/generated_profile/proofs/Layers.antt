@@ -32,7 +32,7 @@ use Rattle.c_tree.specs.declared.statement.BlockItem.TheFolds.{fold-roll-BlockIt
 use Rattle.c_tree.specs.declared.statement.Statement.{Statement as StatementTree}
 use Rattle.c_tree.specs.declared.statement.Statement.TheVariants as st
 use Rattle.c_tree.specs.Trees as tree
-use Rattle.c_program.specs.Tree.{Expression, Place, ObjectPlace, RightSide, ThreadCall, Statement}
+use Rattle.c_program.specs.Tree.{Expression, Place, ObjectPlace, ThreadCall, Statement}
 use Rattle.c_rules.specs.declared.findings.Findings.{Findings}
 use Rattle.c_rules.specs.declared.names.ObjectKind.{ObjectKind}
 use Rattle.c_rules.specs.declared.names.Scope.{Scope}
@@ -46,6 +46,7 @@ use Rattle.c_rules.specs.Walks.{Finds, Outcome, and_then, pure, optional, throug
 use Rattle.c_expressions.specs.Expressions.{Operand, Looked, Formed, Called, Meant, Placed, meant, placed, term, constant, named_value, place_value, cast}
 use Rattle.c_expressions.specs.Expressions.{argument_step, form_step, call_step, choice_step, expression_step, place_step, pointer_step, term_step}
 use Rattle.c_expressions.specs.Expressions.{value, a_value, place_form, binary_form, operated, terms_value, term_value}
+use Rattle.c_calls.specs.Cuts.{uncut}
 use Rattle.c_calls.specs.Calls.{right_side, right_value, right_from, call_in, call, call_of, library_call, library_statement, object_call, object_statement}
 use Rattle.c_calls.specs.Arguments.{FormLayer, ArgumentLayer, address_argument, address_in, object_place, object_named}
 use Rattle.c_expressions.specs.Expressions.{variable_of}
@@ -183,13 +184,13 @@ module _ (s : Scope) where
 
   -- ---- right sides
 
-  pub right_of : (at : ℕ) (f : Form) (l : FormLayer) (v : Expression) (found : Findings) → out-Form f ≡ l → call_in s l ≡ None →
-      value s (tree.expression at f) found ≡ Outcome.Gives v found → right_side s (tree.expression at f) found ≡ Outcome.Gives (RightSide.Value v) found
+  pub right_of : (step slot at : ℕ) (f : Form) (l : FormLayer) (v : Expression) (found : Findings) → out-Form f ≡ l → call_in s l ≡ None →
+      value s (tree.expression at f) found ≡ Outcome.Gives v found → right_side s step slot (tree.expression at f) found ≡ Outcome.Gives (uncut v) found
   unfolding right_side right_value
-  right_of at f l v found is none h =
-      ap (λ k. right_from s (tree.expression at f) (call_in s k) found) is
-      ∙ ap (λ q. right_from s (tree.expression at f) q found) none
-      ∙ ap (λ (r : Outcome Findings Expression). and_then r (λ a. pure (RightSide.Value a))) h
+  right_of step slot at f l v found is none h =
+      ap (λ k. right_from s step slot (tree.expression at f) (call_in s k) found) is
+      ∙ ap (λ q. right_from s step slot (tree.expression at f) q found) none
+      ∙ ap (λ (r : Outcome Findings Expression). and_then r (λ a. pure (uncut a))) h
 
   -- ---- places
 

@@ -19,7 +19,7 @@ use Rattle.c_tree.specs.Trees as tree
 use Rattle.c_program.specs.declared.tree.Storage.TheVariants.{Automatic, Static}
 use Rattle.c_program.specs.declared.tree.BinaryOperator.{BinaryOperator}
 use Rattle.c_program.specs.declared.tree.BinaryOperator.TheVariants as operator
-use Rattle.c_program.specs.Tree.{Expression, Place, RightSide, ObjectPlace, ThreadCall, Statement}
+use Rattle.c_program.specs.Tree.{Expression, Place, ObjectPlace, ThreadCall, Statement}
 use Rattle.c_program.specs.Types.{type_of, working_type}
 use Rattle.c_rules.specs.declared.specifiers.BasicType.{BasicType}
 use Rattle.c_rules.specs.declared.specifiers.BasicType.TheVariants.{UnsignedInt, Long}
@@ -35,7 +35,9 @@ use Rattle.c_rules.specs.Names.{look_up}
 use Rattle.c_rules.specs.Walks.{Outcome, and_then, pure, place_in_tree, ◌>>=◌}
 use Rattle.c_expressions.specs.Expressions.{value, named_value, object_value, operated}
 use Rattle.c_expressions.specs.Targets.{target}
+use Rattle.c_calls.specs.Cuts.{Cut, uncut}
 use Rattle.c_calls.specs.Calls.{right_side}
+use Rattle.c_resolution.specs.Sequences.{behind_cuts}
 use Rattle.c_calls.specs.Arguments.{address_argument, object_named, object_at}
 use Rattle.c_resolution.specs.Simple.{simple, assigned, compound, compound_by, compound_operator}
 use Rattle.c_resolution.specs.States.{state, in_scope}
@@ -89,7 +91,7 @@ abbrev pub odd_of : Letter → Expression
 odd_of z = unsigned_of operator.InclusiveOr (read_of z) (int_number 1)
 
 abbrev pub set_to : ℕ → Letter → Expression → Statement
-set_to o x v = Statement.Assign (place_in_tree o) (target_of x) (RightSide.Value v)
+set_to o x v = Statement.Assign (place_in_tree o) (target_of x) v
 
 module _ (s : Scope) (size : ℕ) (found : Findings) (means : Means s size) where
   pub letter_value : (x : Letter) (o : ℕ) → value s (tr.variable (tr.lettered x o)) found ≡ Outcome.Gives (read_of x) found
@@ -106,30 +108,31 @@ module _ (s : Scope) (size : ℕ) (found : Findings) (means : Means s size) wher
       ap (λ (a : Adds). a steps (state s found)) (statement_item (st.Simple x) ∙ ap with_step (simple_statement x))
       ∙ ap (λ (r : Outcome Findings Statement). and_then (in_scope s r) (λ step. pure (steps ++ (step ∷ [])))) h
 
-  pub set_by : (o : ℕ) (p : PlaceTree) (e : ExpressionTree) (q : Place) (v : RightSide) → target s p found ≡ Outcome.Gives q found →
-      right_side s e found ≡ Outcome.Gives v found → simple s (tr.changed o p Set e) found ≡ Outcome.Gives (Statement.Assign (place_in_tree o) q v) found
+  pub set_by : (o : ℕ) (p : PlaceTree) (e : ExpressionTree) (q : Place) (v : Expression) → target s p found ≡ Outcome.Gives q found →
+      right_side s (place_in_tree o) s.kept_from e found ≡ Outcome.Gives (uncut v) found → simple s (tr.changed o p Set e) found ≡ Outcome.Gives (Statement.Assign (place_in_tree o) q v) found
   unfolding simple assigned
   set_by o p e q v first second =
-      ap (λ (r : Outcome Findings Place). and_then r (λ w. (right_side s e >>= (λ right. pure (Statement.Assign (place_in_tree o) w right))))) first
-      ∙ ap (λ (r : Outcome Findings RightSide). and_then r (λ right. pure (Statement.Assign (place_in_tree o) q right))) second
+      ap (λ (r : Outcome Findings Place). and_then r (λ w. (right_side s (place_in_tree o) s.kept_from e
+      >>= (λ right. pure (behind_cuts right.before (Statement.Assign (place_in_tree o) w right.rest)))))) first
+      ∙ ap (λ (r : Outcome Findings Cut). and_then r (λ right. pure (behind_cuts right.before (Statement.Assign (place_in_tree o) q right.rest)))) second
 
-  pub set_letter : (x : Letter) (o : ℕ) (e : ExpressionTree) (v : RightSide) → right_side s e found ≡ Outcome.Gives v found →
+  pub set_letter : (x : Letter) (o : ℕ) (e : ExpressionTree) (v : Expression) → right_side s (place_in_tree o) s.kept_from e found ≡ Outcome.Gives (uncut v) found →
       simple s (tr.changed o (tr.alone (tr.lettered x o)) Set e) found ≡ Outcome.Gives (Statement.Assign (place_in_tree o) (target_of x) v) found
   set_letter x o e v h =
       set_by o (tr.alone (tr.lettered x o)) e (target_of x) v (target_alone s (tr.lettered x o) (known_letter x) found (means.letters x) refl) h
 
   -- the value of an operator between two expressions, as a right side
-  pub right_between : (o at : ℕ) (op : TreeOperator) (e f : ExpressionTree) (v : Expression) →
+  pub right_between : (step slot o at : ℕ) (op : TreeOperator) (e f : ExpressionTree) (v : Expression) →
       value s (tree.expression o (form.Binary e (tree.term (op, at) f ∷ []))) found ≡ Outcome.Gives v found →
-      right_side s (tree.expression o (form.Binary e (tree.term (op, at) f ∷ []))) found ≡ Outcome.Gives (RightSide.Value v) found
-  right_between o at op e f v h =
-      right_of s o (form.Binary e (tree.term (op, at) f ∷ [])) (Form-F.Binary e (tree.term (op, at) f ∷ [])) v found
+      right_side s step slot (tree.expression o (form.Binary e (tree.term (op, at) f ∷ []))) found ≡ Outcome.Gives (uncut v) found
+  right_between step slot o at op e f v h =
+      right_of s step slot o (form.Binary e (tree.term (op, at) f ∷ [])) (Form-F.Binary e (tree.term (op, at) f ∷ [])) v found
       (form.outs-Binary e (tree.term (op, at) f ∷ [])) refl h
 
-  right_variable : (x : Name) (v : Expression) → value s (tr.variable x) found ≡ Outcome.Gives v found →
-      right_side s (tr.variable x) found ≡ Outcome.Gives (RightSide.Value v) found
-  right_variable x v h =
-      right_of s x.offset (form.Place (tree.place x None)) (Form-F.Place (tree.place x None)) v found (form.outs-Place (tree.place x None)) refl h
+  right_variable : (step slot : ℕ) (x : Name) (v : Expression) → value s (tr.variable x) found ≡ Outcome.Gives v found →
+      right_side s step slot (tr.variable x) found ≡ Outcome.Gives (uncut v) found
+  right_variable step slot x v h =
+      right_of s step slot x.offset (form.Place (tree.place x None)) (Form-F.Place (tree.place x None)) v found (form.outs-Place (tree.place x None)) refl h
 
   -- x = y op z;
   operation_step : (op : TreeOperator) (r : BinaryOperator) (at : ℕ → ℕ) (x y z : Letter) (steps : List Statement) →
@@ -143,7 +146,8 @@ module _ (s : Scope) (size : ℕ) (found : Findings) (means : Means s size) wher
       let both = between_value s (at 2) (at 3) op e f (read_of y) (read_of z) v found (letter_value y (at 2)) (letter_value z (at 4)) h in
       simple_item (tr.changed (at 0) (tr.alone (tr.lettered x (at 0))) Set (tree.expression (at 2) (form.Binary e (tree.term (op, at 3) f ∷ []))))
       (set_to (at 0) x v) steps
-      (set_letter x (at 0) (tree.expression (at 2) (form.Binary e (tree.term (op, at 3) f ∷ []))) (RightSide.Value v) (right_between (at 2) (at 3) op e f v both))
+      (set_letter x (at 0) (tree.expression (at 2) (form.Binary e (tree.term (op, at 3) f ∷ []))) v
+      (right_between (place_in_tree (at 0)) s.kept_from (at 2) (at 3) op e f v both))
 
   pub sum_step : (at : ℕ → ℕ) (x y z : Letter) (steps : List Statement) → item (tr.operation_item b.Add at x y z) steps (state s found)
       ≡ Outcome.Gives (steps ++ (set_to (at 0) x (unsigned_of operator.Add (read_of y) (read_of z)) ∷ [])) (state s found)
@@ -179,18 +183,19 @@ module _ (s : Scope) (size : ℕ) (found : Findings) (means : Means s size) wher
       let both = between_value s (at 2) (at 3) b.Divide y_tree f (read_of y) (odd_of z) v found (letter_value y (at 2)) odd refl in
       simple_item (tr.changed (at 0) (tr.alone (tr.lettered x (at 0))) Set (tree.expression (at 2) (form.Binary y_tree (tree.term (b.Divide, at 3) f ∷ []))))
       (set_to (at 0) x v) steps
-      (set_letter x (at 0) (tree.expression (at 2) (form.Binary y_tree (tree.term (b.Divide, at 3) f ∷ []))) (RightSide.Value v) (right_between (at 2) (at 3) b.Divide y_tree f v both))
+      (set_letter x (at 0) (tree.expression (at 2) (form.Binary y_tree (tree.term (b.Divide, at 3) f ∷ []))) v
+      (right_between (place_in_tree (at 0)) s.kept_from (at 2) (at 3) b.Divide y_tree f v both))
 
   -- g[id] = x;
   pub publish_step : (at : ℕ → ℕ) (x : Letter) (steps : List Statement) → item (tr.publish_item at x) steps (state s found)
-      ≡ Outcome.Gives (steps ++ (Statement.Assign (place_in_tree (at 0)) (Place.Element Static 1 size unsigned_int id_value) (RightSide.Value (read_of x)) ∷ [])) (state s found)
+      ≡ Outcome.Gives (steps ++ (Statement.Assign (place_in_tree (at 0)) (Place.Element Static 1 size unsigned_int id_value) (read_of x) ∷ [])) (state s found)
   publish_step at x steps =
       let place : PlaceTree = tree.place (tr.named (codes "g") (at 0)) (Some (tr.variable (tr.named (codes "id") (at 2)))) in
       simple_item (tr.changed (at 0) place Set (tr.variable (tr.lettered x (at 5)))) _ steps
-      (set_by (at 0) place (tr.variable (tr.lettered x (at 5))) (Place.Element Static 1 size unsigned_int id_value) (RightSide.Value (read_of x))
+      (set_by (at 0) place (tr.variable (tr.lettered x (at 5))) (Place.Element Static 1 size unsigned_int id_value) (read_of x)
       (target_element s (tr.named (codes "g") (at 0)) (tr.variable (tr.named (codes "id") (at 2))) id_value (known.Declared (static 1 (Some size))) found
       (id_gives (at 2)) means.elements refl)
-      (right_variable (tr.lettered x (at 5)) (read_of x) (letter_value x (at 5))))
+      (right_variable (place_in_tree (at 0)) s.kept_from (tr.lettered x (at 5)) (read_of x) (letter_value x (at 5))))
 
   -- s += e;
   pub added_by : (o : ℕ) (e : ExpressionTree) (v : Expression) → value s e found ≡ Outcome.Gives v found → working_type operator.Add unsigned_int (type_of v) ≡ unsigned_int →

@@ -16,6 +16,8 @@ mod Branches
 mod Scopes
 mod Closing
 mod WorkerBody
+mod DeclaratorCounts
+mod NothingKept
 mod Declaring
 mod Faults
 mod Main

@@ -14,7 +14,7 @@ use Rattle.c_limits.specs.declared.limit.Limit.{Limit}
 use Rattle.c_limits.specs.declared.limit.Limit.TheVariants as limit
 use Rattle.c_limits.specs.declared.limit.Passed.{Passed}
 use Rattle.c_limits.specs.Counts.{most, over, over_objects, over_data, over_inlined, first_passed}
-use Rattle.c_resolution.specs.Statements.{sequence}
+use Rattle.c_resolution.specs.Sequences.{sequence}
 use Rattle.c_rules.specs.Findings.{nothing}
 use Rattle.generated_text.specs.declared.draws.Letter.{Letter}
 use Rattle.generated_text.specs.declared.draws.Kind.{Kind as LineKind}

@@ -7,7 +7,7 @@ use Rattle.c_tree.specs.declared.statement.BlockItem.{BlockItem}
 use Rattle.c_tree.specs.declared.statement.BlockItem.TheVariants as block_item
 use Rattle.c_tree.specs.declared.statement.Statement.TheVariants as st
 use Rattle.c_tree.specs.Trees as tree
-use Rattle.c_program.specs.Tree.{Condition, Statement}
+use Rattle.c_program.specs.Tree.{Statement}
 use Rattle.c_rules.specs.declared.findings.Findings.{Findings}
 use Rattle.c_rules.specs.declared.names.Scope.{Scope}
 use Rattle.c_rules.specs.Names.{opened, closed}
@@ -17,10 +17,11 @@ use Rattle.c_resolution.specs.Simple.{simple}
 use Rattle.c_resolution.specs.States.{State, state, in_scope, finding, scoping}
 use Rattle.c_resolution.specs.Statements.{Adds, Head, item, with_step, for_loop, for_head, for_condition, for_step, loop_body, deeper, shallower}
 use Rattle.c_resolution.specs.Statements.{block_statement, block_step}
-use Rattle.c_resolution.specs.Statements.{block_of, for_of, sequence}
+use Rattle.c_resolution.specs.Sequences.{sequence}
+use Rattle.c_resolution.specs.Statements.{block_of, for_of}
 use Rattle.generated_profile.proofs.Layers as node
 
-module _ (s : Scope) (x u : SimpleStatement) (e : ExpressionTree) (i : BlockItem) (close : ℕ) (a v d : Statement) (c : Condition) (found after : Findings) where
+module _ (s : Scope) (x u : SimpleStatement) (e : ExpressionTree) (i : BlockItem) (close : ℕ) (a v d c : Statement) (found after : Findings) where
   abbrev inner : Scope
   inner = deeper (opened s)
 
@@ -43,7 +44,7 @@ module _ (s : Scope) (x u : SimpleStatement) (e : ExpressionTree) (i : BlockItem
       ∙ ap (for_loop (start.Simple x) (Some e) (Some u)) (node.inner_block block ∙ ap block_statement (node.block_is (i ∷ []) close))))
       ∙ ap (λ (r : Outcome Findings Statement). adds steps (and_then (and_then (in_scope (opened s) r)
       (λ f. (finding (for_condition (Some e)) >>= (λ k. (finding (for_step (Some u)) >>= (λ z. pure (f, k, z))))))) rest)) first
-      ∙ ap (λ (r : Outcome Findings Condition). adds steps (and_then (and_then (in_scope (opened s) r)
+      ∙ ap (λ (r : Outcome Findings Statement). adds steps (and_then (and_then (in_scope (opened s) r)
       (λ k. (finding (for_step (Some u)) >>= (λ z. pure (a, k, z))))) rest)) test
       ∙ ap (λ (r : Outcome Findings Statement). adds steps (and_then (and_then (in_scope (opened s) r) (λ z. pure (a, c, z))) rest)) last
       ∙ ap (λ (r : Outcome State (List Statement)). adds steps (and_then (and_then (and_then (and_then r (λ done. pure (sequence done)))

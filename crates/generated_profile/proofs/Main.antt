@@ -23,7 +23,7 @@ use Rattle.c_tree.specs.declared.statement.Statement.TheVariants as st
 use Rattle.c_tree.specs.Trees as tree
 use Rattle.c_program.specs.declared.tree.Storage.TheVariants.{Automatic}
 use Rattle.c_program.specs.declared.tree.BinaryOperator.TheVariants as operator
-use Rattle.c_program.specs.Tree.{Expression, Place, RightSide, ObjectPlace, ThreadCall, Statement}
+use Rattle.c_program.specs.Tree.{Expression, Place, ObjectPlace, ThreadCall, Statement}
 use Rattle.c_rules.specs.declared.specifiers.BasicType.TheVariants.{Int}
 use Rattle.c_rules.specs.declared.findings.Findings.{Findings}
 use Rattle.c_rules.specs.declared.library.LibraryFunction.TheVariants as library
@@ -38,6 +38,8 @@ use Rattle.c_expressions.specs.Expressions.{value, named_value, object_value, op
 use Rattle.c_expressions.specs.Targets.{target}
 use Rattle.c_expressions.specs.Callees.{library_name, library_place}
 use Rattle.c_calls.specs.Arguments.{ArgumentLayer, address_argument, object_named, object_at, null_argument, is_null_in, refused}
+use Rattle.c_calls.specs.Cuts.{Cut}
+use Rattle.c_resolution.specs.Sequences.{behind_cuts}
 use Rattle.c_calls.specs.Calls.{right_side, call_of, library_call, library_statement, object_call, object_statement, mutex_init, mutex_init_call}
 use Rattle.c_resolution.specs.Simple.{simple, assigned, step, updated}
 use Rattle.c_resolution.specs.States.{state, in_scope}
@@ -88,12 +90,13 @@ module _ (s : Scope) (size : ℕ) (found : Findings) (means : MainMeans s size) 
 
   -- i = 0
   pub starts : (o p : ℕ) → simple s (tr.changed o (tr.alone (tr.named (codes "i") o)) Set (tr.constant 0 p)) found
-      ≡ Outcome.Gives (Statement.Assign (place_in_tree o) counter_place (RightSide.Value (word.int_number 0))) found
+      ≡ Outcome.Gives (Statement.Assign (place_in_tree o) counter_place (word.int_number 0)) found
   unfolding simple assigned
   starts o p =
-      ap (λ (r : Outcome Findings Place). and_then r (λ q. (right_side s (tr.constant 0 p) >>= (λ right. pure (Statement.Assign (place_in_tree o) q right))))) (counter_target o)
-      ∙ ap (λ (r : Outcome Findings RightSide). and_then r (λ right. pure (Statement.Assign (place_in_tree o) counter_place right)))
-      (node.right_of s p (form.Constant (Typed 0 IntConstant) p) (Form-F.Constant (Typed 0 IntConstant) p) (word.int_number 0) found
+      ap (λ (r : Outcome Findings Place). and_then r (λ q. (right_side s (place_in_tree o) s.kept_from (tr.constant 0 p)
+      >>= (λ right. pure (behind_cuts right.before (Statement.Assign (place_in_tree o) q right.rest)))))) (counter_target o)
+      ∙ ap (λ (r : Outcome Findings Cut). and_then r (λ right. pure (behind_cuts right.before (Statement.Assign (place_in_tree o) counter_place right.rest))))
+      (node.right_of s (place_in_tree o) s.kept_from p (form.Constant (Typed 0 IntConstant) p) (Form-F.Constant (Typed 0 IntConstant) p) (word.int_number 0) found
       (form.outs-Constant (Typed 0 IntConstant) p) refl (node.constant_value s 0 p found))
 
   -- i++

@@ -1,6 +1,6 @@
 -- What the body of the main function of a generated text stands for.
 use Rattle.std.proofs.Common.{◌≡◌, ℕ, List, [], ◌∷◌, ◌++◌, map, Some, None, true, refl, sym, ap, ◌∙◌}
-use Rattle.std.specs.Prelude.{codes, fold, not, ◌&&◌, ◌+◌, take, drop, slice_get}
+use Rattle.std.specs.Prelude.{codes, fold, not, ◌&&◌, ◌+◌, take, drop, slice_get, Option}
 use Rattle.hls_ints.specs.Types.{int_type, unsigned_int, long_int}
 use Rattle.c_token.specs.declared.constant.ConstantType.TheVariants.{Int as IntConstant}
 use Rattle.c_token.specs.declared.constant.Constant.TheVariants.{Typed}
@@ -28,7 +28,7 @@ use Rattle.c_tree.specs.declared.statement.BlockItem.TheVariants as block_item
 use Rattle.c_tree.specs.Trees as tree
 use Rattle.c_program.specs.declared.tree.Storage.TheVariants.{Static}
 use Rattle.c_program.specs.declared.tree.BinaryOperator.TheVariants as operator
-use Rattle.c_program.specs.Tree.{Expression, Condition, RightSide, ObjectPlace, ThreadCall, Piece, Statement}
+use Rattle.c_program.specs.Tree.{Expression, ObjectPlace, ThreadCall, Piece, Statement}
 use Rattle.c_rules.specs.declared.fault.Rule.TheVariants as rule
 use Rattle.c_rules.specs.declared.findings.Findings.{Findings}
 use Rattle.c_rules.specs.declared.library.LibraryFunction.TheVariants as library
@@ -41,18 +41,20 @@ use Rattle.c_rules.specs.Formats.{pieces_from}
 use Rattle.c_rules.specs.Library.{function_named}
 use Rattle.c_rules.specs.Names.{look_up, is_taken, declaring, opened, closed}
 use Rattle.c_rules.specs.Specifiers.{base_of}
-use Rattle.c_rules.specs.Walks.{Outcome, and_then, pure, finds_if, place_in_tree, ◌>>=◌, ◌>>◌}
+use Rattle.c_rules.specs.Walks.{Finds, Outcome, and_then, pure, finds_if, place_in_tree, ◌>>=◌, ◌>>◌}
 use Rattle.c_expressions.specs.Expressions.{Operand, Looked, Formed, Called, Meant, Placed, value, condition, argument as looked_argument}
 use Rattle.c_expressions.specs.Expressions.{named_value, object_value, is_short_circuit}
 use Rattle.c_expressions.specs.Expressions.{argument_step, form_step, call_step, choice_step, expression_step, place_step, pointer_step, term_step}
 use Rattle.c_expressions.specs.Callees.{library_name, library_place}
 use Rattle.c_expressions.proofs.ConditionLemmas.{condition-other}
 use Rattle.c_calls.specs.Arguments.{ArgumentLayer, argument_offset, value_arguments, value_argument, value_in}
+use Rattle.c_calls.specs.Cuts.{Cut}
 use Rattle.c_calls.specs.Calls.{call_of, library_call, library_statement, print_call, print_arguments, format_in, takes, printed, right_side}
 use Rattle.c_resolution.specs.Simple.{simple, returned, may_return}
 use Rattle.c_resolution.specs.States.{State, state, in_scope}
 use Rattle.c_resolution.specs.Locals.{declaration, declarator, local, new_local, declare}
-use Rattle.c_resolution.specs.Statements.{Adds, item, items, with_step, sequence, deeper}
+use Rattle.c_resolution.specs.Sequences.{sequence, behind_cuts}
+use Rattle.c_resolution.specs.Statements.{Adds, item, items, with_step, deeper}
 use Rattle.generated_profile.proofs.Trees as tr
 use Rattle.generated_profile.proofs.Layers as node
 use Rattle.generated_profile.proofs.Lettered as word
@@ -119,30 +121,32 @@ module _ (s : Scope) (size : ℕ) (found : Findings) (means : MainMeans s size) 
       (print_is (at 104) (at 106) e (Expression.Variable Static 0 unsigned_int) (total_gives (at 108)))
 
   zero_step : s.gives ≡ gives.Integer → (at : ℕ → ℕ) (steps : List Statement) → item (tr.zero_item at) steps (state s found)
-      ≡ Outcome.Gives (steps ++ (Statement.Return (place_in_tree (at 117)) (Some (RightSide.Value (word.int_number 0))) ∷ [])) (state s found)
+      ≡ Outcome.Gives (steps ++ (Statement.Return (place_in_tree (at 117)) (Some (word.int_number 0)) ∷ [])) (state s found)
   unfolding returned
   zero_step back at steps =
       let e : ExpressionTree = tr.constant 0 (at 118) in
       let o : ℕ = place_in_tree (at 117) in
+      let whole : Cut → Finds (List Statement × Option Expression) = λ right. pure (right.before, Some right.rest) in
+      let to : List Statement × Option Expression → Finds Statement = λ given. pure (behind_cuts given.0 (Statement.Return o given.1)) in
       ap (λ (a : Adds). a steps (state s found))
       (node.statement_item (st.Return (returned_as.Value e) (at 117)) ∙ ap with_step (node.return_statement (returned_as.Value e) (at 117)))
       ∙ ap (λ (g : Gives). and_then (in_scope s (and_then (finds_if (not (may_return g (returned_as.Value e))) rule.Kind (at 117) found)
-      (λ u. ((right_side s e >>= (λ x. pure (Some x))) >>= (λ right. pure (Statement.Return o right)))))) (λ step. pure (steps ++ (step ∷ [])))) back
-      ∙ ap (λ (r : Outcome Findings RightSide). and_then (in_scope s (and_then (and_then r (λ x. pure (Some x))) (λ right. pure (Statement.Return o right))))
+      (λ u. ((right_side s o s.kept_from e >>= whole) >>= to)))) (λ step. pure (steps ++ (step ∷ [])))) back
+      ∙ ap (λ (r : Outcome Findings Cut). and_then (in_scope s (and_then (and_then r whole) to))
       (λ step. pure (steps ++ (step ∷ []))))
-      (node.right_of s (at 118) (form.Constant (Typed 0 IntConstant) (at 118)) (Form-F.Constant (Typed 0 IntConstant) (at 118)) (word.int_number 0) found
+      (node.right_of s o s.kept_from (at 118) (form.Constant (Typed 0 IntConstant) (at 118)) (Form-F.Constant (Typed 0 IntConstant) (at 118)) (word.int_number 0) found
       (form.outs-Constant (Typed 0 IntConstant) (at 118)) refl (node.constant_value s 0 (at 118) found))
 
   below_condition : (k : ℕ) (at : ℕ → ℕ) → condition s (tree.expression (at 0) (form.Binary (tr.variable (tr.named (codes "i") (at 0)))
       (tree.term (b.Less, at 1) (tr.constant k (at 2)) ∷ []))) found
-      ≡ Outcome.Gives (Condition.Operand (place_in_tree (at 0)) (Expression.Binary operator.Less int_type counter (word.int_number k))) found
+      ≡ Outcome.Gives (Statement.Test (place_in_tree (at 0)) (Expression.Binary operator.Less int_type counter (word.int_number k))) found
   below_condition k at =
       let e : ExpressionTree = tr.variable (tr.named (codes "i") (at 0)) in
       let f : ExpressionTree = tr.constant k (at 2) in
       ap (λ w. w found)
       (condition-other s (tree.expression (at 0) (form.Binary e (tree.term (b.Less, at 1) f ∷ []))) e (tree.term (b.Less, at 1) f ∷ []) refl
       (ap (λ (t : TermLayer). is_short_circuit t.operator && true) (out-roll-Term (record { operator = b.Less; offset = at 1; operand = f }))))
-      ∙ ap (λ (r : Outcome Findings Expression). and_then r (λ x. pure (Condition.Operand (place_in_tree (at 0)) x))) (below s size found means k at 0)
+      ∙ ap (λ (r : Outcome Findings Expression). and_then r (λ x. pure (Statement.Test (place_in_tree (at 0)) x))) (below s size found means k at 0)
 
 -- ---- scopes
 
@@ -176,8 +180,8 @@ loop_headers size = refl
 -- for (i = 0; i < k; i++) { body }
 abbrev pub counted : ℕ → ℕ → ℕ → ℕ → Statement → Statement
 counted k first test step body =
-    Statement.For (Statement.Assign (place_in_tree first) counter_place (RightSide.Value (word.int_number 0)))
-    (Condition.Operand (place_in_tree test) (Expression.Binary operator.Less int_type counter (word.int_number k)))
+    Statement.For (Statement.Assign (place_in_tree first) counter_place (word.int_number 0))
+    (Statement.Test (place_in_tree test) (Expression.Binary operator.Less int_type counter (word.int_number k)))
     (Statement.Update (place_in_tree step) counter_place operator.Add int_type (word.int_number 1))
     (Statement.Block body)
 
@@ -196,9 +200,9 @@ module _ (size k : ℕ) where
       loop_step m (tr.changed a (tr.alone (tr.named (codes "i") a)) Set (tr.constant 0 z)) (tr.stepped c (tr.alone (tr.named (codes "i") c)))
       (tree.expression (at 0) (form.Binary (tr.variable (tr.named (codes "i") (at 0))) (tree.term (b.Less, at 1) (tr.constant k (at 2)) ∷ [])))
       (block_item.Statement (st.Simple x)) close
-      (Statement.Assign (place_in_tree a) counter_place (RightSide.Value (word.int_number 0)))
+      (Statement.Assign (place_in_tree a) counter_place (word.int_number 0))
       (Statement.Update (place_in_tree c) counter_place operator.Add int_type (word.int_number 1)) v
-      (Condition.Operand (place_in_tree (at 0)) (Expression.Binary operator.Less int_type counter (word.int_number k))) found after steps
+      (Statement.Test (place_in_tree (at 0)) (Expression.Binary operator.Less int_type counter (word.int_number k))) found after steps
       (starts (opened m) size found (head_means size) a z) (below_condition (opened m) size found (head_means size) k at)
       (steps_up (opened m) size found (head_means size) c) (simple_to (looping size) x v [] found after h) refl refl refl
 
@@ -250,7 +254,7 @@ module _ (size k : ℕ) where
       ∷ counted k (at 81) (at 85) (at 89) (Statement.Print (place_in_tree (at 93)) number_pieces (Expression.Element Static 1 size unsigned_int counter ∷ []))
       ∷ Statement.Print (place_in_tree (at 104)) number_pieces (Expression.Variable Static 0 unsigned_int ∷ [])
       ∷ Statement.Thread (place_in_tree (at 111)) (ThreadCall.MutexDestroy (ObjectPlace.Single 0))
-      ∷ Statement.Return (place_in_tree (at 117)) (Some (RightSide.Value (word.int_number 0)))
+      ∷ Statement.Return (place_in_tree (at 117)) (Some (word.int_number 0))
       ∷ []
 
   abbrev front : ℕ → (ℕ → ℕ) → List Statement

@@ -15,7 +15,7 @@ use Rattle.c_tree.specs.Trees as tree
 use Rattle.c_program.specs.declared.tree.Storage.TheVariants.{Automatic}
 use Rattle.c_program.specs.declared.tree.BinaryOperator.TheVariants as operator
 use Rattle.c_program.specs.declared.tree.LocalVariable.{LocalVariable}
-use Rattle.c_program.specs.Tree.{Expression, Place, RightSide, Statement}
+use Rattle.c_program.specs.Tree.{Expression, Place, Statement}
 use Rattle.c_program.specs.Resolved.{scalar}
 use Rattle.c_rules.specs.declared.specifiers.BasicType.TheVariants.{UnsignedInt, Long}
 use Rattle.c_rules.specs.declared.specifiers.BaseType.TheVariants as base
@@ -33,6 +33,7 @@ use Rattle.c_rules.specs.Names.{look_up, is_taken, declaring, opened, closed}
 use Rattle.c_rules.specs.Specifiers.{base_of, spelled_by}
 use Rattle.c_rules.specs.Walks.{Outcome, and_then, pure, place_in_tree, ◌>>=◌}
 use Rattle.c_expressions.specs.Expressions.{value, cast, converted, place_value, named_value, object_value, operated, Meant}
+use Rattle.c_calls.specs.Cuts.{Cut, uncut}
 use Rattle.c_calls.specs.Calls.{right_side}
 use Rattle.c_resolution.specs.States.{Goes, State, state, in_scope}
 use Rattle.c_resolution.specs.Locals.{declarator, local, new_local, declare, initialised, initialised_by, declaration}
@@ -81,6 +82,7 @@ inside size inner locals names = record {
   locals = locals;
   local_names = names;
   loops = 0;
+  kept_from = 6;
 }
 
 abbrev pub with_argument : ℕ → Scope
@@ -149,20 +151,20 @@ worker_closes size = refl
 
 -- ---- long id = (long)arg;
 
-id_right : (size o p q : ℕ) (found : Findings) →
-    right_side (with_id size) (tree.expression o (form.Cast (tr.words (w.Long ∷ []) p) (tr.variable (tr.named (codes "arg") q)))) found
-    ≡ Outcome.Gives (RightSide.Value (Expression.Cast long_int (Expression.Variable Automatic 0 long_int))) found
+id_right : (size step o p q : ℕ) (found : Findings) →
+    right_side (with_id size) step 6 (tree.expression o (form.Cast (tr.words (w.Long ∷ []) p) (tr.variable (tr.named (codes "arg") q)))) found
+    ≡ Outcome.Gives (uncut (Expression.Cast long_int (Expression.Variable Automatic 0 long_int))) found
 unfolding cast converted look_up function_named base_of
-id_right size o p q found =
+id_right size step o p q found =
     let s : Scope = with_id size in
     let e : ExpressionTree = tr.variable (tr.named (codes "arg") q) in
     let words = tr.words (w.Long ∷ []) p in
-    node.right_of s o (form.Cast words e) (Form-F.Cast words e) (Expression.Cast long_int (Expression.Variable Automatic 0 long_int)) found (form.outs-Cast words e) refl
+    node.right_of s step 6 o (form.Cast words e) (Form-F.Cast words e) (Expression.Cast long_int (Expression.Variable Automatic 0 long_int)) found (form.outs-Cast words e) refl
     (node.cast_value s o words e found ∙ ap (λ (m : Meant). cast s words m found) (node.variable_meant s (tr.named (codes "arg") q)))
 
 pub id_step : (size : ℕ) (at : ℕ → ℕ) (found : Findings) → item (tr.id_item at) [] (state (with_argument size) found)
     ≡ Outcome.Gives (Statement.Assign (place_in_tree (at 28)) (Place.Scalar Automatic 1 long_int)
-    (RightSide.Value (Expression.Cast long_int (Expression.Variable Automatic 0 long_int))) ∷ []) (state (with_id size) found)
+    (Expression.Cast long_int (Expression.Variable Automatic 0 long_int)) ∷ []) (state (with_id size) found)
 unfolding declaration declarator local new_local declare is_taken declaring function_named base_of initialised initialised_by
 id_step size at found =
     ap (λ add. add [] (state (with_argument size) found)) (node.declaration_item (record {
@@ -170,7 +172,7 @@ id_step size at found =
       declarators = tr.declarator (tr.named (codes "id") (at 28)) (Some (tree.expression (at 30) (form.Cast (tr.words (w.Long ∷ []) (at 31)) (tr.variable (tr.named (codes "arg") (at 33)))))) ∷ [];
     }))
     ∙ ap (λ r. and_then (in_scope (with_id size) (and_then r (initialised_by (Some (record { storage = Automatic; number = 1; ty = Long; length = None; is_const = false })) (at 28))))
-    (λ step. pure (step ∷ []))) (id_right size (at 30) (at 31) (at 33) found)
+    (λ step. pure (step ∷ []))) (id_right size (place_in_tree (at 28)) (at 30) (at 31) (at 33) found)
 
 -- ---- unsigned a = (unsigned)id + 1, b = 2, c = 3, d = 4;
 
@@ -201,44 +203,48 @@ first_gives size at found =
     (node.cast_value s (at 38) words e found ∙ ap (λ (m : Meant). cast s words m found) (node.variable_meant s (tr.named (codes "id") (at 41))))
     (node.constant_value s 1 (at 43) found) refl
 
-first_right : (size : ℕ) (at : ℕ → ℕ) (found : Findings) → right_side (with_a size) (first_tree at) found ≡ Outcome.Gives (RightSide.Value first_value) found
-first_right size at found =
+first_right : (size step : ℕ) (at : ℕ → ℕ) (found : Findings) → right_side (with_a size) step 6 (first_tree at) found ≡ Outcome.Gives (uncut first_value) found
+first_right size step at found =
     let e : ExpressionTree = tree.expression (at 38) (form.Cast (tr.words (w.Unsigned ∷ []) (at 39)) (tr.variable (tr.named (codes "id") (at 41)))) in
     let terms : List Term = tree.term (b.Add, (at 42)) (tr.constant 1 (at 43)) ∷ [] in
-    node.right_of (with_a size) (at 38) (form.Binary e terms) (Form-F.Binary e terms) first_value found (form.outs-Binary e terms) refl (first_gives size at found)
+    node.right_of (with_a size) step 6 (at 38) (form.Binary e terms) (Form-F.Binary e terms) first_value found (form.outs-Binary e terms) refl (first_gives size at found)
 
-constant_right : (s : Scope) (n o : ℕ) (found : Findings) → right_side s (tr.constant n o) found ≡ Outcome.Gives (RightSide.Value (word.int_number n)) found
-constant_right s n o found =
-    node.right_of s o (form.Constant (Typed n Int) o) (Form-F.Constant (Typed n Int) o) (word.int_number n) found (form.outs-Constant (Typed n Int) o) refl
+constant_right : (s : Scope) (step n o : ℕ) (found : Findings) → right_side s step 6 (tr.constant n o) found ≡ Outcome.Gives (uncut (word.int_number n)) found
+constant_right s step n o found =
+    node.right_of s step 6 o (form.Constant (Typed n Int) o) (Form-F.Constant (Typed n Int) o) (word.int_number n) found (form.outs-Constant (Typed n Int) o) refl
     (node.constant_value s n o found)
 
-declares_a : (size o : ℕ) (e : ExpressionTree) (v : Expression) (found : Findings) → right_side (with_a size) e found ≡ Outcome.Gives (RightSide.Value v) found →
+declares_a : (size o : ℕ) (e : ExpressionTree) (v : Expression) (found : Findings) →
+    right_side (with_a size) (place_in_tree o) 6 e found ≡ Outcome.Gives (uncut v) found →
     (p : ℕ) → declarator (unsigned_words p) (tr.declarator (tr.named (codes "a") o) (Some e)) (state (with_id size) found)
     ≡ Outcome.Gives (word.set_to o A v) (state (with_a size) found)
 unfolding declarator local new_local declare is_taken declaring function_named base_of initialised initialised_by
 declares_a size o e v found h p =
-    ap (λ (r : Outcome Findings RightSide). in_scope (with_a size) (and_then r (initialised_by (Some (unsigned_local 2)) o))) h
+    ap (λ (r : Outcome Findings Cut). in_scope (with_a size) (and_then r (initialised_by (Some (unsigned_local 2)) o))) h
 
-declares_b : (size o : ℕ) (e : ExpressionTree) (v : Expression) (found : Findings) → right_side (with_b size) e found ≡ Outcome.Gives (RightSide.Value v) found →
+declares_b : (size o : ℕ) (e : ExpressionTree) (v : Expression) (found : Findings) →
+    right_side (with_b size) (place_in_tree o) 6 e found ≡ Outcome.Gives (uncut v) found →
     (p : ℕ) → declarator (unsigned_words p) (tr.declarator (tr.named (codes "b") o) (Some e)) (state (with_a size) found)
     ≡ Outcome.Gives (word.set_to o B v) (state (with_b size) found)
 unfolding declarator local new_local declare is_taken declaring function_named base_of initialised initialised_by
 declares_b size o e v found h p =
-    ap (λ (r : Outcome Findings RightSide). in_scope (with_b size) (and_then r (initialised_by (Some (unsigned_local 3)) o))) h
+    ap (λ (r : Outcome Findings Cut). in_scope (with_b size) (and_then r (initialised_by (Some (unsigned_local 3)) o))) h
 
-declares_c : (size o : ℕ) (e : ExpressionTree) (v : Expression) (found : Findings) → right_side (with_c size) e found ≡ Outcome.Gives (RightSide.Value v) found →
+declares_c : (size o : ℕ) (e : ExpressionTree) (v : Expression) (found : Findings) →
+    right_side (with_c size) (place_in_tree o) 6 e found ≡ Outcome.Gives (uncut v) found →
     (p : ℕ) → declarator (unsigned_words p) (tr.declarator (tr.named (codes "c") o) (Some e)) (state (with_b size) found)
     ≡ Outcome.Gives (word.set_to o C v) (state (with_c size) found)
 unfolding declarator local new_local declare is_taken declaring function_named base_of initialised initialised_by
 declares_c size o e v found h p =
-    ap (λ (r : Outcome Findings RightSide). in_scope (with_c size) (and_then r (initialised_by (Some (unsigned_local 4)) o))) h
+    ap (λ (r : Outcome Findings Cut). in_scope (with_c size) (and_then r (initialised_by (Some (unsigned_local 4)) o))) h
 
-declares_d : (size o : ℕ) (e : ExpressionTree) (v : Expression) (found : Findings) → right_side (worker_scope size) e found ≡ Outcome.Gives (RightSide.Value v) found →
+declares_d : (size o : ℕ) (e : ExpressionTree) (v : Expression) (found : Findings) →
+    right_side (worker_scope size) (place_in_tree o) 6 e found ≡ Outcome.Gives (uncut v) found →
     (p : ℕ) → declarator (unsigned_words p) (tr.declarator (tr.named (codes "d") o) (Some e)) (state (with_c size) found)
     ≡ Outcome.Gives (word.set_to o D v) (state (worker_scope size) found)
 unfolding declarator local new_local declare is_taken declaring function_named base_of initialised initialised_by
 declares_d size o e v found h p =
-    ap (λ (r : Outcome Findings RightSide). in_scope (worker_scope size) (and_then r (initialised_by (Some (unsigned_local 5)) o))) h
+    ap (λ (r : Outcome Findings Cut). in_scope (worker_scope size) (and_then r (initialised_by (Some (unsigned_local 5)) o))) h
 
 -- behind other steps
 pub letters_step : (size : ℕ) (at : ℕ → ℕ) (found : Findings) (steps : List Statement) → item (tr.letters_item at) steps (state (with_id size) found)
@@ -259,10 +265,10 @@ letters_step size at found steps =
     ap (λ add. add steps (state (with_id size) found))
     (node.declaration_item (record { specifiers = tr.words (w.Unsigned ∷ []) (at 35); declarators = a ∷ b2 ∷ c3 ∷ d4 ∷ [] }))
     ∙ ap (λ (r : Outcome State Statement). more (b2 ∷ c3 ∷ d4 ∷ []) (and_then r (λ step. pure (steps ++ (step ∷ [])))))
-    (declares_a size (at 36) (first_tree at) first_value found (first_right size at found) (at 35))
+    (declares_a size (at 36) (first_tree at) first_value found (first_right size (place_in_tree (at 36)) at found) (at 35))
     ∙ ap (λ (r : Outcome State Statement). more (c3 ∷ d4 ∷ []) (and_then r (λ step. pure (one ++ (step ∷ [])))))
-    (declares_b size (at 45) (tr.constant 2 (at 47)) (word.int_number 2) found (constant_right (with_b size) 2 (at 47) found) (at 35))
+    (declares_b size (at 45) (tr.constant 2 (at 47)) (word.int_number 2) found (constant_right (with_b size) (place_in_tree (at 45)) 2 (at 47) found) (at 35))
     ∙ ap (λ (r : Outcome State Statement). more (d4 ∷ []) (and_then r (λ step. pure (two ++ (step ∷ [])))))
-    (declares_c size (at 49) (tr.constant 3 (at 51)) (word.int_number 3) found (constant_right (with_c size) 3 (at 51) found) (at 35))
+    (declares_c size (at 49) (tr.constant 3 (at 51)) (word.int_number 3) found (constant_right (with_c size) (place_in_tree (at 49)) 3 (at 51) found) (at 35))
     ∙ ap (λ (r : Outcome State Statement). and_then r (λ step. pure (three ++ (step ∷ []))))
-    (declares_d size (at 53) (tr.constant 4 (at 55)) (word.int_number 4) found (constant_right (worker_scope size) 4 (at 55) found) (at 35))
+    (declares_d size (at 53) (tr.constant 4 (at 55)) (word.int_number 4) found (constant_right (worker_scope size) (place_in_tree (at 53)) 4 (at 55) found) (at 35))

@@ -4,7 +4,7 @@ use Rattle.std.proofs.Common.{false, cond, refl, sym, ap, ◌∙◌, inl, inr, a
 use Rattle.std.specs.Prelude.{◌⊎◌, fold}
 use Rattle.std.proofs.lemmas.Bool.{leb-true, leb-false}
 use Rattle.c_program.specs.Tree.{Statement}
-use Rattle.c_resolution.specs.Statements.{Joined, joined_to, with_next, with_last, all_joined, paired, only, is_short, halved, rounds, sequence}
+use Rattle.c_resolution.specs.Sequences.{Joined, joined_to, with_next, with_last, all_joined, paired, only, is_short, halved, rounds, sequence}
 
 -- ---- how many are left
 
@@ -77,7 +77,7 @@ module _ {X : Type 0} (unit : X) (op : X → X → X)
   total [] = unit
   total (x ∷ xs) = op (f x) (total xs)
 
-  total_append : (xs ys : List Statement) → total (xs ++ ys) ≡ op (total xs) (total ys)
+  pub total_append : (xs ys : List Statement) → total (xs ++ ys) ≡ op (total xs) (total ys)
   total_append [] ys = sym (left (total ys))
   total_append (x ∷ xs) ys = ap (op (f x)) (total_append xs ys) ∙ sym (assoc (f x) (total xs) (total ys))
 

@@ -11,7 +11,7 @@ use Rattle.c_rules.specs.declared.findings.Findings.{Findings}
 use Rattle.c_rules.specs.Faults.{first}
 use Rattle.c_rules.specs.Findings as findings
 use Rattle.c_rules.specs.Walks.{Outcome, and_then}
-use Rattle.c_resolution.specs.Statements.{sequence}
+use Rattle.c_resolution.specs.Sequences.{sequence}
 use Rattle.c_resolution.specs.Files.{File, file}
 use Rattle.c_resolution.specs.Resolving.{Spells, IsFirstFault, behind, after, routines_given, program_at, no_tables, scope_with}
 use Rattle.c_resolution.specs.CallRules.{IsCallFault}
@@ -21,6 +21,8 @@ use Rattle.generated_profile.proofs.LineReading.{items_of}
 use Rattle.generated_profile.proofs.Trees as tr
 use Rattle.generated_profile.proofs.Faults.{no_calls}
 use Rattle.generated_profile.proofs.Scopes.{definitions}
+use Rattle.generated_profile.proofs.DeclaratorCounts as count
+use Rattle.generated_profile.proofs.NothingKept as kept
 use Rattle.generated_profile.proofs.Declaring as part
 use Rattle.generated_profile.proofs.WorkerBody as worker
 use Rattle.generated_profile.proofs.MainBody as main
@@ -67,8 +69,10 @@ module _ (k : ℕ) (before behind_lines last : ℕ → ℕ) (o : ℕ) (lines : L
       ∙ ap (λ r. fold walk r (tr.worker before behind_lines (items_of o lines) ∷ tr.main threads last ∷ [])) (part.elements_declared k before)
       ∙ ap (λ r. fold walk r (tr.main threads last ∷ []))
       (part.worker_declared size before worker_block (sequence (worker.body_statements size findings.nothing before behind_lines o lines))
+      (count.worker_count before behind_lines o (behind_lines 35) lines) (kept.worker_none size before behind_lines o lines)
       (worker.body_is size findings.nothing before behind_lines o (behind_lines 35) lines))
       ∙ part.main_declared size last worker_is main_block (sequence (main.main_statements size threads last)) found
+      (count.main_count threads last (last 120)) (kept.sequence_none (main.main_statements size threads last) refl)
       (main.main_is size threads last (last 120) findings.nothing)
 
   behind_is : behind unit.declarations ≡ end

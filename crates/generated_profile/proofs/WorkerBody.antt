@@ -6,12 +6,13 @@ use Rattle.c_tree.specs.declared.statement.BlockItem.{BlockItem}
 use Rattle.c_tree.specs.Trees as tree
 use Rattle.c_program.specs.declared.tree.Storage.TheVariants.{Automatic, Static}
 use Rattle.c_program.specs.declared.tree.BinaryOperator.TheVariants as operator
-use Rattle.c_program.specs.Tree.{Expression, Place, RightSide, ObjectPlace, ThreadCall, Statement}
+use Rattle.c_program.specs.Tree.{Expression, Place, ObjectPlace, ThreadCall, Statement}
 use Rattle.c_rules.specs.declared.findings.Findings.{Findings}
 use Rattle.c_rules.specs.declared.names.Scope.{Scope}
 use Rattle.c_rules.specs.Walks.{Outcome, and_then, pure, place_in_tree}
 use Rattle.c_resolution.specs.States.{State, state}
-use Rattle.c_resolution.specs.Statements.{item, items, sequence}
+use Rattle.c_resolution.specs.Sequences.{sequence}
+use Rattle.c_resolution.specs.Statements.{item, items}
 use Rattle.generated_text.specs.declared.draws.Letter.TheVariants.{A, B, C, D}
 use Rattle.generated_text.specs.declared.draws.Line.{Line}
 use Rattle.generated_profile.proofs.LineReading.{items_of}
@@ -31,17 +32,17 @@ five_behind xs a b c d e =
 
 abbrev pub opening_statements : (ℕ → ℕ) → List Statement
 opening_statements at =
-    Statement.Assign (place_in_tree (at 28)) (Place.Scalar Automatic 1 long_int) (RightSide.Value (Expression.Cast long_int (Expression.Variable Automatic 0 long_int)))
+    Statement.Assign (place_in_tree (at 28)) (Place.Scalar Automatic 1 long_int) (Expression.Cast long_int (Expression.Variable Automatic 0 long_int))
     ∷ word.set_to (at 36) A (word.unsigned_of operator.Add (Expression.Cast unsigned_int word.id_value) (word.int_number 1))
     ∷ word.set_to (at 45) B (word.int_number 2) ∷ word.set_to (at 49) C (word.int_number 3) ∷ word.set_to (at 53) D (word.int_number 4) ∷ []
 
 abbrev pub closing_statements : ℕ → (ℕ → ℕ) → List Statement
 closing_statements size at =
-    Statement.Assign (place_in_tree (at 0)) (Place.Element Static 1 size unsigned_int word.id_value) (RightSide.Value last.mixed)
+    Statement.Assign (place_in_tree (at 0)) (Place.Element Static 1 size unsigned_int word.id_value) last.mixed
     ∷ Statement.Thread (place_in_tree (at 13)) (ThreadCall.MutexLock (ObjectPlace.Single 0))
     ∷ Statement.Update (place_in_tree (at 19)) (Place.Scalar Static 0 unsigned_int) operator.Add unsigned_int (Expression.Element Static 1 size unsigned_int word.id_value)
     ∷ Statement.Thread (place_in_tree (at 26)) (ThreadCall.MutexUnlock (ObjectPlace.Single 0))
-    ∷ Statement.Return (place_in_tree (at 32)) (Some (RightSide.Value (Expression.Constant long_int (pos 0)))) ∷ []
+    ∷ Statement.Return (place_in_tree (at 32)) (Some (Expression.Constant long_int (pos 0))) ∷ []
 
 module _ (size : ℕ) (found : Findings) where
   abbrev s : Scope
@@ -57,18 +58,18 @@ module _ (size : ℕ) (found : Findings) where
   opening_steps at =
       ap (λ o. node.joins o (item (tr.letters_item at))) (scope.id_step size at found)
       ∙ scope.letters_step size at found
-      (Statement.Assign (place_in_tree (at 28)) (Place.Scalar Automatic 1 long_int) (RightSide.Value (Expression.Cast long_int (Expression.Variable Automatic 0 long_int))) ∷ [])
+      (Statement.Assign (place_in_tree (at 28)) (Place.Scalar Automatic 1 long_int) (Expression.Cast long_int (Expression.Variable Automatic 0 long_int)) ∷ [])
 
   closing_steps : (at : ℕ → ℕ) (steps : List Statement) →
       fold node.joins (Outcome.Gives steps here) (map item (tr.closing_items at)) ≡ Outcome.Gives (steps ++ closing_statements size at) here
   closing_steps at steps =
       let means = scope.worker_means size in
-      let a : Statement = Statement.Assign (place_in_tree (at 0)) (Place.Element Static 1 size unsigned_int word.id_value) (RightSide.Value last.mixed) in
+      let a : Statement = Statement.Assign (place_in_tree (at 0)) (Place.Element Static 1 size unsigned_int word.id_value) last.mixed in
       let l : Statement = Statement.Thread (place_in_tree (at 13)) (ThreadCall.MutexLock (ObjectPlace.Single 0)) in
       let d : Statement =
       Statement.Update (place_in_tree (at 19)) (Place.Scalar Static 0 unsigned_int) operator.Add unsigned_int (Expression.Element Static 1 size unsigned_int word.id_value) in
       let u : Statement = Statement.Thread (place_in_tree (at 26)) (ThreadCall.MutexUnlock (ObjectPlace.Single 0)) in
-      let r : Statement = Statement.Return (place_in_tree (at 32)) (Some (RightSide.Value (Expression.Constant long_int (pos 0)))) in
+      let r : Statement = Statement.Return (place_in_tree (at 32)) (Some (Expression.Constant long_int (pos 0))) in
       ap (λ o. fold node.joins o (map item (tr.last_lock_item at ∷ tr.last_add_item at ∷ tr.last_unlock_item at ∷ tr.null_item at ∷ []))) (last.mix_step s size found means refl at steps)
       ∙ ap (λ o. fold node.joins o (map item (tr.last_add_item at ∷ tr.last_unlock_item at ∷ tr.null_item at ∷ []))) (last.last_lock_step s size found means refl at (steps ++ (a ∷ [])))
       ∙ ap (λ o. fold node.joins o (map item (tr.last_unlock_item at ∷ tr.null_item at ∷ []))) (last.last_add_step s size found means refl at (steps ++ (a ∷ []) ++ (l ∷ [])))
