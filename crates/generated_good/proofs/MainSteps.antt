@@ -15,7 +15,7 @@ use Rattle.thread_semantics.specs.declared.object.MutexState.{MutexState}
 use Rattle.thread_semantics.specs.declared.object.MutexState.TheVariants.{Uninitialised, Free, Owned}
 use Rattle.thread_semantics.specs.Memory.{Location, Memory, Evaluation, Gives, Fails, after_reads, and_then}
 use Rattle.thread_semantics.specs.Value.{checked_index, load, global_value}
-use Rattle.thread_semantics.specs.Work.{Work, Do, Next, Turn, Perform, Act, Onward, asked, settled, decided}
+use Rattle.thread_semantics.specs.Work.{Work, Do, Next, Turn, Perform, Act, Onward, settled, decided}
 use Rattle.thread_semantics.specs.State.{Frame, Slot, Unused, Running, Finished, State, begun}
 use Rattle.thread_semantics.specs.Move.{Move, move, stored, prepared}
 use Rattle.thread_semantics.specs.Step.{Steps, Blocks, Undefines, with_slot, created, joined}
@@ -25,7 +25,7 @@ use Rattle.race_model.proofs.Sound.{unused_at}
 use Rattle.generated_good.proofs.FirstStatement.{Left, first_of, IsPlain, settles}
 use Rattle.generated_good.proofs.CountedTurns.{small_int, tested, raised_by_one}
 use Rattle.generated_good.proofs.States.{made, Parts, globals_of, state_of, WorkerAt, WorkerSlot, Idle, Over, Works, main_frame, Round, Creates, Joins}
-use Rattle.generated_good.proofs.States.{Prints, format, step_at, call_at, body_of, act_of_round, round_statement, step_of, loop_of, initialisation}
+use Rattle.generated_good.proofs.States.{Prints, format, step_at, call_at, body_of, act_of_round, round_statement, step_of, loop_of, asked_work, initialisation}
 use Rattle.generated_good.proofs.States.{total_print, destruction, last_return}
 use Rattle.generated_good.proofs.States.{behind, IsCount, AreOperands, MainAt, Declaring, Naming, Initialising, Beginning, Testing, Calling, Acting}
 use Rattle.generated_good.proofs.States.{Stepping, Summing, Showing, Clearing, Destroying, Returning, IsReady, HasOwner, Live, GoesOn, Ended, AreAllowed, Outcome, Waits, Goes}
@@ -230,8 +230,8 @@ module _ (worker main : Function) (sum elements : GlobalVariable) (threads : ℕ
     beginning c i k is left count on =
         settled_frame i k (round_statement threads at c) (behind threads at c) (λ _ _. refl) left is
         (λ k2 left2 is2.
-        goes_by (main_frame i (first_of (round_statement threads at c) k2) []) (turn_frame c 0 (asked (loop_of threads at c) k2)) is2
-        (ap (λ (v : ℤ). Move.Moves (main_frame (Some v) (asked (loop_of threads at c) k2) [] ∷ []) [] None) (small_int 0 (omega arith)))
+        goes_by (main_frame i (first_of (round_statement threads at c) k2) []) (turn_frame c 0 (asked_work threads at c k2)) is2
+        (ap (λ (v : ℤ). Move.Moves (main_frame (Some v) (asked_work threads at c k2) [] ∷ []) [] None) (small_int 0 (omega arith)))
         (Testing c 0 k2 refl left2 (omega arith) count on))
 
     -- behind a loop, by which it is
@@ -248,39 +248,39 @@ module _ (worker main : Function) (sum elements : GlobalVariable) (threads : ℕ
     body_first Joins k = refl
     body_first Prints k = refl
 
-    testing : (c : Round) (n : ℕ) (k : List Work) → p.frame ≡ turn_frame c n (asked (loop_of threads at c) k) → Left k (behind threads at c) → n ≤ threads →
+    testing : (c : Round) (n : ℕ) (k : List Work) → p.frame ≡ turn_frame c n (asked_work threads at c k) → Left k (behind threads at c) → n ≤ threads →
         IsCount threads at c n live.lo live.hi → live.ready ≡ true → Result
     testing c n k is left most count on = go (nat_lt n threads) refl
       where
         goes_to : (b : Bool) → nat_lt n threads ≡ b →
-            move_of (turn_frame c n (asked (loop_of threads at c) k)) ≡ Move.Moves (turn_frame c n (decided b (Turn (loop_of threads at c) ∷ k)) ∷ []) [] None
+            move_of (turn_frame c n (asked_work threads at c k)) ≡ Move.Moves (turn_frame c n (decided b (Turn (loop_of threads at c) ∷ k)) ∷ []) [] None
         goes_to b e =
             ap (λ (truth : Bool). Move.Moves (turn_frame c n (decided truth (Turn (loop_of threads at c) ∷ k)) ∷ []) [] None)
             (tested n threads (omega (arith, most, few)) (omega (arith, few)) ∙ e)
 
         go : (b : Bool) → nat_lt n threads ≡ b → Result
         go true e =
-            goes_by (turn_frame c n (asked (loop_of threads at c) k)) (turn_frame c n (Do (body_of threads at c) ∷ Next (loop_of threads at c) ∷ k)) is
+            goes_by (turn_frame c n (asked_work threads at c k)) (turn_frame c n (Do (body_of threads at c) ∷ Next (loop_of threads at c) ∷ k)) is
             (goes_to true e ∙ ap (λ (work : List Work). Move.Moves (turn_frame c n work ∷ []) [] None) (body_first c k))
             (Calling c n k refl left (ltb-true n threads e) count on)
         go false e =
             let more = ltb-false n threads e in
-            goes_by (turn_frame c n (asked (loop_of threads at c) k)) (turn_frame c n (settled Onward k)) is (goes_to false e)
+            goes_by (turn_frame c n (asked_work threads at c k)) (turn_frame c n (settled Onward k)) is (goes_to false e)
             (after_loop c n k left (omega (arith, more, most)) count on)
 
-    stepping : (c : Round) (n : ℕ) (k : List Work) → p.frame ≡ turn_frame c n (Do (step_of threads at c) ∷ asked (loop_of threads at c) k) → Left k
+    stepping : (c : Round) (n : ℕ) (k : List Work) → p.frame ≡ turn_frame c n (Do (step_of threads at c) ∷ asked_work threads at c k) → Left k
         (behind threads at c) → n < threads →
         IsCount threads at c (suc n) live.lo live.hi → live.ready ≡ true → Result
     stepping c n k is left less count on =
-        let f = turn_frame c n (Do (step_of threads at c) ∷ asked (loop_of threads at c) k) in
-        goes_by f (turn_frame c (suc n) (asked (loop_of threads at c) k)) is
+        let f = turn_frame c n (Do (step_of threads at c) ∷ asked_work threads at c k) in
+        goes_by f (turn_frame c (suc n) (asked_work threads at c k)) is
         (ap
         (λ (x : Evaluation ℤ). stored (step_at threads at c)
         (after_reads [] (after_reads [] (after_reads []
         (and_then x (λ r. Gives (record { target = record { storage = Automatic; variable = 0; index = 0; ty = int_type }; value = r }) [])))))
-        f [] (asked (loop_of threads at c) k))
+        f [] (asked_work threads at c k))
         (raised_by_one n (omega (arith, less, few)))
-        ∙ ap (λ (v : ℤ). Move.Moves (main_frame (Some v) (asked (loop_of threads at c) k) [] ∷ []) [] None) (small_int (suc n) (omega (arith, less, few))))
+        ∙ ap (λ (v : ℤ). Move.Moves (main_frame (Some v) (asked_work threads at c k) [] ∷ []) [] None) (small_int (suc n) (omega (arith, less, few))))
         (Testing c (suc n) k refl left (omega (arith, less)) count on)
 
     index_inside : (n : ℕ) → n < threads → checked_index threads (pos n) ≡ Gives n []
@@ -337,7 +337,7 @@ module _ (worker main : Function) (sum elements : GlobalVariable) (threads : ℕ
     -- ---- their acts
 
     abbrev stepping_frame : Round → ℕ → List Work → Frame
-    stepping_frame c n k = turn_frame c n (Do (step_of threads at c) ∷ asked (loop_of threads at c) k)
+    stepping_frame c n k = turn_frame c n (Do (step_of threads at c) ∷ asked_work threads at c k)
 
     abbrev act_frame : Round → ℕ → List Work → List ℤ → Frame
     act_frame c n k kept = main_frame (Some (pos n)) (Perform (call_at threads at c) (act_of_round threads at c) ∷ Next (loop_of threads at c) ∷ k) kept
@@ -460,7 +460,7 @@ module _ (worker main : Function) (sum elements : GlobalVariable) (threads : ℕ
         Left k (behind threads at Prints) → n < threads → IsCount threads at Prints n live.lo live.hi → live.ready ≡ true → Result
     printing n k kept is left less count on =
         let f = main_frame (Some (pos n)) (Perform (at 13) (Act.Print format) ∷ Next (loop_of threads at Prints) ∷ k) kept in
-        let g = turn_frame Prints n (Do (step_of threads at Prints) ∷ asked (loop_of threads at Prints) k) in
+        let g = turn_frame Prints n (Do (step_of threads at Prints) ∷ asked_work threads at Prints k) in
         let mv = Move.Acts (at 13) (Act.Print format) kept (g ∷ []) in
         Goes (state_of (record p { frame = g; output = p.output ++ text_printed format kept })) (does f mv is refl)
         (GoesOn (record p { frame = g; output = p.output ++ text_printed format kept }) refl

@@ -11,7 +11,7 @@ use Rattle.generated_text.specs.declared.draws.Line.{Line}
 use Rattle.c_program.specs.declared.tree.Storage.TheVariants.{Automatic, Static}
 use Rattle.c_program.specs.declared.tree.BinaryOperator.TheVariants as operator
 use Rattle.c_program.specs.declared.tree.ReturnType.TheVariants.{Integer, Pointer}
-use Rattle.c_program.specs.Tree.{Expression, Place, Condition, RightSide, ObjectPlace, ThreadCall, Piece, Statement, Function, GlobalVariable, Program}
+use Rattle.c_program.specs.Tree.{Expression, Place, ObjectPlace, ThreadCall, Piece, Statement, Function, GlobalVariable, Program}
 use Rattle.c_program.specs.Resolved.{scalar}
 use Rattle.thread_semantics.specs.Races.{IsGood}
 use Rattle.generated_program.specs.Worker.{worker_locals, line_statements, AreLines, IsWorker}
@@ -24,40 +24,41 @@ worker = record {
   name = codes "worker";
   returns = Pointer;
   parameters = 1;
+  declared_locals = 6;
   locals = worker_locals;
   local_names = codes "arg" ∷ codes "id" ∷ codes "a" ∷ codes "b" ∷ codes "c" ∷ codes "d" ∷ [];
   body =
       (Statement.Sequence (Statement.Sequence (Statement.Sequence (Statement.Sequence (Statement.Sequence (Statement.Assign 135 (Place.Scalar
-      Automatic 1 long_int) (RightSide.Value (Expression.Cast long_int (Expression.Variable Automatic 0 long_int)))) (Statement.Assign 162
-      (Place.Scalar Automatic 2 unsigned_int) (RightSide.Value (Expression.Binary operator.Add unsigned_int (Expression.Cast unsigned_int
-      (Expression.Variable Automatic 1 long_int)) (Expression.Constant int_type (pos 1)))))) (Statement.Sequence (Statement.Assign 184 (Place.Scalar
-      Automatic 3 unsigned_int) (RightSide.Value (Expression.Constant int_type (pos 2)))) (Statement.Assign 191 (Place.Scalar Automatic 4
-      unsigned_int) (RightSide.Value (Expression.Constant int_type (pos 3)))))) (Statement.Sequence (Statement.Sequence (Statement.Assign 198
-      (Place.Scalar Automatic 5 unsigned_int) (RightSide.Value (Expression.Constant int_type (pos 4)))) (Statement.Assign 207 (Place.Scalar Automatic
-      2 unsigned_int) (RightSide.Value (Expression.Binary operator.Add unsigned_int (Expression.Variable Automatic 3 unsigned_int)
-      (Expression.Variable Automatic 4 unsigned_int))))) (Statement.Sequence (Statement.Assign 220 (Place.Scalar Automatic 2 unsigned_int)
-      (RightSide.Value (Expression.Binary operator.Subtract unsigned_int (Expression.Variable Automatic 3 unsigned_int) (Expression.Variable Automatic
-      4 unsigned_int)))) (Statement.Assign 233 (Place.Scalar Automatic 2 unsigned_int) (RightSide.Value (Expression.Binary operator.Multiply
-      unsigned_int (Expression.Variable Automatic 3 unsigned_int) (Expression.Variable Automatic 4 unsigned_int))))))) (Statement.Sequence
-      (Statement.Sequence (Statement.Sequence (Statement.Assign 246 (Place.Scalar Automatic 2 unsigned_int) (RightSide.Value (Expression.Binary
-      operator.ExclusiveOr unsigned_int (Expression.Variable Automatic 3 unsigned_int) (Expression.Variable Automatic 4 unsigned_int))))
-      (Statement.Assign 259 (Place.Scalar Automatic 2 unsigned_int) (RightSide.Value (Expression.Binary operator.Divide unsigned_int
+      Automatic 1 long_int) (Expression.Cast long_int (Expression.Variable Automatic 0 long_int))) (Statement.Assign 162
+      (Place.Scalar Automatic 2 unsigned_int) (Expression.Binary operator.Add unsigned_int (Expression.Cast unsigned_int
+      (Expression.Variable Automatic 1 long_int)) (Expression.Constant int_type (pos 1))))) (Statement.Sequence (Statement.Assign 184 (Place.Scalar
+      Automatic 3 unsigned_int) (Expression.Constant int_type (pos 2))) (Statement.Assign 191 (Place.Scalar Automatic 4
+      unsigned_int) (Expression.Constant int_type (pos 3))))) (Statement.Sequence (Statement.Sequence (Statement.Assign 198
+      (Place.Scalar Automatic 5 unsigned_int) (Expression.Constant int_type (pos 4))) (Statement.Assign 207 (Place.Scalar Automatic
+      2 unsigned_int) (Expression.Binary operator.Add unsigned_int (Expression.Variable Automatic 3 unsigned_int)
+      (Expression.Variable Automatic 4 unsigned_int)))) (Statement.Sequence (Statement.Assign 220 (Place.Scalar Automatic 2 unsigned_int)
+      (Expression.Binary operator.Subtract unsigned_int (Expression.Variable Automatic 3 unsigned_int) (Expression.Variable Automatic
+      4 unsigned_int))) (Statement.Assign 233 (Place.Scalar Automatic 2 unsigned_int) (Expression.Binary operator.Multiply
+      unsigned_int (Expression.Variable Automatic 3 unsigned_int) (Expression.Variable Automatic 4 unsigned_int)))))) (Statement.Sequence
+      (Statement.Sequence (Statement.Sequence (Statement.Assign 246 (Place.Scalar Automatic 2 unsigned_int) (Expression.Binary
+      operator.ExclusiveOr unsigned_int (Expression.Variable Automatic 3 unsigned_int) (Expression.Variable Automatic 4 unsigned_int)))
+      (Statement.Assign 259 (Place.Scalar Automatic 2 unsigned_int) (Expression.Binary operator.Divide unsigned_int
       (Expression.Variable Automatic 3 unsigned_int) (Expression.Binary operator.InclusiveOr unsigned_int (Expression.Variable Automatic 4
-      unsigned_int) (Expression.Constant int_type (pos 1))))))) (Statement.Sequence (Statement.If (Condition.Operand 282 (Expression.Binary
+      unsigned_int) (Expression.Constant int_type (pos 1)))))) (Statement.Sequence (Statement.If (Statement.Test 282 (Expression.Binary
       operator.Less unsigned_int (Expression.Variable Automatic 3 unsigned_int) (Expression.Variable Automatic 4 unsigned_int))) (Statement.Block
-      (Statement.Assign 291 (Place.Scalar Automatic 2 unsigned_int) (RightSide.Value (Expression.Binary operator.Add unsigned_int (Expression.Variable
-      Automatic 2 unsigned_int) (Expression.Constant int_type (pos 1)))))) Statement.Done) (Statement.Assign 306 (Place.Element Static 1 2
-      unsigned_int (Expression.Variable Automatic 1 long_int)) (RightSide.Value (Expression.Variable Automatic 2 unsigned_int))))) (Statement.Sequence
+      (Statement.Assign 291 (Place.Scalar Automatic 2 unsigned_int) (Expression.Binary operator.Add unsigned_int (Expression.Variable
+      Automatic 2 unsigned_int) (Expression.Constant int_type (pos 1))))) Statement.Done) (Statement.Assign 306 (Place.Element Static 1 2
+      unsigned_int (Expression.Variable Automatic 1 long_int)) (Expression.Variable Automatic 2 unsigned_int)))) (Statement.Sequence
       (Statement.Sequence (Statement.Thread 319 (ThreadCall.MutexLock (ObjectPlace.Single 0))) (Statement.Update 343 (Place.Scalar Static 0
       unsigned_int) operator.Add unsigned_int (Expression.Variable Automatic 2 unsigned_int))) (Statement.Sequence (Statement.Thread 351
       (ThreadCall.MutexUnlock (ObjectPlace.Single 0))) (Statement.Assign 379 (Place.Element Static 1 2 unsigned_int (Expression.Variable Automatic 1
-      long_int)) (RightSide.Value (Expression.Binary operator.ExclusiveOr unsigned_int (Expression.Binary operator.ExclusiveOr unsigned_int
+      long_int)) (Expression.Binary operator.ExclusiveOr unsigned_int (Expression.Binary operator.ExclusiveOr unsigned_int
       (Expression.Binary operator.ExclusiveOr unsigned_int (Expression.Variable Automatic 2 unsigned_int) (Expression.Variable Automatic 3
-      unsigned_int)) (Expression.Variable Automatic 4 unsigned_int)) (Expression.Variable Automatic 5 unsigned_int)))))))) (Statement.Sequence
+      unsigned_int)) (Expression.Variable Automatic 4 unsigned_int)) (Expression.Variable Automatic 5 unsigned_int))))))) (Statement.Sequence
       (Statement.Sequence (Statement.Thread 404 (ThreadCall.MutexLock (ObjectPlace.Single 0))) (Statement.Update 430 (Place.Scalar Static 0
       unsigned_int) operator.Add unsigned_int (Expression.Element Static 1 2 unsigned_int (Expression.Variable Automatic 1 long_int))))
-      (Statement.Sequence (Statement.Thread 444 (ThreadCall.MutexUnlock (ObjectPlace.Single 0))) (Statement.Return 472 (Some (RightSide.Value
-      (Expression.Constant long_int (pos 0))))))));
+      (Statement.Sequence (Statement.Thread 444 (ThreadCall.MutexUnlock (ObjectPlace.Single 0))) (Statement.Return 472 (Some (Expression.Constant
+      long_int (pos 0)))))));
   end = 485;
 }
 
@@ -66,26 +67,27 @@ main = record {
   name = codes "main";
   returns = Integer int_type;
   parameters = 0;
+  declared_locals = 1;
   locals = scalar int_type ∷ [];
   local_names = codes "i" ∷ [];
   body =
       (Statement.Sequence (Statement.Sequence (Statement.Sequence (Statement.Declare 510 0 0) (Statement.Thread 515 (ThreadCall.MutexInit
-      (ObjectPlace.Single 0)))) (Statement.Sequence (Statement.For (Statement.Assign 552 (Place.Scalar Automatic 0 int_type) (RightSide.Value
-      (Expression.Constant int_type (pos 0)))) (Condition.Operand 559 (Expression.Binary operator.Less int_type (Expression.Variable Automatic 0
+      (ObjectPlace.Single 0)))) (Statement.Sequence (Statement.For (Statement.Assign 552 (Place.Scalar Automatic 0 int_type) (Expression.Constant
+      int_type (pos 0))) (Statement.Test 559 (Expression.Binary operator.Less int_type (Expression.Variable Automatic 0
       int_type) (Expression.Constant int_type (pos 2)))) (Statement.Update 566 (Place.Scalar Automatic 0 int_type) operator.Add int_type
       (Expression.Constant int_type (pos 1))) (Statement.Block (Statement.Thread 577 (ThreadCall.Create (ObjectPlace.Element 0 2 (Expression.Variable
       Automatic 0 int_type)) 0 (Expression.Cast long_int (Expression.Variable Automatic 0 int_type)))))) (Statement.For (Statement.Assign 642
-      (Place.Scalar Automatic 0 int_type) (RightSide.Value (Expression.Constant int_type (pos 0)))) (Condition.Operand 649 (Expression.Binary
+      (Place.Scalar Automatic 0 int_type) (Expression.Constant int_type (pos 0))) (Statement.Test 649 (Expression.Binary
       operator.Less int_type (Expression.Variable Automatic 0 int_type) (Expression.Constant int_type (pos 2)))) (Statement.Update 656 (Place.Scalar
       Automatic 0 int_type) operator.Add int_type (Expression.Constant int_type (pos 1))) (Statement.Block (Statement.Thread 667 (ThreadCall.Join
       (ObjectPlace.Element 0 2 (Expression.Variable Automatic 0 int_type)))))))) (Statement.Sequence (Statement.Sequence (Statement.For
-      (Statement.Assign 704 (Place.Scalar Automatic 0 int_type) (RightSide.Value (Expression.Constant int_type (pos 0)))) (Condition.Operand 711
+      (Statement.Assign 704 (Place.Scalar Automatic 0 int_type) (Expression.Constant int_type (pos 0))) (Statement.Test 711
       (Expression.Binary operator.Less int_type (Expression.Variable Automatic 0 int_type) (Expression.Constant int_type (pos 2)))) (Statement.Update
       718 (Place.Scalar Automatic 0 int_type) operator.Add int_type (Expression.Constant int_type (pos 1))) (Statement.Block (Statement.Print 729
       (Piece.Conversion unsigned_int ∷ Piece.Text (10 ∷ []) ∷ []) ((Expression.Element Static 1 2 unsigned_int (Expression.Variable Automatic 0
       int_type)) ∷ [])))) (Statement.Print 757 (Piece.Conversion unsigned_int ∷ Piece.Text (10 ∷ []) ∷ []) ((Expression.Variable Static 0
       unsigned_int) ∷ []))) (Statement.Sequence (Statement.Thread 778 (ThreadCall.MutexDestroy (ObjectPlace.Single 0))) (Statement.Return 807 (Some
-      (RightSide.Value (Expression.Constant int_type (pos 0))))))));
+      (Expression.Constant int_type (pos 0)))))));
   end = 817;
 }
 

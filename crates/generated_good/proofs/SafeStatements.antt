@@ -8,16 +8,16 @@ use Rattle.generated_text.specs.declared.draws.Kind.{Kind}
 use Rattle.generated_text.specs.declared.draws.Kind.TheVariants.{Sum, Difference, Product, ExclusiveOr, Quotient, Raise, Publish, Add}
 use Rattle.generated_text.specs.declared.draws.Line.{Line}
 use Rattle.c_program.specs.declared.tree.Storage.TheVariants.{Automatic}
-use Rattle.c_program.specs.Tree.{Expression, Place, RightSide, Statement}
+use Rattle.c_program.specs.Tree.{Expression, Place, Statement}
 use Rattle.generated_program.specs.Worker.{int_number, local_of, variable, argument, assigned, own_element, published, added, locked}
 use Rattle.generated_program.specs.Worker.{unlocked, raised, kind_statements, line_statements, AreLines, opening, mixed, closing}
 use Rattle.generated_good.proofs.WorkerValues.{IsValue}
 
 abbrev pub named : ℕ → Statement
-named offset = Statement.Assign offset (Place.Scalar Automatic 1 long_int) (RightSide.Value (Expression.Cast long_int argument))
+named offset = Statement.Assign offset (Place.Scalar Automatic 1 long_int) (Expression.Cast long_int argument)
 
 abbrev pub returns_null : ℕ → Statement
-returns_null offset = Statement.Return offset (Some (RightSide.Value (Expression.Constant long_int (pos 0))))
+returns_null offset = Statement.Return offset (Some (Expression.Constant long_int (pos 0)))
 
 pub local_least : (x : Letter) → 2 ≤ local_of x
 local_least A = omega arith

@@ -5,12 +5,12 @@ use Rattle.std.specs.List.{AllByRecursion}
 use Rattle.hls_ints.specs.Types.{int_type, unsigned_int}
 use Rattle.c_program.specs.declared.tree.Storage.TheVariants.{Static}
 use Rattle.c_program.specs.declared.tree.BinaryOperator.TheVariants.{Less, Add}
-use Rattle.c_program.specs.Tree.{Expression, Condition, ObjectPlace, ThreadCall, Piece, RightSide, Statement, Function, GlobalVariable, Program}
+use Rattle.c_program.specs.Tree.{Expression, ObjectPlace, ThreadCall, Piece, Statement, Function, GlobalVariable, Program}
 use Rattle.thread_semantics.specs.declared.cause.BlockedCause.{BlockedCause}
 use Rattle.thread_semantics.specs.declared.object.MutexState.{MutexState}
 use Rattle.thread_semantics.specs.declared.object.MutexState.TheVariants.{Uninitialised, Owned}
 use Rattle.thread_semantics.specs.Memory.{Location}
-use Rattle.thread_semantics.specs.Work.{Work, Do, Next, Perform, Act, Loop, Onward, for_loop, asked, settled}
+use Rattle.thread_semantics.specs.Work.{Work, Do, Next, Turn, Perform, Act, Loop, Onward, for_loop, settled}
 use Rattle.thread_semantics.specs.State.{Frame, Slot, Unused, Running, Finished, State}
 use Rattle.thread_semantics.specs.Step.{Steps, Blocks, step}
 use Rattle.thread_semantics.specs.Races.{Touch, thread_touched}
@@ -133,14 +133,18 @@ module _ (threads : ℕ) (at : ℕ → ℕ) where
   abbrev pub round_statement : Round → Statement
   round_statement c = counted threads (first_at c) (test_at c) (step_at c) (body_of c)
 
-  abbrev pub test_of : Round → Condition
-  test_of c = Condition.Operand (test_at c) (Expression.Binary Less int_type counter (int_number threads))
+  abbrev pub test_of : Round → Statement
+  test_of c = Statement.Test (test_at c) (Expression.Binary Less int_type counter (int_number threads))
 
   abbrev pub step_of : Round → Statement
   step_of c = Statement.Update (step_at c) counter_place Add int_type (int_number 1)
 
   abbrev pub loop_of : Round → Loop
   loop_of c = for_loop (test_of c) (step_of c) (Statement.Block (body_of c))
+
+  -- the work where the loop's condition is next
+  abbrev pub asked_work : Round → List Work → List Work
+  asked_work c k = Do (test_of c) ∷ Turn (loop_of c) ∷ k
 
   abbrev pub initialisation : Statement
   initialisation = Statement.Thread (at 1) (ThreadCall.MutexInit (ObjectPlace.Single 0))
@@ -152,7 +156,7 @@ module _ (threads : ℕ) (at : ℕ → ℕ) where
   destruction = Statement.Thread (at 15) (ThreadCall.MutexDestroy (ObjectPlace.Single 0))
 
   abbrev pub last_return : Statement
-  last_return = Statement.Return (at 16) (Some (RightSide.Value (int_number 0)))
+  last_return = Statement.Return (at 16) (Some (int_number 0))
 
   -- what stands behind a loop
   abbrev pub behind : Round → List Statement
@@ -184,7 +188,7 @@ pub data MainAt (threads : ℕ) (at : ℕ → ℕ) (lo hi : ℕ) (ready : Bool) 
   Beginning : (c : Round) (i : Option ℤ) (k : List Work) (is : f ≡ main_frame i (settled Onward k) [])
       (left : Left k (round_statement threads at c ∷ behind threads at c)) (count : IsCount threads at c 0 lo hi) (on : ready ≡ true) →
       MainAt threads at lo hi ready f
-  Testing : (c : Round) (n : ℕ) (k : List Work) (is : f ≡ main_frame (Some (pos n)) (asked (loop_of threads at c) k) [])
+  Testing : (c : Round) (n : ℕ) (k : List Work) (is : f ≡ main_frame (Some (pos n)) (asked_work threads at c k) [])
       (left : Left k (behind threads at c)) (most : n ≤ threads) (count : IsCount threads at c n lo hi) (on : ready ≡ true) → MainAt threads at lo hi ready f
   Calling : (c : Round) (n : ℕ) (k : List Work) (is : f ≡ main_frame (Some (pos n)) (Do (body_of threads at c) ∷ Next (loop_of threads at c) ∷ k) [])
       (left : Left k (behind threads at c)) (less : n < threads) (count : IsCount threads at c n lo hi) (on : ready ≡ true) → MainAt threads at lo hi ready f
@@ -192,7 +196,7 @@ pub data MainAt (threads : ℕ) (at : ℕ → ℕ) (lo hi : ℕ) (ready : Bool) 
       (is : f ≡ main_frame (Some (pos n)) (Perform (call_at threads at c) (act_of_round threads at c) ∷ Next (loop_of threads at c) ∷ k) kept)
       (operands : AreOperands threads at c n kept) (left : Left k (behind threads at c)) (less : n < threads) (count : IsCount threads at c n lo hi)
       (on : ready ≡ true) → MainAt threads at lo hi ready f
-  Stepping : (c : Round) (n : ℕ) (k : List Work) (is : f ≡ main_frame (Some (pos n)) (Do (step_of threads at c) ∷ asked (loop_of threads at c) k) [])
+  Stepping : (c : Round) (n : ℕ) (k : List Work) (is : f ≡ main_frame (Some (pos n)) (Do (step_of threads at c) ∷ asked_work threads at c k) [])
       (left : Left k (behind threads at c)) (less : n < threads) (count : IsCount threads at c (suc n) lo hi) (on : ready ≡ true) →
       MainAt threads at lo hi ready f
   Summing : (i : Option ℤ) (k : List Work) (is : f ≡ main_frame i (settled Onward k) [])

@@ -36,9 +36,11 @@ IsValue n (Expression.Constant ty number) = Unit {0}
 IsValue n (Expression.Variable Automatic x ty) = x < n
 IsValue n (Expression.Variable Static x ty) = ⊥
 IsValue n (Expression.Element storage x length ty index) = ⊥
+IsValue n (Expression.Row outer outer_length inner inner_length) = ⊥
 IsValue n (Expression.Unary operator ty operand) = ⊥
 IsValue n (Expression.Binary operator ty left right) = (ty ≡ unsigned_int) × IsSure operator right × IsValue n left × IsValue n right
 IsValue n (Expression.Cast ty operand) = IsValue n operand
+IsValue n (Expression.Kept slot ty) = ⊥
 
 -- the first n locals are written
 abbrev pub Written : ℕ → Cells → Type 0
@@ -110,6 +112,7 @@ module _ (m : Memory) where
       let p = w x h in (p.0, ap (λ (o : Option (List (Option ℤ))). local_value (row_element o 0)) p.1)
   gives n w (Expression.Variable Static x ty) h = absurd h
   gives n w (Expression.Element storage x length ty index) h = absurd h
+  gives n w (Expression.Row outer outer_length inner inner_length) h = absurd h
   gives n w (Expression.Unary operator ty operand) h = absurd h
   gives n w (Expression.Binary operator ty left right) h =
       let a = gives n w left h.2 in
@@ -119,6 +122,7 @@ module _ (m : Memory) where
   gives n w (Expression.Cast ty operand) h =
       let a = gives n w operand h in
       (wrapped ty a.0, ap (λ (x : Evaluation ℤ). and_then x (λ v. Gives (wrapped ty v) [])) a.1)
+  gives n w (Expression.Kept slot ty) h = absurd h
 
 -- a scalar that is written
 put : (locals : Cells) (x : ℕ) (o : Option ℤ) (v : ℤ) → slice_get locals x ≡ Some (o ∷ []) → with_element locals x 0 (Some v) ≡ slice_set locals x (Some v ∷ [])
