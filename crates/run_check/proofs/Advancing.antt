@@ -14,18 +14,24 @@ use Rattle.race_model.proofs.Sound.{goes}
 use Rattle.run_races.specs.Order.{move_in, next_move}
 use Rattle.run_check.specs.declared.class.Class.{Class}
 use Rattle.run_check.specs.Class.{class_of, released_by}
-use Rattle.run_check.specs.Shadow.{Shadow, IsNoted}
+use Rattle.run_check.specs.Clocks.{clock}
+use Rattle.run_check.specs.Shadow.{Shadow, IsNoted, Misses}
 use Rattle.c_state.specs.declared.state.State.{State as StateCode}
 use Rattle.c_state.specs.View.{state_of}
 use Rattle.turns.specs.declared.Turn.{Turn}
 use Rattle.turns.specs.Turns.{threads_of}
 use Rattle.run_check.specs.declared.known.Known.{Known}
 use Rattle.run_check.specs.declared.run.Run.{Run}
-use Rattle.run_check.specs.Known.{shadow_of}
+use Rattle.run_check.specs.Known.{shadow_of, IsFirst}
 use Rattle.run_check.specs.Shown.{IsShown}
 use Rattle.run_check.specs.declared.run.Progress.{Progress}
 use Rattle.run_check.specs.declared.run.Progress.TheVariants as progress
-use Rattle.run_check.specs.Run.{IsRun, IsNotedRun, IsSameRun, IsAdvanced, IsNext, IsStopped}
+use Rattle.run_check.specs.declared.run.Reason.{Reason}
+use Rattle.run_check.specs.declared.run.Reason.TheVariants as reason
+use Rattle.run_check.specs.Verdict.{IsReason}
+use Rattle.run_check.specs.Run.{IsRun, IsNotedRun, IsSameRun, IsHeldUp, IsAdvanced, IsNext, IsStopped, reason_of}
+use Rattle.run_check.proofs.Traces.{none_of}
+use Rattle.run_check.proofs.UnorderedSteps.{unordered_shown}
 use Rattle.run_check.proofs.Runs.{none_shown, one_more}
 
 -- a step that is taken touches what its move does
@@ -52,9 +58,19 @@ pub blocked_is : (P : Program) (s : State) (i : ℕ) (cause : BlockedCause) → 
 blocked_is P s i cause e = ap is_blocked (sym e)
 
 -- the run before its first step
-pub first_shown : (P : Program) (s : State) (K : Shadow) → s ≡ start P → ((j k : ℕ) → K.clock j k ≡ 0) → IsShown P [] s K
-first_shown P s K is none =
-    subst (λ u. IsShown P [] u K) (sym is) (none_shown P K (λ j k. let zero : K.clock j k ≡ 0 = none j k in omega (arith, zero)))
+pub first_shown : (P : Program) (s : State) (k : Known) → s ≡ start P → IsFirst k → IsShown P [] s (shadow_of k)
+first_shown P s k is x =
+    subst (λ u. IsShown P [] u (shadow_of k)) (sym is)
+    (none_shown P (shadow_of k) (λ i n. let zero = x.clocks i n in omega (arith, zero)) (none_of P (shadow_of k) x.clocks x.write x.read x.mutex x.barrier x.id x.print) x.one_output)
+
+pub first_run : (P : Program) (r : Run) → state_of r.state ≡ start P → IsFirst r.known → r.turns.items ≡ [] → r.steps ≡ 0 → IsRun P r × (r.steps ≡ 0)
+first_run P r is x none count = (
+  record {
+    shown = subst (λ l. IsShown P l (state_of r.state) (shadow_of r.known)) (sym (ap threads_of none)) (first_shown P (state_of r.state) r.known is x);
+    count = ap (λ l. length (threads_of l)) none ∙ sym count;
+  },
+  count,
+)
 
 -- a thread that isn't there doesn't step
 no_slot : (slots : List Slot) (k : ℕ) → length slots ≤ k → slice_get slots k ≡ None
@@ -119,13 +135,37 @@ held_up P a b c i x below y = (
       subst (λ n. is_blocked (step P (state_of a.state) n) ≡ true) same (subst (λ s. is_blocked (step P s i) ≡ true) x.state y.1)) (cases_lt k i)),
 )
 
+-- a run is held up where it is so behind others that are blocked
+held_on : (P : Program) (a b c : Run) (r : Reason) → IsSameRun a b → IsHeldUp P b c r → IsHeldUp P a c r
+held_on P a b c r x y = λ run running. y (same_run P a b x run) (ap (λ (s : State). s.ended) x.state ∙ running)
+
+-- the run shows nothing by a step that isn't ordered
+pub unordered_held : (P : Program) (old mid new : Run) (i : ℕ) (c : Class) (touches : List Touch) → Steps (state_of mid.state) ≡ step P (state_of old.state) i →
+    mid.known ≡ old.known → mid.steps ≡ old.steps → c ≡ class_of (next_move P (state_of old.state) i) → touches ≡ footprint P (state_of old.state) i →
+    (new.steps ≡ mid.steps) × Misses (shadow_of mid.known) (clock mid.known.clocks.items i) c touches mid.state.ended → IsHeldUp P old new (reason_of c)
+unordered_held P old mid new i c touches taken known steps class is x = λ run running.
+    let s = state_of old.state in
+    let K = shadow_of old.known in
+    let goes : step P s i ≡ Steps (state_of mid.state) = sym taken in
+    let a : Misses K (K.clock i) c touches (state_of mid.state).ended =
+    subst (λ (k : Known). Misses (shadow_of k) (clock k.clocks.items i) c touches mid.state.ended) known x.1 in
+    let b = subst (λ (ts : List Touch). Misses K (K.clock i) c ts (state_of mid.state).ended) (is ∙ taken_touches P s (state_of mid.state) i goes) a in
+    let d = subst (λ (v : Class). Misses K (K.clock i) v (touched (next_move P s i)) (state_of mid.state).ended) class b in
+    subst (λ (v : Class). IsReason P new.steps (reason_of v)) (sym class)
+    (unordered_shown P (threads_of old.turns.items) s (state_of mid.state) i K run.shown goes running new.steps (run.count ∙ sym (x.0 ∙ steps)) d)
+
+-- nor where there is no place to keep it
+pub none_held : (P : Program) (old new : Run) → new.steps ≡ old.steps → IsHeldUp P old new reason.TooFewSteps
+none_held P old new e = λ run running. (threads_of old.turns.items, state_of old.state, run.count ∙ sym e, run.shown.taken, running, tt)
+
 -- the next step of a run, where others were blocked before
 pub next_of : (P : Program) (a b c : Run) (i : ℕ) (p : Progress) → (p ≡ progress.Blocked → ⊥) → IsSameRun a b → IsAdvanced P b c i p → IsNext P a c p
 next_of P a b c i progress.Stepped other x y = λ run. let z = y (same_run P a b x run) in (z.0, z.1 ∙ ap (λ n. n + 1) x.steps)
 next_of P a b c i progress.Blocked other x y = absurd (other refl)
 next_of P a b c i (progress.Undefined thread offset cause) other x y =
     (same_on a b c x y.0, subst (λ s. step P s thread ≡ Undefines offset cause) x.state y.1)
-next_of P a b c i (progress.Unordered thread stamp class) other x y = tt
+next_of P a b c i (progress.Unordered thread stamp class) other x y = held_on P a b c (reason_of class) x y
+next_of P a b c i progress.NoRoom other x y = held_on P a b c reason.TooFewSteps x y
 
 -- what a run is that has stopped
 pub stopped_of : (P : Program) (a b : Run) (p : Progress) → (p ≡ progress.Stepped → ⊥) → IsRun P a → a.state.ended ≡ false → IsNext P a b p → IsStopped P b p
@@ -140,7 +180,8 @@ stopped_of P a b (progress.Undefined thread offset cause) other run running x = 
   ap (λ (s : State). s.ended) x.0.state ∙ running,
   subst (λ s. step P s thread ≡ Undefines offset cause) (sym x.0.state) x.1,
 )
-stopped_of P a b (progress.Unordered thread stamp class) other run running x = tt
+stopped_of P a b (progress.Unordered thread stamp class) other run running x = x run running
+stopped_of P a b progress.NoRoom other run running x = x run running
 
 pub ok_given : {V E : Type 0} (r : Result V E) (A : Type 0) (B : V → Type 0) → IfOk r (λ v. A → B v) → A → IfOk r B
 ok_given (Ok v) A B x a = x a

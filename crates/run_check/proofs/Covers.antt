@@ -7,7 +7,7 @@ use Rattle.run_check.specs.declared.class.Class.{Class}
 use Rattle.run_check.specs.Clocks.{is_heard, ticked}
 use Rattle.run_check.specs.Shadow.{ClocksAfter, next_stamp}
 use Rattle.run_check.specs.Shown.{Covers, HasPeaks}
-use Rattle.run_check.proofs.Telling.{told_class, told_more, told_by}
+use Rattle.run_check.proofs.Telling.{told_class, told_more, told_by, told_back}
 
 pub covers_as : (clock : ℕ → ℕ → ℕ) (step : Stamp) (h g : ℕ → Bool) → ((j : ℕ) → g j ≡ h j) → Covers clock step h → Covers clock step g
 covers_as clock step h g is y = record { past = y.past; known = λ j e. is j ∙ y.known j e }
@@ -15,7 +15,7 @@ covers_as clock step h g is y = record { past = y.past; known = λ j e. is j ∙
 pub heard_by : (clock : ℕ → ℕ → ℕ) (step : Stamp) (h : ℕ → Bool) (j : ℕ) → Covers clock step h → is_heard (clock j) step ≡ true → h j ≡ true
 heard_by clock step h j y e = y.known j (leb-true step.number (clock j step.thread) e)
 
-ticked_cases : (clock : ℕ → ℕ → ℕ) (i j k : ℕ) →
+pub ticked_cases : (clock : ℕ → ℕ → ℕ) (i j k : ℕ) →
     ((j ≡ i) × (k ≡ i) × (ticked clock i j k ≡ clock i i + 1)) ⊎ (ticked clock i j k ≡ clock j k)
 unfolding ticked
 ticked_cases clock i j k = go (nat_eq j i) (nat_eq k i) refl refl
@@ -60,7 +60,7 @@ module _ (old new : ℕ → ℕ → ℕ) (i : ℕ) (c : Class) (r : List ℕ) (x
   covers_on step h y = record {
     past =
         let more = ticked_more old i step.thread step.thread in
-        let grows = x.grows step.thread in
+        let grows = x.grows step.thread step.thread in
         let past = y.past in
         omega (arith, past, more, grows);
     known = λ j e.
@@ -72,7 +72,7 @@ module _ (old new : ℕ → ℕ → ℕ) (i : ℕ) (c : Class) (r : List ℕ) (x
   -- the new step stands for each one of which all have heard that hear of it
   pub covers_new : HasPeaks old → (h : ℕ → Bool) → ((j : ℕ) → told_class c r i (nat_eq i) j ≡ true → h j ≡ true) → Covers new (next_stamp old i) h
   covers_new peaks h m = record {
-    past = let grows = x.grows i in let at = ticked_at old i in omega (arith, grows, at);
+    past = let grows = x.grows i i in let at = ticked_at old i in omega (arith, grows, at);
     known = λ j e.
         ⊎_elim (λ q. m j (told_more c r i (nat_eq i) j (ticked_own old i peaks j (omega (arith, e, q)))))
         (λ q. m j (told_by c r i (nat_eq i) q.0 j q.1 (ticked_own old i peaks q.0 (let is = q.2 in omega (arith, e, is)))))
@@ -81,5 +81,30 @@ module _ (old new : ℕ → ℕ → ℕ) (i : ℕ) (c : Class) (r : List ℕ) (x
 
   pub peaks_on : HasPeaks old → HasPeaks new
   peaks_on peaks j k =
-      ⊎_elim (λ q. let most = ticked_peaks old i peaks j k in let grows = x.grows k in omega (arith, q, most, grows))
-      (λ q. let is = q.2 in let most = ticked_peaks old i peaks q.0 k in let grows = x.grows k in omega (arith, is, most, grows)) (x.source j k)
+      ⊎_elim (λ q. let most = ticked_peaks old i peaks j k in let grows = x.grows k k in omega (arith, q, most, grows))
+      (λ q. let is = q.2 in let most = ticked_peaks old i peaks q.0 k in let grows = x.grows k k in omega (arith, is, most, grows)) (x.source j k)
+
+  -- the clocks show each who has heard of a step, and of the new one
+  pub heard_on : (step : Stamp) (h : ℕ → Bool) → ((j : ℕ) → h j ≡ true → step.number ≤ old j step.thread) → (j : ℕ) →
+      told_class c r i h j ≡ true → step.number ≤ new j step.thread
+  heard_on step h y j e =
+      ⊎_elim
+      (λ q. let a = y j q in let b = ticked_more old i j step.thread in let g = x.grows j step.thread in omega (arith, a, b, g))
+      (λ q. let a = y q.0 q.2 in let b = ticked_more old i q.0 step.thread in let g = x.told q.0 j step.thread q.1 in omega (arith, a, b, g))
+      (told_back c r i h j e)
+
+  pub heard_new : (j : ℕ) → told_class c r i (nat_eq i) j ≡ true → old i i + 1 ≤ new j i
+  heard_new j e =
+      ⊎_elim
+      (λ q. let a = own j q in let g = x.grows j i in omega (arith, a, g))
+      (λ q. let a = own q.0 q.2 in let g = x.told q.0 j i q.1 in omega (arith, a, g))
+      (told_back c r i (nat_eq i) j e)
+    where
+      own : (v : ℕ) → nat_eq i v ≡ true → ticked old i v i ≡ old i i + 1
+      own v q = ap (λ u. ticked old i u i) (sym (eqb-true i v q)) ∙ ticked_at old i
+
+  -- nobody tells a thread of its own steps
+  pub own_on : HasPeaks old → (k : ℕ) → new k k ≡ ticked old i k k
+  own_on peaks k =
+      ⊎_elim (λ q. q)
+      (λ q. let is = q.2 in let most = ticked_peaks old i peaks q.0 k in let grows = x.grows k k in omega (arith, is, most, grows)) (x.source k k)

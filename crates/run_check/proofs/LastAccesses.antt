@@ -7,6 +7,8 @@ use Rattle.std.proofs.lemmas.Bool.{cases_eq}
 use Rattle.lists.proofs.Places.{set_there, set_elsewhere}
 use Rattle.thread_semantics.specs.Memory.{Location}
 use Rattle.thread_semantics.specs.Races.{Touch}
+use Rattle.race_check.specs.declared.access.Access.{Access}
+use Rattle.race_check.specs.Access.{touch_of, touches_of}
 use Rattle.run_check.specs.declared.clocks.Stamp.{Stamp}
 use Rattle.run_check.specs.declared.elements.Element.{Element}
 use Rattle.run_check.specs.Objects.{Elements, element_in, element_at, write_of, read_of, write_at, read_at}
@@ -67,13 +69,13 @@ module _ (rows : Elements) (g index : ℕ) (old new : Vec Element Global) (befor
     write = λ p.
         ⊎_elim
         (λ q. ⊎_elim (λ e. inl (ap write_of q.3 ∙ e ∙ ap write_of (sym q.2)))
-        (λ e. inr (ap write_of q.3 ∙ e, same_place p q.0 q.1)) x.write)
+        (λ e. inr (ap write_of q.3 ∙ e.0, same_place p q.0 q.1, e.1)) x.write)
         (λ q. inl (ap write_of q)) (put_element p);
     written = λ w. ap write_of now ∙ x.now_written w;
     read = λ p k.
         ⊎_elim
         (λ q. ⊎_elim (λ e. inl (ap (λ o. read_of o k) q.3 ∙ e ∙ ap (λ o. read_of o k) (sym q.2)))
-        (λ e. inr (e.0, ap (λ o. read_of o k) q.3 ∙ e.1)) (x.read k))
+        (λ e. inr (e.0, ap (λ o. read_of o k) q.3 ∙ e.1, same_place p q.0 q.1)) (x.read k))
         (λ q. inl (ap (λ o. read_of o k) q)) (put_element p);
     was_read = λ w. ap (λ o. read_of o step.thread) now ∙ x.now_read w;
   }
@@ -114,10 +116,11 @@ pub marks_more : (old mid new : Elements) (t : Touch) (ts : List Touch) (step : 
 marks_more old mid new t ts step x y = record {
   write = λ p.
       ⊎_elim
-      (λ q. ⊎_elim (λ e. inl (q ∙ e)) (λ e. inr (q ∙ e.0, t, (zero, omega arith, refl), e.1)) (x.write p))
-      (λ q. inr (q.0, q.1, in_rest t q.1 ts q.2, q.3)) (y.write p);
+      (λ q. ⊎_elim (λ e. inl (q ∙ e)) (λ e. inr (q ∙ e.0, t, (zero, omega arith, refl), e.1, e.2)) (x.write p))
+      (λ q. inr (q.0, q.1, in_rest t q.1 ts q.2, q.3, q.4)) (y.write p);
   read = λ p k.
-      ⊎_elim (λ q. ⊎_elim (λ e. inl (q ∙ e)) (λ e. inr (e.0, q ∙ e.1)) (x.read p k)) (λ q. inr q) (y.read p k);
+      ⊎_elim (λ q. ⊎_elim (λ e. inl (q ∙ e)) (λ e. inr (e.0, q ∙ e.1, t, (zero, omega arith, refl), e.2)) (x.read p k))
+      (λ q. inr (q.0, q.1, q.2, in_rest t q.2 ts q.3, q.4)) (y.read p k);
   written = λ u c w.
       ⊎_elim
       (λ (same : t ≡ u). ⊎_elim (λ q. q ∙ first_write u same w) (λ q. q.0) (y.write u.place))
@@ -133,3 +136,9 @@ marks_more old mid new t ts step x y = record {
 
     first_read : (u : Touch) → t ≡ u → u.written ≡ false → read_at mid u.place step.thread ≡ step.number
     first_read u same w = subst (λ (v : Touch). read_at mid v.place step.thread ≡ step.number) same (x.was_read (ap (λ (v : Touch). v.written) same ∙ w))
+
+-- one of the rest of these accesses is one of them
+pub in_others : (Is : Touch → Type 0) (first : Access) (rest all : List Access) → all ≡ first ∷ rest →
+    (t : Touch) × Contains (touches_of rest) t × Is t → (t : Touch) × Contains (touches_of all) t × Is t
+in_others Is first rest all e x =
+    (x.0, subst (λ l. Contains (touches_of l) x.0) (sym e) (in_rest (touch_of first) x.0 (touches_of rest) x.1), x.2)

@@ -3,9 +3,12 @@ pub mod Telling
 pub mod Covers
 pub mod Meetings
 pub mod Ordered
+pub mod Traces
+pub mod UnorderedSteps
 pub mod Planned
 pub mod Runs
 pub mod Turns
 pub mod Advancing
 pub mod LastAccesses
 pub mod Noted
+pub mod FirstRows

@@ -138,7 +138,7 @@ module _ (P : Program) (s t : State) (j : ℕ) where
     next_is : next_move P s j ≡ move P s.globals (goes P s t j steps).frames
     next_is = ap (move_in P s) (goes P s t j steps).at
 
-    next_moves : moved P s j (next_move P s j) ≡ Steps t
+    pub next_moves : moved P s j (next_move P s j) ≡ Steps t
     next_moves = subst (λ m. moved P s j m ≡ Steps t) (sym next_is) (goes P s t j steps).does
 
     pub awaits : (i x : ℕ) → barrier_of_move (next_move P s j) ≡ Some x → waits_in i (slice_get s.barriers x) ≡ true → awaited (next_move P s j) ≡ Some x

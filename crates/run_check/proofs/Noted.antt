@@ -1,16 +1,16 @@
 -- A step is noted: its parts together.
-use Rattle.std.proofs.Common.{◌≡◌, ℕ, ◌≤◌, List, [], ◌∷◌, ap, ◌∙◌, subst, ⊎_elim, inl, inr, arith}
-use Rattle.std.specs.Prelude.{Bool, true, Option, Some}
+use Rattle.std.proofs.Common.{◌≡◌, ℕ, ◌≤◌, ◌<◌, List, [], ◌∷◌, ap, ◌∙◌, subst, ⊎_elim, inl, inr, arith}
+use Rattle.std.specs.Prelude.{◌⊎◌, Bool, true, false, Option, Some, Contains, slice_index}
 use Rattle.thread_semantics.specs.Races.{Touch}
 use Rattle.run_check.specs.declared.clocks.Stamp.{Stamp}
 use Rattle.run_check.specs.declared.class.Class.{Class}
 use Rattle.run_check.specs.declared.class.Class.TheVariants as class
 use Rattle.run_check.specs.declared.known.Known.{Known}
-use Rattle.run_check.specs.Clocks.{Rows, clock, is_heard, Ticks}
-use Rattle.run_check.specs.Class.{is_print, mutex_of, barrier_of, id_of, barrier_set}
-use Rattle.run_check.specs.Objects.{stamp_at, write_at, read_at}
-use Rattle.run_check.specs.Shadow.{stamp, next_stamp, last_print, IsOrdered, AreOrdered, IsMarked, IsUsed, IsNoted}
-use Rattle.run_check.specs.Known.{shadow_of, IsActOrdered, IsPut, IsTold}
+use Rattle.run_check.specs.Clocks.{Rows, row, clock, is_heard, Ticks, Hears}
+use Rattle.run_check.specs.Class.{is_print, mutex_of, barrier_of, id_of, barrier_set, Tells}
+use Rattle.run_check.specs.Objects.{Elements, stamp_at, write_at, read_at}
+use Rattle.run_check.specs.Shadow.{stamp, next_stamp, last_print, IsOrdered, AreOrdered, IsMarked, IsUnordered, IsUsed, IsNoted, Misses, MissesAccess, MissesMutex, MissesBarrier, MissesId, MissesStep}
+use Rattle.run_check.specs.Known.{shadow_of, IsActOrdered, IsActMissed, IsPut}
 use Rattle.run_check.proofs.LastAccesses.{one_of_all}
 
 pub set_barrier : (c : Class) (r : List ℕ) (x : ℕ) → barrier_set c r ≡ Some x → barrier_of c ≡ Some x
@@ -38,14 +38,16 @@ pub noted : (old new : Known) (mid : Rows) (i n : ℕ) (c : Class) (touches : Li
     IsPut (stamp_at old.ids.items) (stamp_at new.ids.items) (stamp i n) (id_of c) →
     new.print ≡ last_print (is_print c) (stamp i n) old.print →
     (new.one_output ≡ true → (old.one_output ≡ true) × (is_print c ≡ true → is_heard (clock old.clocks.items i) old.print ≡ true)) →
-    IsTold mid new.clocks.items i c r → IsNoted (shadow_of old) (shadow_of new) i c touches r ended
-noted old new mid i n c touches r ended accesses act last ticks marks mutex barrier id print outputs told =
+    (new.one_output ≡ false → (old.one_output ≡ false) ⊎ ((is_print c ≡ true) × (is_heard (clock old.clocks.items i) old.print ≡ false))) →
+    Hears (Tells c r i) (clock mid) (clock new.clocks.items) → IsNoted (shadow_of old) (shadow_of new) i c touches r ended
+noted old new mid i n c touches r ended accesses act last ticks marks mutex barrier id print outputs lost told =
     let is : stamp i n ≡ next_stamp (clock old.clocks.items) i = ap (stamp i) ticks.number in
     let heard = clock old.clocks.items i in
     let next = next_stamp (clock old.clocks.items) i in
     record {
       clocks = record {
-        grows = λ k. let grows = told.grows k k in let at = ticks.is k k in omega (arith, grows, at);
+        grows = λ j k. let grows = told.grows j k in let at = ticks.is j k in omega (arith, grows, at);
+        told = λ v j k t. let more = told.told v j k t in let at = ticks.is v k in omega (arith, more, at);
         source = λ j k.
             ⊎_elim (λ q. inl (q ∙ ticks.is j k)) (λ q. inr (q.0, q.1, q.2 ∙ ticks.is q.0 k)) (told.source j k);
       };
@@ -63,5 +65,29 @@ noted old new mid i n c touches r ended accesses act last ticks marks mutex barr
       meets = act.barrier;
       print = print ∙ ap (λ (step : Stamp). last_print (is_print c) step old.print) is;
       outputs = outputs;
+      outputs_lost = lost;
       last = last;
     }
+
+-- what the code finds unheard, by the clock of thread i
+pub missed_access : (k : Known) (i : ℕ) (c : Class) (touches : List Touch) (ended : Bool) (heard : List ℕ) (elements : Elements) →
+    heard ≡ row k.clocks.items i → elements ≡ k.elements.items →
+    (t : Touch) × Contains touches t × IsUnordered (write_at elements) (read_at elements) (slice_index heard) t →
+    Misses (shadow_of k) (clock k.clocks.items i) c touches ended
+missed_access k i c touches ended heard elements own there x =
+    let a = subst (λ es. (t : Touch) × Contains touches t × IsUnordered (write_at es) (read_at es) (slice_index heard) t) there x in
+    let b = subst (λ h. (t : Touch) × Contains touches t × IsUnordered (write_at k.elements.items) (read_at k.elements.items) (slice_index h) t) own a in
+    MissesAccess b.0 b.1 b.2
+
+pub missed_act : (k : Known) (i : ℕ) (c : Class) (touches : List Touch) (ended : Bool) (heard : List ℕ) → heard ≡ row k.clocks.items i →
+    IsActMissed k (slice_index heard) c → Misses (shadow_of k) (clock k.clocks.items i) c touches ended
+missed_act k i c touches ended heard own x =
+    ⊎_elim (λ q. MissesMutex q.0 q.1 q.2) (λ x. ⊎_elim (λ q. MissesBarrier q.0 q.1 q.2) (λ q. MissesId q.0 q.1 q.2) x)
+    (subst (λ h. IsActMissed k (slice_index h) c) own x)
+
+pub missed_last : (k : Known) (i : ℕ) (c : Class) (touches : List Touch) (ended : Bool) (heard : List ℕ) (rows : Rows) → heard ≡ row k.clocks.items i →
+    rows ≡ k.clocks.items → ended ≡ true → (n : ℕ) × (slice_index heard n < clock rows n n) → Misses (shadow_of k) (clock k.clocks.items i) c touches ended
+missed_last k i c touches ended heard rows own all over x =
+    let a = subst (λ r. (n : ℕ) × (slice_index heard n < clock r n n)) all x in
+    let b = subst (λ h. (n : ℕ) × (slice_index h n < clock k.clocks.items n n)) own a in
+    MissesStep over b.0 b.1

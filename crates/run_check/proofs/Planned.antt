@@ -1,7 +1,6 @@
 -- What the next step of a thread acts on, by the code's plan of it.
 use Rattle.std.proofs.Common.{◌≡◌, ℕ, List, [], ◌∷◌, refl, ap, sym, ◌∙◌}
-use Rattle.std.specs.Prelude.{ℤ}
-use Rattle.std.specs.Option.{option_to_list}
+use Rattle.std.specs.Prelude.{ℤ, Option}
 use Rattle.c_program.specs.Tree.{Program}
 use Rattle.thread_semantics.specs.State.{Frame, State}
 use Rattle.thread_semantics.specs.Move.{Move, move, returned}
@@ -21,14 +20,14 @@ erased_class (Move.Ends offset reads) = refl
 erased_class (Move.Faults offset cause) = refl
 erased_class Move.Impossible = refl
 
-returned_class : (P : Program) (offset : ℕ) (vs : List ℤ) (f : Frame) (fs : List Frame) → class_of (erased (returned P offset vs [] f fs)) ≡ class.Plain
-returned_class P offset vs f [] = refl
-returned_class P offset vs f (g ∷ gs) = refl
+returned_class : (P : Program) (offset : ℕ) (v : Option ℤ) (f : Frame) (fs : List Frame) → class_of (erased (returned P offset v [] f fs)) ≡ class.Plain
+returned_class P offset v f [] = refl
+returned_class P offset v f (g ∷ gs) = refl
 
 plan_is : (P : Program) (p : Plan) (f : Frame) (fs : List Frame) → class_of (plan_of P p f fs) ≡ plan_class p (object_operand f.kept)
 plan_is P (plan.Onward work kept change) f fs = refl
 plan_is P (plan.Enter work callee) f fs = refl
-plan_is P (plan.Return offset value) f fs = returned_class P offset (option_to_list value) f fs
+plan_is P (plan.Return offset value) f fs = returned_class P offset value f fs
 plan_is P (plan.Perform offset act work) f fs = refl
 plan_is P (plan.Fault offset cause) f fs = refl
 plan_is P plan.Impossible f fs = refl

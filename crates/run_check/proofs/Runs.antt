@@ -14,7 +14,8 @@ use Rattle.run_races.specs.Order.{next_move, told, Meet, Depends, DependsOrPrint
 use Rattle.run_races.specs.Clean.{IsOrderedBy, IsClean, IsOrdered}
 use Rattle.run_check.specs.Class.{class_of, released_by}
 use Rattle.run_check.specs.Shadow.{Shadow, IsNoted}
-use Rattle.run_check.specs.Shown.{HasPeaks, StandsFor, GoesOn, IsShown}
+use Rattle.run_check.specs.Shown.{HasPeaks, StandsFor, GoesOn, IsOf, IsShown}
+use Rattle.run_check.proofs.Traces.{one_more_of, prints_lost}
 use Rattle.run_check.proofs.Ordered.{ordered, ordered_prints, stays, stands_new, noted_peaks}
 
 pub and_step : (P : Program) (stepped : Stepped) (list : List ℕ) (s t : State) (j : ℕ) → and_steps P stepped list ≡ Steps s → step P s j ≡ Steps t →
@@ -29,8 +30,15 @@ and_step P (Undefines offset cause) (i ∷ list) s t j e q = absurd cc
 pub after_step : (P : Program) (list : List ℕ) (s t : State) (j : ℕ) → after P list ≡ Steps s → step P s j ≡ Steps t → after P (list ++ j ∷ []) ≡ Steps t
 after_step P list s t j e q = and_step P (Steps (start P)) list s t j e q
 
-pub none_shown : (P : Program) (K : Shadow) → HasPeaks K.clock → IsShown P [] (start P) K
-none_shown P K peaks = record { taken = refl; peaks = peaks; clean = λ rest all clean. clean; outputs = λ one rest all clean. clean }
+pub none_shown : (P : Program) (K : Shadow) → HasPeaks K.clock → IsOf P [] K → K.one_output ≡ true → IsShown P [] (start P) K
+none_shown P K peaks kept one = record {
+  taken = refl;
+  peaks = peaks;
+  kept = kept;
+  clean = λ rest all clean. clean;
+  outputs = λ one rest all clean. clean;
+  outputs_lost = λ none. absurd (let no = sym one ∙ none in cc);
+}
 
 -- what is kept of a run behind one more step, by a dependence of which the step happens behind all
 goes_on : (D : Move → ℕ → Move → Type 0) (P : Program) (list : List ℕ) (s t : State) (j : ℕ) (K K' : Shadow) → HasPeaks K.clock → (steps : step P s j ≡ Steps t) →
@@ -59,10 +67,12 @@ pub one_more : (P : Program) (list : List ℕ) (s t : State) (j : ℕ) (K K' : S
 one_more P list s t j K K' z steps x = record {
   taken = after_step P list s t j z.taken steps;
   peaks = noted_peaks P s t j K K' steps z.peaks x;
+  kept = one_more_of P list s t j K K' z.taken z.peaks x z.kept;
   clean = goes_on Depends P list s t j K K' z.peaks steps x (ordered P s t j K K' steps z.peaks x) z.clean;
   outputs = λ one.
       goes_on DependsOrPrints P list s t j K K' z.peaks steps x
       (λ i m h again y. ordered_prints P s t j K K' steps z.peaks x i m h again y one) (z.outputs (x.outputs one).0);
+  outputs_lost = λ none. prints_lost P list s t j K K' z.taken z.peaks x z.kept z.outputs_lost none;
 }
 
 pub all_shown : (P : Program) (list : List ℕ) (s : State) (K : Shadow) → IsShown P list s K → s.ended ≡ true → IsClean P (start P) list

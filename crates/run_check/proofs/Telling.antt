@@ -1,6 +1,6 @@
 -- Who has heard of a step, by what the next step acts on.
-use Rattle.std.proofs.Common.{◌≡◌, ℕ, List, [], ◌∷◌, refl, ap, sym, ◌∙◌, ⊎_elim}
-use Rattle.std.specs.Prelude.{Bool, true, ◌&&◌, ◌||◌, nat_eq}
+use Rattle.std.proofs.Common.{◌≡◌, ℕ, List, [], ◌∷◌, refl, ap, sym, ◌∙◌, ⊎_elim, inl, inr}
+use Rattle.std.specs.Prelude.{◌⊎◌, Bool, true, ◌&&◌, ◌||◌, nat_eq}
 use Rattle.std.specs.List.{list_any}
 use Rattle.std.proofs.lemmas.Bool.{eqb-true, eq-eqb, and_parts, and_from, or_left, or_right, or_cases}
 use Rattle.thread_semantics.specs.Work.{Act}
@@ -109,6 +109,25 @@ told_by (class.Creates n) r i h v j x e = or_right (h j) (nat_eq j n && h i) (an
 told_by (class.Joins n) r i h v j x e = or_right (h j) (nat_eq j i && h n) (and_from (nat_eq j i) (h n) (eq-eqb j i x.1) (ap h (sym x.0) ∙ e))
 told_by (class.Waits n) r i h v j x e = or_right (h j) (is_in j r && list_any h r) (and_from (is_in j r) (list_any h r) x.1 (any_of h r v x.0 e))
 told_by c r i h v j x e = absurd x
+
+some_of : (p : ℕ → Bool) (xs : List ℕ) → list_any p xs ≡ true → (v : ℕ) × (is_in v xs ≡ true) × (p v ≡ true)
+some_of p [] e = absurd cc
+some_of p (y ∷ xs) e =
+    ⊎_elim (λ h. (y, or_left (nat_eq y y) (is_in y xs) (eq-eqb y y refl), h))
+    (λ h. let v = some_of p xs h in (v.0, or_right (nat_eq v.0 y) (is_in v.0 xs) v.1, v.2)) (or_cases (p y) (list_any p xs) e)
+
+-- who has heard of it behind the step had before, or is told by one who had
+pub told_back : (c : Class) (r : List ℕ) (i : ℕ) (h : ℕ → Bool) (j : ℕ) → told_class c r i h j ≡ true →
+    (h j ≡ true) ⊎ ((v : ℕ) × Tells c r i v j × (h v ≡ true))
+told_back (class.Creates n) r i h j x =
+    ⊎_elim (λ e. inl e) (λ e. let a = and_parts (nat_eq j n) (h i) e in inr (i, (refl, eqb-true j n a.0), a.1)) (or_cases (h j) (nat_eq j n && h i) x)
+told_back (class.Joins n) r i h j x =
+    ⊎_elim (λ e. inl e) (λ e. let a = and_parts (nat_eq j i) (h n) e in inr (n, (refl, eqb-true j i a.0), a.1)) (or_cases (h j) (nat_eq j i && h n) x)
+told_back (class.Waits n) r i h j x =
+    ⊎_elim (λ e. inl e)
+    (λ e. let a = and_parts (is_in j r) (list_any h r) e in let v = some_of h r a.1 in inr (v.0, (v.1, a.0), v.2))
+    (or_cases (h j) (is_in j r && list_any h r) x)
+told_back c r i h j x = inl x
 
 -- the more have heard of it before, the more have behind the step
 pub told_wider : (c : Class) (r : List ℕ) (i : ℕ) (h g : ℕ → Bool) (j : ℕ) → ((v : ℕ) → h v ≡ true → g v ≡ true) →

@@ -1,5 +1,5 @@
 -- What a step acts on, and which threads tell which what they have heard.
-use Rattle.std.specs.Prelude.{◌≡◌, ℕ, Bool, true, false, List, [], ◌∷◌, Option, Some, None, slice_get}
+use Rattle.std.specs.Prelude.{ℕ, Bool, true, false, List, [], ◌∷◌, Option, Some, None, slice_get}
 use Rattle.thread_semantics.specs.Work.{Act}
 use Rattle.thread_semantics.specs.State.{State}
 use Rattle.thread_semantics.specs.Move.{Move, Acts}
@@ -7,7 +7,8 @@ use Rattle.thread_semantics.specs.Step.{object_operand}
 use Rattle.c_evaluation.specs.View.{act_of}
 use Rattle.c_step_parts.specs.declared.plan.Plan.{Plan}
 use Rattle.c_step_parts.specs.declared.plan.Plan.TheVariants as plan
-use Rattle.run_races.specs.Order.{is_in, let_go}
+use Rattle.run_races.specs.Order.{let_go}
+use Rattle.run_check.specs.Clocks.{One, Among}
 use Rattle.run_check.specs.declared.class.Class.{Class}
 use Rattle.run_check.specs.declared.class.Class.TheVariants as class
 
@@ -68,7 +69,7 @@ barrier_set c released = None
 
 -- by such a step of thread i thread v tells thread j all that it has heard
 abbrev pub Tells : Class → List ℕ → ℕ → ℕ → ℕ → Type 0
-Tells (class.Creates n) released i v j = (v ≡ i) × (j ≡ n)
-Tells (class.Joins n) released i v j = (v ≡ n) × (j ≡ i)
-Tells (class.Waits n) released i v j = (is_in v released ≡ true) × (is_in j released ≡ true)
+Tells (class.Creates n) released i v j = One i n v j
+Tells (class.Joins n) released i v j = One n i v j
+Tells (class.Waits n) released i v j = Among released v j
 Tells c released i v j = ⊥

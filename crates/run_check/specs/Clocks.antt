@@ -1,5 +1,5 @@
 -- Vector clocks: clock j k is how many steps of thread k thread j has heard of (Fidge 1988, Mattern 1989).
-use Rattle.std.specs.Prelude.{◌≡◌, ◌⊎◌, ℕ, ◌+◌, ◌≤◌, ◌<◌, Bool, true, ◌&&◌, if◌then◌else◌, nat_eq, nat_le, List}
+use Rattle.std.specs.Prelude.{◌≡◌, ◌⊎◌, ℕ, ◌+◌, ◌≤◌, ◌<◌, Bool, true, ◌&&◌, if◌then◌else◌, max, nat_eq, nat_le, List}
 use Rattle.std.specs.Prelude.{[], length, Vec, Option, Some, None, slice_get, slice_set, slice_index}
 use Rattle.std.specs.declared.alloc.Global.{Global}
 use Rattle.run_races.specs.Order.{is_in}
@@ -22,21 +22,24 @@ clock rows j k = slice_index (row rows j) k
 abbrev pub is_heard : (ℕ → ℕ) → Stamp → Bool
 is_heard heard stamp = nat_le stamp.number (heard stamp.thread)
 
--- each number is the greater one
-pub record IsRaised (old new other : List ℕ) : Type 0 where
-  pub grows : (k : ℕ) → slice_index old k ≤ slice_index new k
-  pub source : (k : ℕ) → (slice_index new k ≡ slice_index old k) ⊎ (slice_index new k ≡ slice_index other k)
+-- the greater one of two numbers, each by each
+abbrev pub IsRaised : List ℕ → List ℕ → List ℕ → Type 0
+IsRaised old new other = (k : ℕ) → slice_index new k ≡ max (slice_index old k) (slice_index other k)
 
-pub record Hears (old new : Rows) (to from : ℕ) : Type 0 where
-  pub grows : (j k : ℕ) → clock old j k ≤ clock new j k
-  pub source : (j k : ℕ) → (clock new j k ≡ clock old j k) ⊎ ((j ≡ to) × (clock new j k ≡ clock old from k))
+-- where thread v tells thread j, by Tells: each thread hears what all hear that tell it, and no more than that and what it had heard:
+-- its clock becomes the least upper bound of theirs and its own
+pub record Hears (Tells : ℕ → ℕ → Type 0) (old new : ℕ → ℕ → ℕ) : Type 0 where
+  pub grows : (j k : ℕ) → old j k ≤ new j k
+  pub told : (v j k : ℕ) → Tells v j → old v k ≤ new j k
+  pub source : (j k : ℕ) → (new j k ≡ old j k) ⊎ ((v : ℕ) × Tells v j × (new j k ≡ old v k))
 
-pub record Shares (old new : Rows) (threads : List ℕ) : Type 0 where
-  pub grows : (j k : ℕ) → clock old j k ≤ clock new j k
-  pub source :
-      (j k : ℕ) →
-      (clock new j k ≡ clock old j k)
-      ⊎ ((v : ℕ) × (is_in j threads ≡ true) × (is_in v threads ≡ true) × (clock new j k ≡ clock old v k))
+-- one thread tells one other
+abbrev pub One : ℕ → ℕ → ℕ → ℕ → Type 0
+One from to v j = (v ≡ from) × (j ≡ to)
+
+-- each of these threads tells each
+abbrev pub Among : List ℕ → ℕ → ℕ → Type 0
+Among threads v j = (is_in v threads ≡ true) × (is_in j threads ≡ true)
 
 pub record IsTickedRow (old new : List ℕ) (k n : ℕ) : Type 0 where
   pub within : k < length old

@@ -1,12 +1,16 @@
 -- What the code keeps of a run.
-use Rattle.std.specs.Prelude.{◌≡◌, ◌⊎◌, ℕ, ◌≤◌, true, List, Option, Some}
+use Rattle.std.specs.Prelude.{◌≡◌, ◌⊎◌, ℕ, Bool, true, false, List, Option, Some}
+use Rattle.thread_semantics.specs.Memory.{Location}
+use Rattle.thread_semantics.specs.Races.{Touch}
 use Rattle.run_check.specs.declared.clocks.Stamp.{Stamp}
 use Rattle.run_check.specs.declared.class.Class.{Class}
 use Rattle.run_check.specs.declared.known.Known.{Known}
-use Rattle.run_check.specs.Clocks.{Rows, clock, is_heard}
-use Rattle.run_check.specs.Class.{is_print, mutex_of, barrier_of, id_of, barrier_set, Tells}
+use Rattle.run_check.specs.declared.known.Note.{Note}
+use Rattle.run_check.specs.declared.known.Note.TheVariants as note
+use Rattle.run_check.specs.Clocks.{clock, is_heard}
+use Rattle.run_check.specs.Class.{is_print, mutex_of, barrier_of, id_of, barrier_set}
 use Rattle.run_check.specs.Objects.{stamp_at, write_at, read_at}
-use Rattle.run_check.specs.Shadow.{Shadow, last_print}
+use Rattle.run_check.specs.Shadow.{Shadow, last_print, IsNoted, Misses}
 
 abbrev pub shadow_of : Known → Shadow
 shadow_of k = record {
@@ -39,8 +43,27 @@ pub record IsActPut (old new : Known) (step : Stamp) (c : Class) (released : Lis
   pub print : new.print ≡ last_print (is_print c) step old.print
   pub one_output : new.one_output ≡ old.one_output
 
-pub record IsTold (old new : Rows) (i : ℕ) (c : Class) (released : List ℕ) : Type 0 where
-  pub grows : (j k : ℕ) → clock old j k ≤ clock new j k
-  pub source :
-      (j k : ℕ) →
-      (clock new j k ≡ clock old j k) ⊎ ((v : ℕ) × Tells c released i v j × (clock new j k ≡ clock old v k))
+-- who has heard of so many steps hasn't heard of the last act on the object of such a step
+abbrev pub IsActMissed : Known → (ℕ → ℕ) → Class → Type 0
+IsActMissed k heard c =
+    ((x : ℕ) × (mutex_of c ≡ Some x) × (is_heard heard (stamp_at k.mutexes.items x) ≡ false))
+    ⊎ ((x : ℕ) × (barrier_of c ≡ Some x) × (is_heard heard (stamp_at k.barriers.items x) ≡ false))
+    ⊎ ((x : ℕ) × (id_of c ≡ Some x) × (is_heard heard (stamp_at k.ids.items x) ≡ false))
+
+-- before the first step
+pub record IsFirst (k : Known) : Type 0 where
+  pub clocks : (j n : ℕ) → clock k.clocks.items j n ≡ 0
+  pub write : (p : Location) → (write_at k.elements.items p).number ≡ 0
+  pub read : (p : Location) (n : ℕ) → read_at k.elements.items p n ≡ 0
+  pub mutex : (x : ℕ) → (stamp_at k.mutexes.items x).number ≡ 0
+  pub barrier : (x : ℕ) → (stamp_at k.barriers.items x).number ≡ 0
+  pub id : (x : ℕ) → (stamp_at k.ids.items x).number ≡ 0
+  pub print : k.print.number ≡ 0
+  pub one_output : k.one_output ≡ true
+
+-- what became of a step of thread i that was to be noted
+abbrev pub IsNote : Known → Known → ℕ → Class → List Touch → List ℕ → Bool → Note → Type 0
+IsNote old new i c touches released ended note.Kept = IsNoted (shadow_of old) (shadow_of new) i c touches released ended
+IsNote old new i c touches released ended note.Unordered =
+    Misses (shadow_of old) (clock old.clocks.items i) c touches ended
+IsNote old new i c touches released ended note.NoRoom = Unit {0}

@@ -4,6 +4,7 @@ pub mod Shadow
 pub mod Objects
 pub mod Marks
 pub mod Known
+pub mod Unordered
 pub mod Shown
 pub mod Run
 pub mod Verdict

@@ -7,7 +7,7 @@ use Rattle.run_check.specs.declared.elements.Element.{Element}
 use Rattle.run_check.specs.Objects.{Elements, write_at, read_at}
 
 pub record IsElementMarked (old new : Element) (written : Bool) (step : Stamp) : Type 0 where
-  pub write : (new.write ≡ old.write) ⊎ (new.write ≡ step)
+  pub write : (new.write ≡ old.write) ⊎ ((new.write ≡ step) × (written ≡ true))
   pub now_written : written ≡ true → new.write ≡ step
   pub read :
       (k : ℕ) →
@@ -23,9 +23,9 @@ pub record IsRowMarked (old new : List Element) (index : ℕ) (written : Bool) (
   pub marked : IsElementMarked before behind written step
 
 pub record IsOneMarked (old new : Elements) (t : Touch) (step : Stamp) : Type 0 where
-  pub write : (p : Location) → (write_at new p ≡ write_at old p) ⊎ ((write_at new p ≡ step) × (t.place ≡ p))
+  pub write : (p : Location) → (write_at new p ≡ write_at old p) ⊎ ((write_at new p ≡ step) × (t.place ≡ p) × (t.written ≡ true))
   pub written : t.written ≡ true → write_at new t.place ≡ step
   pub read :
       (p : Location) (k : ℕ) →
-      (read_at new p k ≡ read_at old p k) ⊎ ((k ≡ step.thread) × (read_at new p k ≡ step.number))
+      (read_at new p k ≡ read_at old p k) ⊎ ((k ≡ step.thread) × (read_at new p k ≡ step.number) × (t.place ≡ p))
   pub was_read : t.written ≡ false → read_at new t.place step.thread ≡ step.number

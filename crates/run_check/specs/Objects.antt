@@ -1,5 +1,5 @@
 -- The last act on each object of a kind, and the last accesses to each element of a global.
-use Rattle.std.specs.Prelude.{ℕ, List, Vec, Option, Some, None, slice_get, slice_index}
+use Rattle.std.specs.Prelude.{◌≡◌, ℕ, List, Vec, Option, Some, None, slice_get, slice_index}
 use Rattle.std.specs.declared.alloc.Global.{Global}
 use Rattle.thread_semantics.specs.Memory.{Location}
 use Rattle.run_check.specs.declared.clocks.Stamp.{Stamp}
@@ -36,3 +36,8 @@ write_at rows p = write_of (element_at rows p)
 
 abbrev pub read_at : Elements → Location → ℕ → ℕ
 read_at rows p k = read_of (element_at rows p) k
+
+-- no step has made an access to an element of the row
+pub record IsFirstRow (row : List Element) : Type 0 where
+  pub write : (n : ℕ) → (write_of (slice_get row n)).number ≡ 0
+  pub read : (n k : ℕ) → read_of (slice_get row n) k ≡ 0

@@ -1,7 +1,7 @@
 -- Where the next step of a thread stands in the text.
 use Rattle.std.specs.Prelude.{ℕ, List, [], ◌∷◌, Option, Some, slice_get}
 use Rattle.c_program.specs.Tree.{Statement, Program}
-use Rattle.thread_semantics.specs.Work.{Work, Do, Ask, Store, Hand, Perform, first_offset}
+use Rattle.thread_semantics.specs.Work.{Work, Do, Perform}
 use Rattle.thread_semantics.specs.State.{Frame, Slot, Running, State}
 use Rattle.thread_semantics.specs.Move.{end_offset}
 
@@ -9,8 +9,11 @@ abbrev pub statement_offset : Statement → ℕ
 statement_offset (Statement.Declare offset x operators) = offset
 statement_offset (Statement.Assign offset place right) = offset
 statement_offset (Statement.Update offset place operator ty right) = offset
+statement_offset (Statement.Call offset into g arguments) = offset
+statement_offset (Statement.Keep offset slot ty operand) = offset
+statement_offset (Statement.Test offset operand) = offset
+statement_offset (Statement.Switch offset ty operand body) = offset
 statement_offset (Statement.Return offset right) = offset
-statement_offset (Statement.Call offset g arguments) = offset
 statement_offset (Statement.Print offset format arguments) = offset
 statement_offset (Statement.Thread offset call) = offset
 statement_offset statement = 0
@@ -19,9 +22,6 @@ statement_offset statement = 0
 abbrev pub work_offset : Program → ℕ → List Work → ℕ
 work_offset P f [] = end_offset (slice_get P.functions f)
 work_offset P f (Do statement ∷ k) = statement_offset statement
-work_offset P f (Ask condition ∷ k) = first_offset condition
-work_offset P f (Store offset place ∷ k) = offset
-work_offset P f (Hand offset ∷ k) = offset
 work_offset P f (Perform offset act ∷ k) = offset
 work_offset P f (item ∷ k) = 0
 

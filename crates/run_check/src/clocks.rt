@@ -1,6 +1,6 @@
 // Vector clocks: how many steps of each thread each thread has heard of (Fidge 1988, Mattern 1989).
-ghost use Rattle.std.specs.Prelude.{◌≡◌, ◌⊎◌, ◌≤◌, ℕ, true, ⊤, MatchOption, IfOk, replicate, slice_index};
-ghost use Rattle.run_check.specs.Clocks.{row, clock, is_heard, IsRaised, IsTickedRow, Ticks, Hears, Shares};
+ghost use Rattle.std.specs.Prelude.{◌≡◌, ◌≤◌, ◌<◌, ℕ, true, false, ⊤, MatchOption, IfOk, replicate, slice_index};
+ghost use Rattle.run_check.specs.Clocks.{row, clock, is_heard, IsRaised, IsTickedRow, Ticks, Hears, One, Among};
 
 use std::alloc::{AllocError, Global};
 
@@ -30,7 +30,8 @@ pub fn is_heard(clock: &[u32], stamp: Stamp) -> bool
 
 /// Whether a thread with this clock has heard of so many steps of each thread.
 pub fn are_heard(clock: &[u32], numbers: &[u32]) -> bool
-    ensures { result ≡ true → (k : ℕ) → slice_index numbers.now k ≤ slice_index clock.now k }
+    ensures all { result ≡ true → (k : ℕ) → slice_index numbers.now k ≤ slice_index clock.now k }
+    ensures missed { result ≡ false → (k : ℕ) × (slice_index clock.now k < slice_index numbers.now k) }
 {
     for k in 0..numbers.len() {
         if numbers[k] > number_at(clock, k) {
@@ -52,7 +53,8 @@ pub fn clock_of(clocks: &[Vec<u32>], thread: u32) -> &[u32]
 
 /// Whether a thread that has heard of so many steps of each thread has heard of all.
 pub fn is_behind_all(clocks: &[Vec<u32>], heard: &[u32]) -> bool
-    ensures { result ≡ true → (k : ℕ) → clock clocks.now k k ≤ slice_index heard.now k }
+    ensures all { result ≡ true → (k : ℕ) → clock clocks.now k k ≤ slice_index heard.now k }
+    ensures missed { result ≡ false → (k : ℕ) × (slice_index heard.now k < clock clocks.now k k) }
 {
     for k in 0..clocks.len() {
         if number_at(&clocks[k], k) > number_at(heard, k) {
@@ -62,48 +64,49 @@ pub fn is_behind_all(clocks: &[Vec<u32>], heard: &[u32]) -> bool
     true
 }
 
-fn greater(a: u32, b: u32) -> u32
-    ensures above { a ≤ result }
-    ensures one { (result ≡ a) ⊎ (result ≡ b) }
+/// A clock hears what another one has heard; whether there is a place for it.
+fn raise(clock: &mut Vec<u32>, other: &[u32]) -> bool
+    ensures { result ≡ true → IsRaised clock.old.items clock.new.items other.now }
 {
-    if a < b { b } else { a }
-}
-
-/// A thread hears what another one has heard.
-fn raise(clock: &mut Vec<u32>, other: &[u32])
-    ensures { IsRaised clock.old.items clock.new.items other.now }
-{
+    if other.len() > clock.len() {
+        return false;
+    }
     for k in 0..clock.len() {
-        clock[k] = greater(clock[k], number_at(other, k));
+        clock[k] = clock[k].max(number_at(other, k));
     }
+    true
 }
 
-/// A thread hears what another one has heard; nothing where one of them isn't there.
-pub fn hear(clocks: &mut Vec<Vec<u32>>, to: usize, from: usize) -> Result<(), AllocError>
-    ensures { IfOk result (λ _. Hears clocks.old.items clocks.new.items to from) }
+/// A thread hears what another one has heard; whether there is a place for it.
+pub fn hear(clocks: &mut Vec<Vec<u32>>, to: usize, from: usize) -> Result<bool, AllocError>
+    ensures { IfOk result (λ heard. heard ≡ true → Hears (One from to) (clock clocks.old.items) (clock clocks.new.items)) }
 {
-    if to < clocks.len() && from < clocks.len() {
-        let other = clocks[from].clone()?;
-        raise(&mut clocks[to], &other);
+    if to >= clocks.len() || from >= clocks.len() {
+        return Ok(false);
     }
-    Ok(())
+    let other = clocks[from].clone()?;
+    Ok(raise(&mut clocks[to], &other))
 }
 
-/// Each of these threads hears what any of them has heard.
-pub fn share(clocks: &mut Vec<Vec<u32>>, threads: &[u32]) -> Result<(), AllocError>
-    ensures { IfOk result (λ _. Shares clocks.old.items clocks.new.items threads.now) }
+/// Each of these threads hears what any of them has heard; whether there is a place for it.
+pub fn share(clocks: &mut Vec<Vec<u32>>, threads: &[u32]) -> Result<bool, AllocError>
+    ensures { IfOk result (λ shared. shared ≡ true → Hears (Among threads.now) (clock clocks.old.items) (clock clocks.new.items)) }
 {
     if threads.is_empty() {
-        return Ok(());
+        return Ok(true);
     }
     let first = threads[0] as usize;
     for thread in threads {
-        hear(clocks, first, *thread as usize)?;
+        if !hear(clocks, first, *thread as usize)? {
+            return Ok(false);
+        }
     }
     for thread in threads {
-        hear(clocks, *thread as usize, first)?;
+        if !hear(clocks, *thread as usize, first)? {
+            return Ok(false);
+        }
     }
-    Ok(())
+    Ok(true)
 }
 
 fn tick_own(clock: &mut Vec<u32>, k: usize) -> Option<u32>

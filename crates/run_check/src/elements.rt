@@ -1,9 +1,11 @@
 // The last accesses to each element of each global.
-ghost use Rattle.std.specs.Prelude.{◌≡◌, true, Some, None, slice_index, MatchOption};
+ghost use Rattle.std.specs.Prelude.{◌≡◌, ℕ, true, false, Some, None, slice_index, Contains, IfOk, MatchOption};
+ghost use Rattle.thread_semantics.specs.Memory.{Location as Places};
+ghost use Rattle.thread_semantics.specs.Races.{Touch};
 ghost use Rattle.race_check.specs.Access.{location_of, touch_of, touches_of};
 ghost use Rattle.run_check.specs.Clocks.{is_heard};
-ghost use Rattle.run_check.specs.Objects.{element_at, write_at, read_at};
-ghost use Rattle.run_check.specs.Shadow.{IsOrdered, AreOrdered, IsMarked};
+ghost use Rattle.run_check.specs.Objects.{element_at, write_at, read_at, IsFirstRow};
+ghost use Rattle.run_check.specs.Shadow.{IsOrdered, IsUnordered, AreOrdered, IsMarked};
 ghost use Rattle.run_check.specs.Marks.{IsElementMarked, IsRowMarked, IsOneMarked};
 
 use crate::clocks::{Stamp, are_heard, is_heard, number_at, zeros};
@@ -28,10 +30,11 @@ fn element_at(elements: &[Vec<Element>], location: Location) -> Option<&Element>
 
 /// Whether a thread with this clock has heard of each access that conflicts with this one.
 fn is_ordered(elements: &[Vec<Element>], access: &Access, clock: &[u32]) -> bool
-    ensures { result ≡ true → IsOrdered (write_at elements.now) (read_at elements.now) (slice_index clock.now) (touch_of access.now) }
+    ensures ordered { result ≡ true → IsOrdered (write_at elements.now) (read_at elements.now) (slice_index clock.now) (touch_of access.now) }
+    ensures unordered { result ≡ false → IsUnordered (write_at elements.now) (read_at elements.now) (slice_index clock.now) (touch_of access.now) }
 {
     match element_at(elements, access.location) {
-        None => false,
+        None => true,
         Some(element) => {
             is_heard(clock, element.write) && (!access.written || are_heard(clock, &element.reads))
         }
@@ -40,7 +43,8 @@ fn is_ordered(elements: &[Vec<Element>], access: &Access, clock: &[u32]) -> bool
 
 /// Whether a thread with this clock has heard of each access that conflicts with one of these.
 pub fn are_ordered(elements: &[Vec<Element>], accesses: &[Access], clock: &[u32]) -> bool
-    ensures { result ≡ true → AreOrdered (write_at elements.now) (read_at elements.now) (slice_index clock.now) (touches_of accesses.now) }
+    ensures ordered { result ≡ true → AreOrdered (write_at elements.now) (read_at elements.now) (slice_index clock.now) (touches_of accesses.now) }
+    ensures unordered { result ≡ false → (t : Touch) × Contains (touches_of accesses.now) t × IsUnordered (write_at elements.now) (read_at elements.now) (slice_index clock.now) t }
 {
     match accesses.split_first() {
         None => true,
@@ -104,7 +108,9 @@ pub fn mark_all(elements: &mut Vec<Vec<Element>>, accesses: &[Access], step: Sta
     }
 }
 
-fn first_row(alloc: Global, length: usize, threads: usize) -> Result<Vec<Element>, AllocError> {
+fn first_row(alloc: Global, length: usize, threads: usize) -> Result<Vec<Element>, AllocError>
+    ensures { IfOk result (λ row. IsFirstRow row.items) }
+{
     let mut row = Vec::new(alloc);
     for _ in 0..length {
         let reads = zeros(alloc, threads)?;
@@ -124,7 +130,10 @@ pub fn first_elements(
     alloc: Global,
     globals: &[Vec<i128>],
     threads: usize,
-) -> Result<Vec<Vec<Element>>, AllocError> {
+) -> Result<Vec<Vec<Element>>, AllocError>
+    ensures write { IfOk result (λ rows. (p : Places) → (write_at rows.items p).number ≡ 0) }
+    ensures read { IfOk result (λ rows. (p : Places) (k : ℕ) → read_at rows.items p k ≡ 0) }
+{
     let mut rows = Vec::new(alloc);
     for global in globals {
         let row = first_row(alloc, global.len(), threads)?;

@@ -1,11 +1,11 @@
 // What is kept of the steps of a run.
-ghost use Rattle.std.specs.Prelude.{◌≡◌, ◌≤◌, ℕ, true, slice_index, IfOk};
+ghost use Rattle.std.specs.Prelude.{◌≡◌, ◌⊎◌, ◌≤◌, ℕ, true, false, slice_index, IfOk};
 ghost use Rattle.race_check.specs.Access.{touches_of};
-ghost use Rattle.run_check.specs.Clocks.{clock, is_heard};
-ghost use Rattle.run_check.specs.Class.{is_print};
+ghost use Rattle.run_check.specs.Clocks.{clock, is_heard, Hears};
+ghost use Rattle.run_check.specs.Class.{is_print, Tells};
 ghost use Rattle.run_check.specs.Objects.{write_at, read_at};
-ghost use Rattle.run_check.specs.Shadow.{AreOrdered, IsNoted};
-ghost use Rattle.run_check.specs.Known.{shadow_of, IsActOrdered, IsActPut, IsTold};
+ghost use Rattle.run_check.specs.Shadow.{AreOrdered, Misses};
+ghost use Rattle.run_check.specs.Known.{shadow_of, IsActOrdered, IsActMissed, IsActPut, IsFirst, IsNote};
 
 use crate::class::Class;
 use crate::clocks::{
@@ -31,36 +31,51 @@ pub struct Known {
     pub one_output: bool,
 }
 
-/// Threads tell others what they have heard, by such a step of a thread.
+/// What became of a step that was to be noted.
+#[derive(Clone, Copy)]
+pub enum Note {
+    /// It happens behind all steps on which it depends, and is kept.
+    Kept,
+    /// A step on which it depends doesn't happen before it.
+    Unordered,
+    /// There is no place for it.
+    NoRoom,
+}
+
+/// Threads tell others what they have heard, by such a step of a thread; whether there is a place for it.
 fn tell(
     clocks: &mut Vec<Vec<u32>>,
     thread: u32,
     class: Class,
     released: &[u32],
-) -> Result<(), AllocError>
-    ensures { IfOk result (λ _. IsTold clocks.old.items clocks.new.items thread class released.now) }
+) -> Result<bool, AllocError>
+    ensures { IfOk result (λ told. told ≡ true → Hears (Tells class released.now thread) (clock clocks.old.items) (clock clocks.new.items)) }
 {
     match class {
         Class::Creates(n) => {
-            if n < clocks.len() as u128 {
-                hear(clocks, n as usize, thread as usize)?;
+            if n >= clocks.len() as u128 {
+                return Ok(false);
             }
+            hear(clocks, n as usize, thread as usize)
         }
         Class::Joins(n) => {
-            if n < clocks.len() as u128 {
-                hear(clocks, thread as usize, n as usize)?;
+            if n >= clocks.len() as u128 {
+                return Ok(false);
             }
+            hear(clocks, thread as usize, n as usize)
         }
-        Class::Waits(_) => share(clocks, released)?,
-        Class::Plain | Class::Prints | Class::UsesMutex(_) | Class::SetsBarrier(_) => {}
+        Class::Waits(_) => share(clocks, released),
+        Class::Plain => Ok(true),
+        Class::Prints => Ok(true),
+        Class::UsesMutex(_) => Ok(true),
+        Class::SetsBarrier(_) => Ok(true),
     }
-    Ok(())
 }
 
 impl Known {
     /// What is kept before the first step.
     pub fn new(alloc: Global, state: &State) -> Result<Self, AllocError>
-        ensures { IfOk result (λ known. (j k : ℕ) → clock known.clocks.items j k ≡ 0) }
+        ensures { IfOk result IsFirst }
     {
         let threads = state.slots.len();
         Ok(Known {
@@ -79,7 +94,8 @@ impl Known {
 
     /// Whether a thread with this clock has heard of the last act on the object of such a step.
     fn is_act_ordered(&self, class: Class, clock: &[u32]) -> bool
-        ensures { result ≡ true → IsActOrdered self.now (slice_index clock.now) class }
+        ensures ordered { result ≡ true → IsActOrdered self.now (slice_index clock.now) class }
+        ensures unordered { result ≡ false → IsActMissed self.now (slice_index clock.now) class }
     {
         match class {
             Class::Plain | Class::Prints => true,
@@ -91,7 +107,8 @@ impl Known {
 
     /// Whether each print happens behind the one before it, once a thread takes such a step.
     fn has_one_output(&self, thread: u32, class: Class) -> bool
-        ensures { result ≡ true → (self.now.one_output ≡ true) × (is_print class ≡ true → is_heard (clock self.now.clocks.items thread) self.now.print ≡ true) }
+        ensures kept { result ≡ true → (self.now.one_output ≡ true) × (is_print class ≡ true → is_heard (clock self.now.clocks.items thread) self.now.print ≡ true) }
+        ensures lost { result ≡ false → (self.now.one_output ≡ false) ⊎ ((is_print class ≡ true) × (is_heard (clock self.now.clocks.items thread) self.now.print ≡ false)) }
     {
         self.one_output
             && match class {
@@ -123,14 +140,19 @@ impl Known {
             (clock self.now.clocks.items thread) (touches_of accesses.now) }
         ensures act { result ≡ true → IsActOrdered self.now (clock self.now.clocks.items thread) class }
         ensures last { result ≡ true → ended ≡ true → (k : ℕ) → clock self.now.clocks.items k k ≤ clock self.now.clocks.items thread k }
+        ensures unordered { result ≡ false → Misses (shadow_of self.now) (clock self.now.clocks.items thread) class (touches_of accesses.now) ended }
     {
         let clock = clock_of(&self.clocks, thread);
-        are_ordered(&self.elements, accesses, clock)
-            && self.is_act_ordered(class, clock)
-            && (!ended || is_behind_all(&self.clocks, clock))
+        if !are_ordered(&self.elements, accesses, clock) {
+            return false;
+        }
+        if !self.is_act_ordered(class, clock) {
+            return false;
+        }
+        !ended || is_behind_all(&self.clocks, clock)
     }
 
-    /// Keeps a step of a thread; whether it happens behind all steps on which it depends.
+    /// Keeps a step of a thread, where it happens behind all steps on which it depends.
     pub fn note(
         &mut self,
         thread: u32,
@@ -138,25 +160,27 @@ impl Known {
         accesses: &[Access],
         released: &[u32],
         ended: bool,
-    ) -> Result<bool, AllocError>
-        ensures { IfOk result (λ ordered. ordered ≡ true → IsNoted (shadow_of self.old) (shadow_of self.new) thread class (touches_of accesses.now) released.now ended) }
+    ) -> Result<Note, AllocError>
+        ensures { IfOk result (IsNote self.old self.new thread class (touches_of accesses.now) released.now ended) }
     {
         if !self.is_ordered(thread, class, accesses, ended) {
-            return Ok(false);
+            return Ok(Note::Unordered);
         }
         self.one_output = self.has_one_output(thread, class);
         let Some(number) = tick(&mut self.clocks, thread) else {
-            return Ok(false);
+            return Ok(Note::NoRoom);
         };
         let step = Stamp { thread, number };
         if !mark_all(&mut self.elements, accesses, step) {
-            return Ok(false);
+            return Ok(Note::NoRoom);
         }
         if !self.put(class, released, step) {
-            return Ok(false);
+            return Ok(Note::NoRoom);
         }
-        tell(&mut self.clocks, thread, class, released)?;
-        Ok(true)
+        if !tell(&mut self.clocks, thread, class, released)? {
+            return Ok(Note::NoRoom);
+        }
+        Ok(Note::Kept)
     }
 
     /// Whether this is the next step of its thread.

@@ -1,5 +1,5 @@
 // The last act on each object of a kind.
-ghost use Rattle.std.specs.Prelude.{◌≡◌, ◌≢◌, ℕ, true};
+ghost use Rattle.std.specs.Prelude.{◌≡◌, ◌≢◌, ℕ, true, IfOk};
 ghost use Rattle.run_check.specs.Objects.{stamp_at};
 
 use crate::clocks::Stamp;
@@ -33,7 +33,9 @@ pub fn put_act(steps: &mut Vec<Stamp>, n: u128, step: Stamp) -> bool
 }
 
 /// So many objects on which no step has acted.
-pub fn first_acts(alloc: Global, objects: usize) -> Result<Vec<Stamp>, AllocError> {
+pub fn first_acts(alloc: Global, objects: usize) -> Result<Vec<Stamp>, AllocError>
+    ensures { IfOk result (λ steps. (x : ℕ) → (stamp_at steps.items x).number ≡ 0) }
+{
     let none = Stamp {
         thread: 0,
         number: 0,

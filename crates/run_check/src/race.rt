@@ -1,15 +1,14 @@
 // The race that stands behind two accesses of a run which are not ordered.
 ghost use Rattle.std.specs.Prelude.{◌≡◌, true, ⊤, IfOk, MatchOption};
-ghost use Rattle.c_program.specs.Plain.{program_of, statement_of, condition_of};
+ghost use Rattle.c_program.specs.Plain.{program_of, statement_of};
 ghost use Rattle.c_state.specs.View.{frame_of, state_of};
-ghost use Rattle.thread_semantics.specs.Work.{first_offset};
 ghost use Rattle.run_check.specs.Offsets.{statement_offset, frame_offset, step_offset};
 ghost use Rattle.run_check.specs.Race.{IsFound, IsTurnTaken, LeadsTo};
 
 use crate::clocks::{number_at, zeros};
 use c_evaluation::work::Item;
 use c_interpreter::step::{Stepped, step};
-use c_program::tree::{Condition, Program, Statement};
+use c_program::tree::{Program, Statement};
 use c_state::state::{Frame, State, start};
 use c_state::threads::{innermost, running};
 use race_check::access::Location;
@@ -94,17 +93,6 @@ fn replay<'p>(
     Ok(Some(state))
 }
 
-fn offset_of_condition(condition: &Condition) -> u32
-    ensures { result ≡ first_offset (condition_of condition.now) }
-{
-    match condition {
-        Condition::Operand(offset, _) => *offset,
-        Condition::Both(first, _) => offset_of_condition(first),
-        Condition::Either(first, _) => offset_of_condition(first),
-        Condition::Opposite(inner) => offset_of_condition(inner),
-    }
-}
-
 fn offset_of_statement(statement: &Statement) -> u32
     ensures { result ≡ statement_offset (statement_of statement.now) }
 {
@@ -112,8 +100,11 @@ fn offset_of_statement(statement: &Statement) -> u32
         Statement::Declare(offset, _, _) => *offset,
         Statement::Assign(offset, _, _) => *offset,
         Statement::Update(offset, _, _, _, _) => *offset,
+        Statement::Call(offset, _, _, _) => *offset,
+        Statement::Keep(offset, _, _, _) => *offset,
+        Statement::Test(offset, _) => *offset,
+        Statement::Switch(offset, _, _, _) => *offset,
         Statement::Return(offset, _) => *offset,
-        Statement::Call(offset, _, _) => *offset,
         Statement::Print(offset, _, _) => *offset,
         Statement::Thread(offset, _) => *offset,
         _ => 0,
@@ -130,9 +121,6 @@ fn offset_of_call(program: &Program, frame: &Frame) -> u32
             None => 0,
         },
         Some(Item::Do(statement)) => offset_of_statement(statement),
-        Some(Item::Ask(condition)) => offset_of_condition(condition),
-        Some(Item::Store(offset, _)) => *offset,
-        Some(Item::Hand(offset)) => *offset,
         Some(Item::Perform(offset, _)) => *offset,
         _ => 0,
     }

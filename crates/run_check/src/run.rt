@@ -5,12 +5,12 @@ ghost use Rattle.run_check.specs.Race.{IsFound};
 ghost use Rattle.c_program.specs.Plain.{program_of};
 ghost use Rattle.c_state.specs.View.{state_of};
 ghost use Rattle.turns.specs.Turns.{threads_of};
-ghost use Rattle.run_check.specs.Run.{IsRun, IsNotedRun, IsAdvanced, IsNext, IsStopped};
-ghost use Rattle.run_check.specs.Verdict.{IsVerdict};
+ghost use Rattle.run_check.specs.Run.{IsRun, IsNotedAs, IsAdvanced, IsNext, IsStopped, reason_of};
+ghost use Rattle.run_check.specs.Verdict.{IsReason, IsVerdict};
 
 use crate::class::{Class, next_class, released_by};
 use crate::clocks::{Stamp, clock_of};
-use crate::known::Known;
+use crate::known::{Known, Note};
 use crate::race::{FoundRace, race_behind, turns_before};
 use c_interpreter::step::{Stepped, step};
 use c_program::tree::Program;
@@ -24,7 +24,7 @@ use turns::Turn;
 /// Why a run shows nothing.
 #[derive(Clone, Copy)]
 pub enum Reason {
-    /// So many steps were not enough: main hasn't returned.
+    /// So many steps were not enough, or there are more of them, or of threads, than 32 bits count: main hasn't returned.
     TooFewSteps,
     /// Main hasn't returned, and each thread is blocked.
     Deadlock,
@@ -90,6 +90,8 @@ pub enum Progress {
         other: Stamp,
         class: Class,
     },
+    /// There is no place to keep the step.
+    NoRoom,
 }
 
 /// The most steps of a turn.
@@ -116,27 +118,30 @@ fn push_step(turns: &mut Vec<Turn>, thread: u32) -> Result<(), AllocError>
     Ok(())
 }
 
-/// Keeps a step that a run has taken; whether it happens behind all steps on which it depends.
+/// Keeps a step that a run has taken, where it happens behind all steps on which it depends.
 fn note_step(
     run: &mut Run,
     thread: u32,
     class: Class,
     accesses: &[Access],
     released: &[u32],
-) -> Result<bool, AllocError>
-    ensures { IfOk result (λ ordered. ordered ≡ true → IsNotedRun run.old run.new thread class (touches_of accesses.now) released.now) }
+) -> Result<Note, AllocError>
+    ensures { IfOk result (IsNotedAs run.old run.new thread class (touches_of accesses.now) released.now) }
 {
     let ended = run.state.ended;
-    if !run.known.note(thread, class, accesses, released, ended)? {
-        return Ok(false);
+    match run.known.note(thread, class, accesses, released, ended)? {
+        Note::Kept => {
+            let Some(steps) = run.steps.checked_add(1) else {
+                return Ok(Note::NoRoom);
+            };
+            push_step(&mut run.turns, thread)?;
+            run.steps = steps;
+            run.thread = thread;
+            Ok(Note::Kept)
+        }
+        Note::Unordered => Ok(Note::Unordered),
+        Note::NoRoom => Ok(Note::NoRoom),
     }
-    let Some(steps) = run.steps.checked_add(1) else {
-        return Ok(false);
-    };
-    push_step(&mut run.turns, thread)?;
-    run.steps = steps;
-    run.thread = thread;
-    Ok(true)
 }
 
 /// The next step of a thread.
@@ -161,14 +166,17 @@ fn advance<'p>(
             })
         }
         Stepped::Stepped => {
-            if note_step(run, thread, class, accesses.as_slice(), &released)? {
-                return Ok(Progress::Stepped);
+            match note_step(run, thread, class, accesses.as_slice(), &released)? {
+                Note::Kept => Ok(Progress::Stepped),
+                Note::NoRoom => Ok(Progress::NoRoom),
+                Note::Unordered => {
+                    Ok(Progress::Unordered {
+                        thread,
+                        other: run.known.unordered(thread, accesses.as_slice()),
+                        class,
+                    })
+                }
             }
-            Ok(Progress::Unordered {
-                thread,
-                other: run.known.unordered(thread, accesses.as_slice()),
-                class,
-            })
         }
     }
 }
@@ -195,14 +203,7 @@ fn advance_first<'p>(
     ensures { IfOk result (IsNext (program_of program.now) run.old run.new) }
 {
     let Some(threads) = thread_count(&run.state) else {
-        return Ok(Progress::Unordered {
-            thread: 0,
-            other: Stamp {
-                thread: 0,
-                number: 0,
-            },
-            class: Class::Plain,
-        });
+        return Ok(Progress::NoRoom);
     };
     for thread in 0..threads {
         match advance(alloc, program, run, thread)? {
@@ -282,6 +283,21 @@ fn race_of(
     race_behind(alloc, program, turns)
 }
 
+/// Why a run shows nothing that has come to an unordered step.
+fn reason_of(class: Class) -> Reason
+    ensures { result ≡ reason_of class }
+{
+    match class {
+        Class::UsesMutex(_) => Reason::MutexLocked,
+        Class::Waits(_) => Reason::BarrierWaited,
+        Class::Plain => Reason::Unordered,
+        Class::Prints => Reason::Unordered,
+        Class::Creates(_) => Reason::Unordered,
+        Class::Joins(_) => Reason::Unordered,
+        Class::SetsBarrier(_) => Reason::Unordered,
+    }
+}
+
 /// What a run shows that has come to an unordered step.
 fn unordered(
     alloc: Global,
@@ -291,21 +307,14 @@ fn unordered(
     other: Stamp,
     class: Class,
 ) -> Result<RunVerdict, AllocError>
-    ensures { IfOk result (IsVerdict (program_of program.now)) }
+    ensures { IfOk result (λ v. IsReason (program_of program.now) run.now.steps (reason_of class) → IsVerdict (program_of program.now) v) }
 {
     match race_of(alloc, program, run, thread, other)? {
         Some(race) => Ok(RunVerdict::Race(race)),
-        None => {
-            let reason = match class {
-                Class::UsesMutex(_) => Reason::MutexLocked,
-                Class::Waits(_) => Reason::BarrierWaited,
-                _ => Reason::Unordered,
-            };
-            Ok(RunVerdict::Unknown {
-                steps: run.steps,
-                reason,
-            })
-        }
+        None => Ok(RunVerdict::Unknown {
+            steps: run.steps,
+            reason: reason_of(class),
+        }),
     }
 }
 
@@ -342,10 +351,16 @@ fn stopped(
             other,
             class,
         } => unordered(alloc, program, &run, thread, other, class),
+        Progress::NoRoom => {
+            Ok(RunVerdict::Unknown {
+                steps: run.steps,
+                reason: Reason::TooFewSteps,
+            })
+        }
         Progress::Stepped => {
             Ok(RunVerdict::Unknown {
                 steps: run.steps,
-                reason: Reason::Unordered,
+                reason: Reason::TooFewSteps,
             })
         }
     }

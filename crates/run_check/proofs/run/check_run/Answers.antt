@@ -22,6 +22,7 @@ returns-then-run c =
       z.0.count,
       all_shown (program_of c.args.program.now) (threads_of run.turns.items) (state_of run.state) (shadow_of run.known) z.0.shown c.if-run.true,
       all_ordered (program_of c.args.program.now) (threads_of run.turns.items) (state_of run.state) (shadow_of run.known) z.0.shown c.if-run.true,
+      z.0.shown.outputs_lost,
     )
 
 pub returns-in_default : goal.returns-in_default

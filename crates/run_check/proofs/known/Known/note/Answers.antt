@@ -1,16 +1,21 @@
-use Rattle.std.proofs.Common.{ℕ, refl, sym, ◌∙◌, subst}
-use Rattle.std.specs.Prelude.{Vec}
+use Rattle.std.proofs.Common.{◌≡◌, ℕ, refl, sym, ◌∙◌, subst, rules}
+use Rattle.std.specs.Prelude.{true, Vec}
 use Rattle.std.specs.declared.alloc.Global.{Global}
 use Rattle.race_check.specs.Access.{touches_of}
 use Rattle.run_check.specs.declared.elements.Element.{Element}
+use Rattle.run_check.specs.Clocks.{clock, Hears}
+use Rattle.run_check.specs.Class.{Tells}
 use Rattle.run_check.specs.Objects.{write_at, read_at}
 use Rattle.run_check.specs.Shadow.{stamp, IsMarked}
-use Rattle.run_check.specs.Known.{IsTold}
 use Rattle.run_check.proofs.Noted.{noted}
 use Rattle.run_check.proofs.known.Known.note.Goals as goal
 
+pub returns-then-not-is_ordered : goal.returns-then-not-is_ordered
+returns-then-not-is_ordered c = c.if-not-is_ordered.ensures.unordered refl
+
 pub returns : goal.returns
-returns c e =
+returns c =
+    let told : c.in_ok-tell.field-0 ≡ true = search rules in
     let old = c.args.self.now in
     let touches = touches_of c.args.accesses.now in
     let step = stamp c.args.thread c.in-Some.number in
@@ -21,6 +26,7 @@ returns c e =
     (subst
     (λ (es : Vec (Vec Element Global) Global). IsMarked (write_at old.elements.items) (write_at es.items) (read_at old.elements.items) (read_at es.items) step touches)
     (sym put.elements) (c.if-not-mark_all.ensures refl))
-    put.mutex put.barrier put.id put.print (λ one. c.has_one_output-self.ensures (sym put.one_output ∙ one))
-    (subst (λ (rows : Vec (Vec ℕ Global) Global). IsTold rows.items c.tell.new.clocks.items c.args.thread c.args.class c.args.released.now) put.clocks
-    c.in_ok-tell.ensures)
+    put.mutex put.barrier put.id put.print (λ one. c.has_one_output-self.ensures.kept (sym put.one_output ∙ one)) (λ none. c.has_one_output-self.ensures.lost (sym put.one_output ∙ none))
+    (subst
+    (λ (rows : Vec (Vec ℕ Global) Global). Hears (Tells c.args.class c.args.released.now c.args.thread) (clock rows.items) (clock c.tell.new.clocks.items))
+    put.clocks (c.in_ok-tell.ensures told))
