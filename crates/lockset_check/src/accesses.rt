@@ -1,12 +1,12 @@
 // The accesses of the parts of a statement.
 ghost use Rattle.std.specs.Prelude.{◌≡◌, ◌++◌, IfOk};
-ghost use Rattle.c_program.specs.Plain.{expression_of, expressions_of, place_of, condition_of, thread_call_of};
+ghost use Rattle.c_program.specs.Plain.{expression_of, expressions_of, place_of, thread_call_of};
 ghost use Rattle.global_naming.specs.Naming.{expression_globals, expressions_globals, thread_call_globals};
 ghost use Rattle.lock_discipline.specs.Walk as spec;
 ghost use Rattle.lockset_check.specs.Views.{passed_of, walker_of};
 
 use crate::progress::{Progress, Walker};
-use c_program::tree::{Condition, Expression, Place, ThreadCall};
+use c_program::tree::{Expression, Place, ThreadCall};
 use global_naming::names::{push_expression, push_expressions, push_thread_call, push_variable};
 use std::alloc::{AllocError, Global};
 
@@ -102,23 +102,4 @@ pub(crate) fn assign(
     let mut target = Vec::new(alloc);
     push_target(place, &mut target)?;
     progress.touch(alloc, walker, offset, true, &target)
-}
-
-/// The operands of a condition.
-pub(crate) fn ask(
-    alloc: Global,
-    walker: Walker,
-    condition: &Condition,
-    progress: &mut Progress,
-) -> Result<(), AllocError>
-    ensures { IfOk result (λ _. passed_of progress.new ≡ spec.with_seen (passed_of progress.old) (spec.asked (walker_of walker) (passed_of progress.old).after (condition_of condition.now))) }
-{
-    match condition {
-        Condition::Operand(offset, operand) => read(alloc, walker, *offset, operand, progress),
-        Condition::Both(first, second) | Condition::Either(first, second) => {
-            ask(alloc, walker, first, progress)?;
-            ask(alloc, walker, second, progress)
-        }
-        Condition::Opposite(inner) => ask(alloc, walker, inner, progress),
-    }
 }

@@ -7,6 +7,7 @@ ghost use Rattle.lockset_check.specs.Views.{seen_of};
 ghost use Rattle.lockset_check.specs.Verdicts.{verdict_of};
 
 use crate::forks::push_called;
+use crate::owners::owners;
 use crate::progress::{Progress, Seen, Walker};
 use crate::sets::Sets;
 use crate::verdicts::{any_too_deep, has_discipline, least, least_from, push_offsets};
@@ -69,6 +70,7 @@ fn push_walked(
     let held = vec![in alloc; false; program.mutexes.len()]?;
     let walker = Walker {
         main,
+        function,
         threads: program.threads.len(),
     };
     let mut progress = Progress {
@@ -108,6 +110,7 @@ fn push_routines(
 /// The answer for globals, from a number on.
 fn of_globals(
     alloc: Global,
+    owners: &[usize],
     mutexes: usize,
     seen: &[Seen],
     count: usize,
@@ -115,12 +118,12 @@ fn of_globals(
     globals: &[GlobalVariable],
 ) -> Result<Checked, AllocError>
     requires { x + length globals.now ≤ 18446744073709551615 }
-    ensures { IfOk result (λ c. verdict_of c ≡ spec.of_globals mutexes (map seen_of seen.now) count x (map global_of globals.now)) }
+    ensures { IfOk result (λ c. verdict_of c ≡ spec.of_globals owners.now mutexes (map seen_of seen.now) count x (map global_of globals.now)) }
 {
     match globals.split_first() {
         Some((global, rest)) => {
-            if has_discipline(mutexes, seen, x) {
-                return of_globals(alloc, mutexes, seen, count, x + 1, rest);
+            if has_discipline(owners, mutexes, seen, x) {
+                return of_globals(alloc, owners, mutexes, seen, count, x + 1, rest);
             }
             let mut offsets = Vec::new(alloc);
             push_offsets(x, seen, &mut offsets)?;
@@ -140,8 +143,10 @@ fn of_seen(alloc: Global, program: &Program, seen: &[Seen]) -> Result<Checked, A
         let name = String::new(alloc);
         return Ok(Checked::Doubt { offset: 0, name });
     }
+    let owners = owners(alloc, program)?;
     of_globals(
         alloc,
+        &owners,
         program.mutexes.len(),
         seen,
         program.globals.len(),

@@ -6,6 +6,7 @@ pub mod check;
 mod forks;
 mod inside;
 mod loops;
+mod owners;
 mod progress;
 mod sets;
 mod verdicts;

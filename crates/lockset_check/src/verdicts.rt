@@ -23,11 +23,11 @@ fn is_write(x: usize, s: &Seen) -> bool
     }
 }
 
-fn is_others(x: usize, s: &Seen) -> bool
-    ensures { result ≡ spec.is_others x (seen_of s.now) }
+fn is_others(x: usize, f: usize, s: &Seen) -> bool
+    ensures { result ≡ spec.is_others x f (seen_of s.now) }
 {
     match s {
-        Seen::Touches(a) => is_counted(x, a) && !a.main,
+        Seen::Touches(a) => is_counted(x, a) && a.function != f,
         Seen::TooDeep => false,
     }
 }
@@ -50,11 +50,11 @@ fn any_write(x: usize, seen: &[Seen]) -> bool
     }
 }
 
-fn any_others(x: usize, seen: &[Seen]) -> bool
-    ensures { result ≡ list_any (spec.is_others x) (map seen_of seen.now) }
+fn any_others(x: usize, f: usize, seen: &[Seen]) -> bool
+    ensures { result ≡ list_any (spec.is_others x f) (map seen_of seen.now) }
 {
     match seen.split_first() {
-        Some((s, rest)) => is_others(x, s) || any_others(x, rest),
+        Some((s, rest)) => is_others(x, f, s) || any_others(x, f, rest),
         None => false,
     }
 }
@@ -68,6 +68,16 @@ fn any_lacks(x: usize, m: usize, seen: &[Seen]) -> bool
     }
 }
 
+/// Whether all counted accesses are of the walk of one of these functions.
+fn is_owned(x: usize, seen: &[Seen], owners: &[usize]) -> bool
+    ensures { result ≡ spec.is_owned x (map seen_of seen.now) owners.now }
+{
+    match owners.split_first() {
+        Some((f, rest)) => !any_others(x, *f, seen) || is_owned(x, seen, rest),
+        None => false,
+    }
+}
+
 /// Whether one of so many mutexes, from a number on, is held at all counted accesses.
 fn is_guarded(x: usize, seen: &[Seen], m: usize, mutexes: usize) -> bool
     requires { m + mutexes ≤ 18446744073709551615 }
@@ -76,11 +86,11 @@ fn is_guarded(x: usize, seen: &[Seen], m: usize, mutexes: usize) -> bool
     mutexes != 0 && (!any_lacks(x, m, seen) || is_guarded(x, seen, m + 1, mutexes - 1))
 }
 
-/// Whether a global has a discipline.
-pub(crate) fn has_discipline(mutexes: usize, seen: &[Seen], x: usize) -> bool
-    ensures { result ≡ spec.has_discipline mutexes (map seen_of seen.now) x }
+/// Whether a global has a discipline, these being the functions that exactly one hardware thread runs.
+pub(crate) fn has_discipline(owners: &[usize], mutexes: usize, seen: &[Seen], x: usize) -> bool
+    ensures { result ≡ spec.has_discipline owners.now mutexes (map seen_of seen.now) x }
 {
-    !any_write(x, seen) || !any_others(x, seen) || is_guarded(x, seen, 0, mutexes)
+    !any_write(x, seen) || is_owned(x, seen, owners) || is_guarded(x, seen, 0, mutexes)
 }
 
 /// The least of some offsets.

@@ -1,43 +1,40 @@
 // The walk over the text of a thread's function, calls included.
-ghost use Rattle.std.specs.Prelude.{◌≡◌, IfOk};
-ghost use Rattle.c_program.specs.Plain.{program_of, statement_of, expressions_of, condition_of};
+ghost use Rattle.std.specs.Prelude.{◌≡◌, Some, None, IfOk};
+ghost use Rattle.c_program.specs.Plain.{program_of, statement_of, expressions_of};
+ghost use Rattle.lock_discipline.specs.Sets.{Sets as LockSets};
 ghost use Rattle.lock_discipline.specs.Walk as spec;
-ghost use Rattle.lockset_check.specs.Views.{passed_of, walker_of};
-ghost use Rattle.lockset_check.specs.Walked.{walked, called, valued_call, kept_around, both_walked, if_walked, for_walked, plain_call};
+ghost use Rattle.lockset_check.specs.Views.{passed_of, labels_of, walker_of};
+ghost use Rattle.lockset_check.specs.Walked.{walked, called, met, met_call, kept_around, both_walked, if_walked, for_walked, plain_call};
 
-use crate::accesses::{ask, assign, read, read_all, read_old, read_operands};
-use crate::inside::{lower, lower_call, lower_for};
+use crate::accesses::{assign, read, read_all, read_old, read_operands};
+use crate::inside::lower;
 use crate::loops::join_loop;
 use crate::progress::{Progress, Seen, Walker};
-use c_program::tree::{Condition, Expression, Program, RightSide, Statement};
+use crate::sets::Sets;
+use c_program::tree::{Expression, Program, Statement};
 use sqlite_items::at;
 use std::alloc::{AllocError, Global};
 
-/// Walks a statement, in which calls are less than so deep.
+/// Walks a statement, in which calls are less than so deep. Where it is a part of a switch, labels has what is so at each label.
 #[cycle(walk)]
-pub(crate) fn walk(
+fn walk(
     alloc: Global,
     program: &Program,
     walker: Walker,
     depth: usize,
+    labels: Option<&Sets>,
     statement: &Statement,
     progress: &mut Progress,
 ) -> Result<(), AllocError>
-    ensures { IfOk result (λ _. passed_of progress.new ≡ spec.behind (passed_of progress.old) (walked (program_of program.now) (walker_of walker) depth (statement_of statement.now))) }
+    ensures { IfOk result (λ _. passed_of progress.new ≡ spec.behind (passed_of progress.old) (walked (program_of program.now) (walker_of walker) depth (labels_of labels.entry) (statement_of statement.now))) }
 {
     match statement {
         Statement::Sequence(first, rest) => {
-            walk_both(alloc, program, walker, depth, first, rest, progress)
+            walk_both(alloc, program, walker, depth, labels, first, rest, progress)
         }
-        Statement::Block(body) => walk(alloc, program, walker, depth, body, progress),
-        Statement::Assign(offset, place, RightSide::Value(e)) => {
+        Statement::Block(body) => walk(alloc, program, walker, depth, None, body, progress),
+        Statement::Assign(offset, place, e) => {
             read(alloc, walker, *offset, e, progress)?;
-            assign(alloc, walker, *offset, place, progress)
-        }
-        Statement::Assign(offset, place, RightSide::Call(function, arguments)) => {
-            walk_value(
-                alloc, program, walker, depth, *offset, *function, arguments, progress,
-            )?;
             assign(alloc, walker, *offset, place, progress)
         }
         Statement::Update(offset, place, _, _, e) => {
@@ -45,19 +42,25 @@ pub(crate) fn walk(
             read_old(alloc, walker, *offset, place, progress)?;
             assign(alloc, walker, *offset, place, progress)
         }
-        Statement::If(condition, consequent, alternative) => walk_if(
-            alloc,
-            program,
-            walker,
-            depth,
-            condition,
-            consequent,
-            alternative,
-            progress,
+        Statement::Call(offset, None, function, arguments) => walk_plain(
+            alloc, program, walker, depth, *offset, *function, arguments, progress,
         ),
+        Statement::If(condition, consequent, alternative) => {
+            lower(program, depth, condition, &mut progress.at);
+            walk_if(
+                alloc,
+                program,
+                walker,
+                depth,
+                condition,
+                consequent,
+                alternative,
+                progress,
+            )
+        }
         Statement::While(condition, body) | Statement::DoWhile(body, condition) => {
-            lower(program, depth, body, &mut progress.at);
-            ask(alloc, walker, condition, progress)?;
+            lower(program, depth, statement, &mut progress.at);
+            ask(alloc, program, walker, depth, condition, progress)?;
             walk_around(alloc, program, walker, depth, body, progress)
         }
         Statement::For(first, condition, last, body) => {
@@ -65,24 +68,22 @@ pub(crate) fn walk(
                 progress.at.join(thread);
                 return Ok(());
             }
+            lower(program, depth, statement, &mut progress.at);
             walk_for(
                 alloc, program, walker, depth, first, condition, last, body, progress,
             )
         }
+        Statement::Switch(offset, _, operand, body) => {
+            lower(program, depth, body, &mut progress.at);
+            read(alloc, walker, *offset, operand, progress)?;
+            walk_labels(alloc, program, walker, depth, body, progress)
+        }
+        Statement::Label(_, _) => progress.come(alloc, labels),
         Statement::Return(_, None) => progress.leave(alloc),
-        Statement::Return(offset, Some(RightSide::Value(e))) => {
+        Statement::Return(offset, Some(e)) => {
             read(alloc, walker, *offset, e, progress)?;
             progress.leave(alloc)
         }
-        Statement::Return(offset, Some(RightSide::Call(function, arguments))) => {
-            walk_value(
-                alloc, program, walker, depth, *offset, *function, arguments, progress,
-            )?;
-            progress.leave(alloc)
-        }
-        Statement::Call(offset, function, arguments) => walk_plain(
-            alloc, program, walker, depth, *offset, *function, arguments, progress,
-        ),
         Statement::Print(offset, _, arguments) => {
             read_all(alloc, walker, *offset, arguments, progress)
         }
@@ -90,6 +91,16 @@ pub(crate) fn walk(
             read_operands(alloc, walker, *offset, call, progress)?;
             progress.at.pass(call);
             Ok(())
+        }
+        Statement::Call(_, Some(_), _, _)
+        | Statement::Keep(_, _, _, _)
+        | Statement::Truth(_, _)
+        | Statement::Test(_, _)
+        | Statement::Both(_, _)
+        | Statement::Either(_, _)
+        | Statement::Opposite(_) => {
+            lower(program, depth, statement, &mut progress.at);
+            ask(alloc, program, walker, depth, statement, progress)
         }
         _ => Ok(()),
     }
@@ -102,41 +113,42 @@ fn walk_both(
     program: &Program,
     walker: Walker,
     depth: usize,
+    labels: Option<&Sets>,
     first: &Statement,
     rest: &Statement,
     progress: &mut Progress,
 ) -> Result<(), AllocError>
-    ensures { IfOk result (λ _. passed_of progress.new ≡ spec.behind (passed_of progress.old) (both_walked (program_of program.now) (walker_of walker) depth (statement_of first.now) (statement_of rest.now))) }
+    ensures { IfOk result (λ _. passed_of progress.new ≡ spec.behind (passed_of progress.old) (both_walked (program_of program.now) (walker_of walker) depth (labels_of labels.entry) (statement_of first.now) (statement_of rest.now))) }
 {
-    walk(alloc, program, walker, depth, first, progress)?;
-    walk(alloc, program, walker, depth, rest, progress)?;
+    walk(alloc, program, walker, depth, labels, first, progress)?;
+    walk(alloc, program, walker, depth, labels, rest, progress)?;
     Ok(())
 }
 
-/// An if.
+/// An if, from what is so once its condition is asked.
 #[cycle(walk)]
 fn walk_if(
     alloc: Global,
     program: &Program,
     walker: Walker,
     depth: usize,
-    condition: &Condition,
+    condition: &Statement,
     consequent: &Statement,
     alternative: &Statement,
     progress: &mut Progress,
 ) -> Result<(), AllocError>
-    ensures { IfOk result (λ _. passed_of progress.new ≡ spec.behind (passed_of progress.old) (if_walked (program_of program.now) (walker_of walker) depth (condition_of condition.now) (statement_of consequent.now) (statement_of alternative.now))) }
+    ensures { IfOk result (λ _. passed_of progress.new ≡ spec.behind (passed_of progress.old) (if_walked (program_of program.now) (walker_of walker) depth (statement_of condition.now) (statement_of consequent.now) (statement_of alternative.now))) }
 {
-    ask(alloc, walker, condition, progress)?;
+    ask(alloc, program, walker, depth, condition, progress)?;
     let before = progress.at.copy(alloc)?;
-    walk(alloc, program, walker, depth, consequent, progress)?;
+    walk(alloc, program, walker, depth, None, consequent, progress)?;
     let after = progress.put_at(before);
-    walk(alloc, program, walker, depth, alternative, progress)?;
+    walk(alloc, program, walker, depth, None, alternative, progress)?;
     progress.meet(alloc, after)?;
     Ok(())
 }
 
-/// A for that is no join loop.
+/// A for that is no join loop, from what is so throughout.
 #[cycle(walk)]
 fn walk_for(
     alloc: Global,
@@ -144,18 +156,53 @@ fn walk_for(
     walker: Walker,
     depth: usize,
     first: &Statement,
-    condition: &Condition,
+    condition: &Statement,
     last: &Statement,
     body: &Statement,
     progress: &mut Progress,
 ) -> Result<(), AllocError>
-    ensures { IfOk result (λ _. passed_of progress.new ≡ spec.behind (passed_of progress.old) (for_walked (program_of program.now) (walker_of walker) depth (statement_of first.now) (condition_of condition.now) (statement_of last.now) (statement_of body.now))) }
+    ensures { IfOk result (λ _. passed_of progress.new ≡ spec.behind (passed_of progress.old) (for_walked (program_of program.now) (walker_of walker) depth (statement_of first.now) (statement_of condition.now) (statement_of last.now) (statement_of body.now))) }
 {
-    lower_for(program, depth, first, last, body, &mut progress.at);
-    ask(alloc, walker, condition, progress)?;
+    ask(alloc, program, walker, depth, condition, progress)?;
     walk_around(alloc, program, walker, depth, first, progress)?;
     walk_around(alloc, program, walker, depth, last, progress)?;
     walk_around(alloc, program, walker, depth, body, progress)?;
+    Ok(())
+}
+
+/// A part of a loop, from what is so throughout; that is so behind it too.
+#[cycle(walk)]
+fn walk_around(
+    alloc: Global,
+    program: &Program,
+    walker: Walker,
+    depth: usize,
+    part: &Statement,
+    progress: &mut Progress,
+) -> Result<(), AllocError>
+    ensures { IfOk result (λ _. passed_of progress.new ≡ kept_around (passed_of progress.old) (walked (program_of program.now) (walker_of walker) depth None (statement_of part.now))) }
+{
+    let before = progress.at.copy(alloc)?;
+    walk(alloc, program, walker, depth, None, part, progress)?;
+    progress.at = before;
+    Ok(())
+}
+
+/// The body of a switch, from what is so at each label; that is so behind it too.
+#[cycle(walk)]
+fn walk_labels(
+    alloc: Global,
+    program: &Program,
+    walker: Walker,
+    depth: usize,
+    body: &Statement,
+    progress: &mut Progress,
+) -> Result<(), AllocError>
+    ensures { IfOk result (λ _. passed_of progress.new ≡ kept_around (passed_of progress.old) (λ (s : LockSets). walked (program_of program.now) (walker_of walker) depth (Some s) (statement_of body.now) s)) }
+{
+    let labels = progress.at.copy(alloc)?;
+    walk(alloc, program, walker, depth, Some(&labels), body, progress)?;
+    progress.at = labels;
     Ok(())
 }
 
@@ -178,27 +225,46 @@ fn walk_plain(
     Ok(())
 }
 
-/// A part of a loop, from what is so throughout; that is so behind it too.
+/// A condition, or what is evaluated before a step, at what is so throughout.
 #[cycle(walk)]
-fn walk_around(
+fn ask(
     alloc: Global,
     program: &Program,
     walker: Walker,
     depth: usize,
-    part: &Statement,
+    condition: &Statement,
     progress: &mut Progress,
 ) -> Result<(), AllocError>
-    ensures { IfOk result (λ _. passed_of progress.new ≡ kept_around (passed_of progress.old) (walked (program_of program.now) (walker_of walker) depth (statement_of part.now))) }
+    ensures { IfOk result (λ _. passed_of progress.new ≡ spec.with_seen (passed_of progress.old) (met (program_of program.now) (walker_of walker) depth (passed_of progress.old).after (statement_of condition.now))) }
 {
-    let before = progress.at.copy(alloc)?;
-    walk(alloc, program, walker, depth, part, progress)?;
-    progress.at = before;
-    Ok(())
+    match condition {
+        Statement::Test(offset, operand) | Statement::Keep(offset, _, _, operand) => {
+            read(alloc, walker, *offset, operand, progress)
+        }
+        Statement::Call(offset, _, function, arguments) => ask_call(
+            alloc, program, walker, depth, *offset, *function, arguments, progress,
+        ),
+        Statement::Truth(_, inner) | Statement::Opposite(inner) => {
+            ask(alloc, program, walker, depth, inner, progress)
+        }
+        Statement::Sequence(first, second)
+        | Statement::Both(first, second)
+        | Statement::Either(first, second) => {
+            ask(alloc, program, walker, depth, first, progress)?;
+            ask(alloc, program, walker, depth, second, progress)
+        }
+        Statement::If(condition, consequent, alternative) => {
+            ask(alloc, program, walker, depth, condition, progress)?;
+            ask(alloc, program, walker, depth, consequent, progress)?;
+            ask(alloc, program, walker, depth, alternative, progress)
+        }
+        _ => Ok(()),
+    }
 }
 
-/// A call whose value is used.
+/// A call whose value is used, at what is so throughout.
 #[cycle(walk)]
-fn walk_value(
+fn ask_call(
     alloc: Global,
     program: &Program,
     walker: Walker,
@@ -208,9 +274,8 @@ fn walk_value(
     arguments: &[Expression],
     progress: &mut Progress,
 ) -> Result<(), AllocError>
-    ensures { IfOk result (λ _. passed_of progress.new ≡ spec.behind (passed_of progress.old) (valued_call (program_of program.now) (walker_of walker) depth offset function (expressions_of arguments.now))) }
+    ensures { IfOk result (λ _. passed_of progress.new ≡ spec.with_seen (passed_of progress.old) (met_call (program_of program.now) (walker_of walker) depth (passed_of progress.old).after offset function (expressions_of arguments.now))) }
 {
-    lower_call(program, depth, function, &mut progress.at);
     read_all(alloc, walker, offset, arguments, progress)?;
     let before = progress.at.copy(alloc)?;
     walk_call(alloc, program, walker, depth, function as usize, progress)?;
@@ -237,7 +302,15 @@ pub(crate) fn walk_call(
     match at(&program.functions, function) {
         Some(code) => {
             let outer = progress.enter();
-            walk(alloc, program, walker, depth - 1, &code.body, progress)?;
+            walk(
+                alloc,
+                program,
+                walker,
+                depth - 1,
+                None,
+                &code.body,
+                progress,
+            )?;
             progress.end(alloc, outer)?;
             Ok(())
         }
