@@ -12,7 +12,7 @@ use Rattle.fsm_plan.specs.Planned.{AreLeastStarts}
 use Rattle.fsm_plan.specs.Steps.{AreSoon}
 use Rattle.std.specs.Prelude.{true, false}
 
-at_most_eight : (k : Kind) → latency_of k ≤ 8
+pub at_most_eight : (k : Kind) → latency_of k ≤ 8
 at_most_eight Simple = omega arith
 at_most_eight (Multiply w) = omega arith
 at_most_eight (Divide w s) = omega arith

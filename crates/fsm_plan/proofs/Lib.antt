@@ -2,7 +2,7 @@ mod Bridge
 mod Orders
 mod Agree
 mod CodeAgree
-mod LeastStarts
+pub mod LeastStarts
 mod Small
 mod Whole
 mod StageLists
