@@ -13,6 +13,7 @@ pub mod TableModule
 pub mod MemoryNames
 pub mod Chains
 pub mod Edges
+pub mod ReadWords
 pub mod Spreads
 pub mod Arbitration
 pub mod Widths

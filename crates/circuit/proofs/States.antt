@@ -75,12 +75,13 @@ initial_fits modules top path m x w Input i f = absurd i
 initial_fits modules top path m x w (Assigned v) i f = absurd i
 initial_fits modules top path m x w (Port j q) i f = absurd i
 
-one_of : {X : Type 0} (P : X → Type 0) (xs : List X) (i : ℕ) (x : X) → EachOf P xs → slice_get xs i ≡ Some x → P x
+-- the element of a place, of a list of which each one has the property
+pub one_of : {X : Type 0} (P : X → Type 0) (xs : List X) (i : ℕ) (x : X) → EachOf P xs → slice_get xs i ≡ Some x → P x
 one_of P [] i x f e = absurd cc
 one_of P (y ∷ xs) zero x f e = let same : y ≡ x = cc in subst P same f.0
 one_of P (y ∷ xs) (suc i) x f e = one_of P xs i x f.1 e
 
-word_at : (numbers : List ℕ) (w k : ℕ) → EachOf (λ n. n < 2 ^ w) numbers → k < length numbers → or_zero (slice_get numbers k) < 2 ^ w
+pub word_at : (numbers : List ℕ) (w k : ℕ) → EachOf (λ n. n < 2 ^ w) numbers → k < length numbers → or_zero (slice_get numbers k) < 2 ^ w
 word_at [] w k f l = absurd (omega arith)
 word_at (n ∷ numbers) w zero f l = f.0
 word_at (n ∷ numbers) w (suc k) f l = word_at numbers w k f.1 (omega arith)
