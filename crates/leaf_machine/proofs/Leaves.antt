@@ -1,5 +1,5 @@
 -- A module with a thread's ports is that of a thread.
-use Rattle.std.proofs.Common.{◌≡◌, ℕ, zero, suc, ◌%◌, ◌^◌, ◌<◌, Bool, true, false, nat_eq, List, [], ◌∷◌, length, Some, slice_get, if◌then◌else◌, refl, sym, ap, ◌∙◌, subst, arith, lit<}
+use Rattle.std.proofs.Common.{◌≡◌, ℕ, zero, suc, ◌%◌, ◌^◌, ◌<◌, Bool, true, false, nat_eq, Some, slice_get, if◌then◌else◌, refl, sym, ap, ◌∙◌, subst, arith, lit<}
 use Rattle.std.specs.Prelude.{not}
 use Rattle.std.proofs.lemmas.Bool.Decides.{nat_tests}
 use Rattle.std.proofs.Math.Nat.{mod-eq_of_lt}
@@ -8,12 +8,11 @@ use Rattle.netlist.specs.declared.netlist.Source.{Source}
 use Rattle.netlist.specs.declared.netlist.Source.TheVariants.{Input, Register, Assigned, Port}
 use Rattle.netlist.specs.declared.netlist.Signal.{Signal}
 use Rattle.netlist.specs.declared.netlist.Module.{Module}
-use Rattle.verilog_meaning.specs.Readings.{Reading, next_reading, initial_number, initial_signal, initial_word, initial_reading, or_zero}
+use Rattle.verilog_meaning.specs.Readings.{Reading, next_reading, initial_number, initial_signal, initial_word, initial_reading}
 use Rattle.verilog_meaning.specs.Cycles.{IsRegister}
-use Rattle.circuit.specs.Rows.{EachOf}
 use Rattle.circuit.specs.Modules.{Obeys, Agree, Has, FitsMemory, IsSoundSource, IsLeaf}
 use Rattle.circuit.specs.Machines.{Hears, IsThread}
-use Rattle.circuit.proofs.States.{register_fits, word_fits}
+use Rattle.circuit.proofs.States.{register_fits, word_fits, one_of, word_at}
 use Rattle.leaf_machine.specs.Settled.{settled_reading, IsSlot}
 use Rattle.leaf_machine.specs.Leaves.{Heard, Clock, Enable, Grant, Told, LeafPorts, heard_number, reading_under, unanswered, shows_bit, leaf_thread, leaf_places, IsHeard, HasHeard}
 use Rattle.leaf_machine.specs.Leaves.{AnswersAreLate, IsEarly, IsSlotBit, IsThreadLeaf, GoesThrough, FitsPorts, KeepsSlots}
@@ -154,16 +153,6 @@ initial_fits m inputs late x w (Register n) i sound = sound
 initial_fits m inputs late x w Input i sound = absurd i
 initial_fits m inputs late x w (Assigned v) i sound = absurd i
 initial_fits m inputs late x w (Port a b) i sound = absurd i
-
-one_of : {X : Type 0} (P : X → Type 0) (xs : List X) (i : ℕ) (x : X) → EachOf P xs → slice_get xs i ≡ Some x → P x
-one_of P [] i x f e = absurd cc
-one_of P (y ∷ xs) zero x f e = let same : y ≡ x = cc in subst P same f.0
-one_of P (y ∷ xs) (suc i) x f e = one_of P xs i x f.1 e
-
-word_at : (numbers : List ℕ) (w k : ℕ) → EachOf (λ n. n < 2 ^ w) numbers → k < length numbers → or_zero (slice_get numbers k) < 2 ^ w
-word_at [] w k f l = absurd (omega arith)
-word_at (n ∷ numbers) w zero f l = f.0
-word_at (n ∷ numbers) w (suc k) f l = word_at numbers w k f.1 (omega arith)
 
 module _ (m : Module) (inputs : ℕ) (late : ℕ → Bool) (leaf : IsLeaf m inputs late) where
   -- the initial constants are a state
