@@ -7,7 +7,7 @@ use Rattle.std.proofs.Math.ListN.{length-set}
 use Rattle.std.proofs.lemmas.Bool.{both_ways, cases_eq}
 use Rattle.netlist.specs.declared.netlist.Module.{Module}
 use Rattle.sim_values.specs.declared.settle.Step.{Step}
-use Rattle.sim_values.specs.Flat.{EachOf}
+use Rattle.circuit.specs.Rows.{EachOf}
 use Rattle.sim_values.specs.Order.{reads, InOrder, IsMarked, Known, Takes, IsPartial, IsOrder, AreHeld, IsLeft, IsStuck}
 use Rattle.sim_values.proofs.Settles.{each_to}
 

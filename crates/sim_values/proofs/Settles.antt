@@ -16,7 +16,8 @@ use Rattle.sim_values.specs.declared.value.Spot.{Spot}
 use Rattle.sim_values.specs.declared.settle.Feed.{Feed}
 use Rattle.sim_values.specs.declared.settle.Feed.TheVariants.{Zero, Enables, Preferred, Copied, Computed}
 use Rattle.sim_values.specs.declared.settle.Step.{Step}
-use Rattle.sim_values.specs.Flat.{Flat, EachOf, reading, fed, source_number, signal_number, module_number, with_numbers, stepped, settled}
+use Rattle.circuit.specs.Rows.{EachOf}
+use Rattle.sim_values.specs.Flat.{Flat, reading, fed, source_number, signal_number, module_number, with_numbers, stepped, settled}
 use Rattle.sim_values.specs.Order.{source_reads, signal_reads, module_reads, reads, InOrder, rank}
 
 pub each_one : (P : ℕ → Type 0) (base : ℕ) (xs : List ℕ) → EachOf P (map (λ y. base + y) xs) → (x : ℕ) → IsOneOf x xs → P (base + x)

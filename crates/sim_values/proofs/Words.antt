@@ -7,7 +7,7 @@ use Rattle.std.proofs.lemmas.List.{drop_all}
 use Rattle.hls_ints.specs.Words.{word}
 use Rattle.netlist.specs.declared.netlist.Module.{Module}
 use Rattle.circuit.specs.Readings.{Reading, joined, repeated, width}
-use Rattle.sim_values.specs.Flat.{EachOf}
+use Rattle.circuit.specs.Rows.{EachOf}
 
 is_small : (x v : ℕ) → x ≡ v → x < 2 ^ 64 → x ≡ word 64 v
 is_small x v e l = grind arith

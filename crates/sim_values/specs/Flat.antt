@@ -10,6 +10,7 @@ use Rattle.netlist.specs.declared.netlist.Effect.{Effect}
 use Rattle.netlist.specs.declared.netlist.Effect.TheVariants.{Set, Store, Write}
 use Rattle.netlist.specs.declared.netlist.Action.{Action}
 use Rattle.netlist.specs.declared.netlist.Module.{Module}
+use Rattle.circuit.specs.Rows.{EachOf}
 use Rattle.circuit.specs.Threads.{operands}
 use Rattle.circuit.specs.Readings.{Reading, width, value, is_on, memory_words, written}
 use Rattle.circuit.specs.Cycles.{Choice}
@@ -39,10 +40,6 @@ reading spot f = record {
 }
 
 -- ---- what a right side needs
-
-abbrev pub EachOf : {X : Type 0} → (X → Type 0) → List X → Type 0
-EachOf P [] = Unit {0}
-EachOf P (x ∷ xs) = P x × EachOf P xs
 
 abbrev pub IsWide : Module → ℕ → Type 0
 IsWide m x = (1 ≤ width m x) × (width m x ≤ 64)

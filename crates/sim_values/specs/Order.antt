@@ -8,7 +8,7 @@ use Rattle.circuit.specs.Threads.{operands}
 use Rattle.sim_values.specs.declared.settle.Feed.{Feed}
 use Rattle.sim_values.specs.declared.settle.Feed.TheVariants.{Zero, Enables, Preferred, Copied, Computed}
 use Rattle.sim_values.specs.declared.settle.Step.{Step}
-use Rattle.sim_values.specs.Flat.{EachOf}
+use Rattle.circuit.specs.Rows.{EachOf}
 
 -- the places that a feed reads
 abbrev pub source_reads : ℕ → Source → List ℕ

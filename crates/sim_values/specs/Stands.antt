@@ -10,7 +10,8 @@ use Rattle.sim_values.specs.declared.settle.Feed.{Feed}
 use Rattle.sim_values.specs.declared.settle.Feed.TheVariants.{Copied, Computed}
 use Rattle.sim_values.specs.declared.settle.Step.{Step}
 use Rattle.sim_values.specs.declared.edge.Part.{Part}
-use Rattle.sim_values.specs.Flat.{Flat, EachOf, reading, fed}
+use Rattle.circuit.specs.Rows.{EachOf}
+use Rattle.sim_values.specs.Flat.{Flat, reading, fed}
 use Rattle.sim_values.specs.Order.{InOrder}
 
 -- of the part at a place of the list

@@ -3,7 +3,8 @@
 ghost use Rattle.std.specs.Prelude.{◌≡◌, ◌+◌, slice_index, slice_get};
 ghost use Rattle.hls_ints.specs.Words.{word};
 ghost use Rattle.circuit.specs.Readings.{width, value as value_of, joined, memory_words};
-ghost use Rattle.sim_values.specs.Flat.{flat_of, reading, EachOf, IsWide, IsNarrow};
+ghost use Rattle.circuit.specs.Rows.{EachOf};
+ghost use Rattle.sim_values.specs.Flat.{flat_of, reading, IsWide, IsNarrow};
 
 use crate::operators::{beside, binary, divided, repeated, selected, signed_divided};
 use hls_ints::{v_not, v_sar, v_sless};

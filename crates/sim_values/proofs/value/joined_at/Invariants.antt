@@ -1,7 +1,8 @@
 use Rattle.std.proofs.Common.{◌≡◌, ◌<◌, ◌^◌, drop}
 use Rattle.hls_ints.specs.Words.{word}
 use Rattle.circuit.specs.Readings.{joined}
-use Rattle.sim_values.specs.Flat.{flat_of, reading, EachOf, IsWide}
+use Rattle.circuit.specs.Rows.{EachOf}
+use Rattle.sim_values.specs.Flat.{flat_of, reading, IsWide}
 use Rattle.sim_values.proofs.value.joined_at.Given as goal
 
 abbrev pub invariant-loop-part : goal.invariant-loop-part
