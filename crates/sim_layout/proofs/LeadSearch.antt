@@ -8,7 +8,7 @@ use Rattle.std.proofs.lemmas.Bool.{cases_Bool, both_ways, cases_eq}
 use Rattle.netlist.specs.declared.netlist.Module.{Module}
 use Rattle.verilog_meaning.specs.Threads.{IsOneOf}
 use Rattle.sim_values.specs.declared.settle.Step.{Step}
-use Rattle.sim_values.specs.Flat.{EachOf}
+use Rattle.sim_values.specs.Rows.{EachOf}
 use Rattle.sim_values.specs.Order.{reads, Takes, IsMarked, IsClear, SomeOf}
 use Rattle.sim_layout.specs.Leads.{Leads, AreInRoom, IsSearch, IsClosed, AreClosed, AreApart, LoopsNowhere}
 use Rattle.sim_layout.specs.Leads.Leads.{Directly, Through}

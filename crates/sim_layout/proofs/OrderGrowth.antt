@@ -9,7 +9,7 @@ use Rattle.netlist.specs.declared.netlist.Module.{Module}
 use Rattle.verilog_meaning.specs.Threads.{IsOneOf}
 use Rattle.sim_values.specs.declared.settle.Step.{Step}
 use Rattle.sim_layout.specs.declared.order.Growth.{Growth}
-use Rattle.sim_values.specs.Flat.{EachOf}
+use Rattle.sim_values.specs.Rows.{EachOf}
 use Rattle.sim_values.specs.Order.{reads, IsMarked, IsClear, SomeOf, IsPartial, AreHeld}
 use Rattle.sim_layout.specs.Waits.{IsWaiting, IsListed}
 use Rattle.sim_layout.specs.Growing.{IsUnmet, IsTaken, IsBlocked, IsCovered, IsGrowing}

@@ -6,7 +6,7 @@ use Rattle.sim_values.specs.declared.settle.Step.{Step}
 use Rattle.sim_values.specs.declared.edge.Part.{Part}
 use Rattle.sim_layout.specs.declared.loops.Found.{Found}
 use Rattle.sim_layout.specs.declared.loops.Site.{Site}
-use Rattle.sim_values.specs.Flat.{EachOf}
+use Rattle.sim_values.specs.Rows.{EachOf}
 use Rattle.sim_values.specs.Order.{reads, Takes, IsMarked, IsClear}
 use Rattle.sim_layout.specs.Wires.{signals_of}
 

@@ -8,7 +8,7 @@ use Rattle.verilog_meaning.specs.Ports.{HasDone}
 use Rattle.verilog_meaning.specs.Readings.{memory_words}
 use Rattle.verilog_meaning.specs.Names.{top_of}
 use Rattle.verilog_meaning.specs.Cycles.{Path, Valuation, Choice, module_at, IsAt, IsState, IsSameIn, Cycle, ShowsDone}
-use Rattle.sim_values.specs.Rows.{EachOf as EachOfRows}
+use Rattle.sim_values.specs.Rows.{EachOf}
 use Rattle.sim_values.specs.Modules.{FitsAction}
 use Rattle.sim_values.specs.Nets.{FitsNet, FitsStatements, FitsChoice}
 use Rattle.global_banks.specs.Elements.{AreNamed}
@@ -59,7 +59,7 @@ pub record IsRight (modules : List Module) (top : Module) : Type 0 where
   pub values : AreNarrow modules
   pub prints : ArePrintable modules
   pub statements : FitsStatements modules top
-  pub acts : (k : ℕ) (m : Module) → slice_get modules k ≡ Some m → EachOfRows (FitsAction m) m.actions
+  pub acts : (k : ℕ) (m : Module) → slice_get modules k ≡ Some m → EachOf (FitsAction m) m.actions
   pub named : AreNamed modules top
 
 -- ---- no two instances, signals or memory words have one place, and one instance at most writes

@@ -1,7 +1,7 @@
 // The first signal that depends on itself.
 
 ghost use Rattle.std.specs.Prelude.{◌≡◌, ℕ, ◌+◌, ◌<◌, true, false, length, IfOk, IsTrue, MatchOption, OnOk};
-ghost use Rattle.sim_values.specs.Flat.{EachOf};
+ghost use Rattle.sim_values.specs.Rows.{EachOf};
 ghost use Rattle.sim_values.specs.Order.{reads, IsMarked, IsClear, SomeOf};
 ghost use Rattle.sim_layout.specs.Leads.{Leads, AreInRoom, IsSearch, IsClosed, AreClosed, AreApart, AreWithin, LoopsNowhere, IsLoopIn, AreLoopless, IsFirstFound, IsFirstSite};
 ghost use Rattle.sim_layout.specs.Ranks.{AreSuspects};

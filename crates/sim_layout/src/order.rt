@@ -3,7 +3,7 @@
 ghost use Rattle.std.specs.Prelude.{◌≡◌, ℕ, ◌+◌, ◌<◌, ◌≤◌, ◌++◌, ◌∷◌, [], true, false, length, map, slice_get, slice_set, slice_index_or, Some, IfOk, MatchOption, OnOk, IsTrue};
 ghost use Rattle.sim_values.specs.declared.settle.Step.{Step as Stepping};
 ghost use Rattle.verilog_meaning.specs.Threads.{operands};
-ghost use Rattle.sim_values.specs.Flat.{EachOf};
+ghost use Rattle.sim_values.specs.Rows.{EachOf};
 ghost use Rattle.sim_values.specs.Order.{reads, module_reads, IsMarked, IsClear, SomeOf, Takes, IsOrder};
 ghost use Rattle.sim_values.specs.Order.{AreHeld, IsLeft, IsStuck};
 ghost use Rattle.sim_layout.specs.Waits.{IsWaiting, IsListed};

@@ -4,7 +4,8 @@ ghost use Rattle.std.specs.Prelude.{◌≡◌, ◌++◌, [], slice_get, OnOk, On
 ghost use Rattle.verilog_meaning.specs.Readings as meaning;
 ghost use Rattle.verilog_meaning.specs.Readings.{mode_after as next_mode, escaped as byte_of_escape, plain_bytes, bytes_of, filled, all_arguments};
 ghost use Rattle.verilog_meaning.specs.Readings.{argument_bytes, first_of, effect_bytes, is_on, written};
-ghost use Rattle.sim_values.specs.Flat.{flat_of, reading, EachOf, IsWide, IsNarrowArgument, IsNarrowEffect, IsNarrowAction, ArePrintable, part_written, all_written};
+ghost use Rattle.sim_values.specs.Rows.{EachOf};
+ghost use Rattle.sim_values.specs.Flat.{flat_of, reading, IsWide, IsNarrowArgument, IsNarrowEffect, IsNarrowAction, ArePrintable, part_written, all_written};
 ghost use Rattle.sim_layout.specs.Print.{mode_of, left_after, Keeps, IsSomething};
 
 use hls_ints::signed_value;

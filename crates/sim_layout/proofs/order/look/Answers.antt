@@ -3,7 +3,7 @@ use Rattle.std.proofs.lemmas.Option.{slice_get-get_or}
 use Rattle.sim_values.specs.declared.settle.Step.{Step}
 use Rattle.sim_values.specs.declared.settle.Feed.TheVariants.{Zero}
 use Rattle.sim_layout.specs.declared.order.Growth.{Growth}
-use Rattle.sim_values.specs.Flat.{EachOf}
+use Rattle.sim_values.specs.Rows.{EachOf}
 use Rattle.sim_values.specs.Order.{reads, IsMarked}
 use Rattle.sim_layout.specs.Growing.{IsUnmet}
 use Rattle.sim_layout.proofs.OrderGrowth.{grown_blocked, grown_taken}

@@ -1,5 +1,5 @@
 use Rattle.std.proofs.Common.{◌+◌, take, map}
-use Rattle.sim_values.specs.Flat.{EachOf}
+use Rattle.sim_values.specs.Rows.{EachOf}
 use Rattle.sim_values.specs.Order.{IsMarked}
 use Rattle.sim_layout.proofs.order.unmet_among.Given as goal
 

@@ -1,6 +1,7 @@
 use Rattle.std.proofs.Common.{◌≡◌, ◌++◌, drop}
 use Rattle.verilog_meaning.specs.Readings.{action_bytes}
-use Rattle.sim_values.specs.Flat.{flat_of, reading, EachOf, IsNarrowAction}
+use Rattle.sim_values.specs.Rows.{EachOf}
+use Rattle.sim_values.specs.Flat.{flat_of, reading, IsNarrowAction}
 use Rattle.sim_layout.specs.Print.{Keeps}
 use Rattle.sim_layout.proofs.print.put_module.Given as goal
 

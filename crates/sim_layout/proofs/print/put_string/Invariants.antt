@@ -1,7 +1,8 @@
 use Rattle.std.proofs.Common.{◌≡◌, ◌++◌, drop}
 use Rattle.verilog_meaning.specs.Readings as meaning
 use Rattle.verilog_meaning.specs.Readings.{filled, all_arguments}
-use Rattle.sim_values.specs.Flat.{flat_of, reading, EachOf, IsNarrowArgument}
+use Rattle.sim_values.specs.Rows.{EachOf}
+use Rattle.sim_values.specs.Flat.{flat_of, reading, IsNarrowArgument}
 use Rattle.sim_layout.specs.Print.{mode_of, Keeps}
 use Rattle.sim_layout.proofs.print.put_string.Given as goal
 
