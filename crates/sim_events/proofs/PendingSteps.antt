@@ -9,7 +9,8 @@ use Rattle.netlist.specs.declared.netlist.Module.{Module}
 use Rattle.verilog_meaning.specs.Cycles.{Choice}
 use Rattle.verilog_meaning.specs.Threads.{IsOneOf}
 use Rattle.sim_values.specs.declared.settle.Step.{Step}
-use Rattle.sim_values.specs.Flat.{EachOf, fed, settled}
+use Rattle.sim_values.specs.Rows.{EachOf}
+use Rattle.sim_values.specs.Flat.{fed, settled}
 use Rattle.sim_values.specs.Order.{reads, IsMarked}
 use Rattle.sim_values.specs.Stands.{IsFree}
 use Rattle.sim_values.proofs.Settles.{gives_new}

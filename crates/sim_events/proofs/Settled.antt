@@ -9,7 +9,8 @@ use Rattle.netlist.specs.declared.netlist.Module.{Module}
 use Rattle.verilog_meaning.specs.Cycles.{Choice}
 use Rattle.verilog_meaning.specs.Threads.{IsOneOf}
 use Rattle.sim_values.specs.declared.settle.Step.{Step}
-use Rattle.sim_values.specs.Flat.{Flat, EachOf, fed, with_numbers, stepped, settled}
+use Rattle.sim_values.specs.Rows.{EachOf}
+use Rattle.sim_values.specs.Flat.{Flat, fed, with_numbers, stepped, settled}
 use Rattle.sim_values.specs.Order.{reads, InOrder, Takes}
 use Rattle.sim_values.proofs.Settles.{each_from, each_to, same_fed}
 use Rattle.sim_events.specs.Events.{Touches, Gives, Holds, flat_at}

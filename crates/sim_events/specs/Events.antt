@@ -11,7 +11,8 @@ use Rattle.verilog_meaning.specs.Threads.{IsOneOf}
 use Rattle.sim_values.specs.declared.settle.Feed.{Feed}
 use Rattle.sim_values.specs.declared.settle.Feed.TheVariants.{Zero, Enables, Preferred, Copied, Computed}
 use Rattle.sim_values.specs.declared.settle.Step.{Step}
-use Rattle.sim_values.specs.Flat.{Flat, EachOf, fed}
+use Rattle.sim_values.specs.Rows.{EachOf}
+use Rattle.sim_values.specs.Flat.{Flat, fed}
 use Rattle.sim_values.specs.Order.{reads, InOrder, Takes, IsMarked}
 use Rattle.sim_values.specs.Stands.{IsFree}
 
