@@ -15,12 +15,12 @@ use Rattle.netlist.specs.declared.netlist.Module.{Module}
 use Rattle.netlist.specs.Sound.{is_write}
 use Rattle.verilog_meaning.specs.Readings.{Reading, is_on, register_after, word_after, memory_words, effect_bytes, action_bytes, written}
 use Rattle.verilog_meaning.specs.Cycles.{Path, Valuation, Choice, number, module_at, IsAt, HasMemory, IsRegister, IsSettled, IsSameIn, Cycle, IsWritten, next_at, next_state, written_at}
-use Rattle.circuit.specs.Rows.{EachOf as EachOfRows}
+use Rattle.circuit.specs.Rows.{EachOf}
 use Rattle.circuit.specs.Modules.{FitsAction, FitsEffect}
 use Rattle.circuit.proofs.States.{keeps_states}
 use Rattle.sim_values.specs.declared.value.Spot.{Spot}
 use Rattle.sim_values.specs.declared.edge.Part.{Part}
-use Rattle.sim_values.specs.Flat.{Flat, EachOf, reading, actions_of, part_written, all_written}
+use Rattle.sim_values.specs.Flat.{Flat, reading, actions_of, part_written, all_written}
 use Rattle.sim_values.specs.Stands.{place_of, spot_of, kind_of, spot_at, word_of, valuation_of, IsPlan}
 use Rattle.sim_layout.specs.Running.{Running, flat, state_of, some_write, IsPart, IsApart, Stands, IsSameState, settled_run, advanced, Fits, TellsDone}
 use Rattle.sim_values.proofs.Settles.{settled-length}
@@ -83,7 +83,7 @@ module _ (r : Running) (st : Stands r) (c : Choice) (fits : Fits r c) where
   effect_misses q o p other m k x is there l apart (Write text arguments) f = tt
 
   actions_miss : (q o : ℕ) (p other : Part) (m k : Module) (x : ℕ) → IsPart modules parts q p m → IsPart modules parts o other k → x < length m.signals → (o ≡ q → ⊥)
-      → (actions : List Action) → EachOfRows (FitsAction k) actions → EachOf (λ (a : Action). edges.Misses other.spot after (p.spot.base + x) a.effect) actions
+      → (actions : List Action) → EachOf (FitsAction k) actions → EachOf (λ (a : Action). edges.Misses other.spot after (p.spot.base + x) a.effect) actions
   actions_miss q o p other m k x is there l apart [] f = tt
   actions_miss q o p other m k x is there l apart (a ∷ actions) f =
       (effect_misses q o p other m k x is there l apart a.effect f.0.1, actions_miss q o p other m k x is there l apart actions f.1)

@@ -11,7 +11,8 @@ use Rattle.netlist.specs.declared.netlist.Module.{Module}
 use Rattle.verilog_meaning.specs.Readings.{is_on, set_by, register_after}
 use Rattle.sim_values.specs.declared.value.Spot.{Spot}
 use Rattle.sim_values.specs.declared.edge.Part.{Part}
-use Rattle.sim_values.specs.Flat.{Flat, EachOf, reading, set_number, act_number, acted_numbers, actions_of, all_numbers}
+use Rattle.circuit.specs.Rows.{EachOf}
+use Rattle.sim_values.specs.Flat.{Flat, reading, set_number, act_number, acted_numbers, actions_of, all_numbers}
 
 module _ (spot : Spot) (f : Flat) where
   set_length : (next : List ℕ) (e : Effect) → length (set_number spot f next e) ≡ length next

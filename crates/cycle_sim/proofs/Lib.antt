@@ -1,3 +1,4 @@
+pub mod StepReads
 pub mod Lift
 pub mod Edges
 pub mod Stores

@@ -19,10 +19,12 @@ use Rattle.circuit.proofs.Widths.{Fitting, value_below}
 use Rattle.sim_values.specs.declared.settle.Feed.TheVariants.{Copied, Computed}
 use Rattle.sim_values.specs.declared.settle.Step.{Step}
 use Rattle.sim_values.specs.declared.edge.Part.{Part}
-use Rattle.sim_values.specs.Flat.{Flat, EachOf, fed, source_number, signal_number, module_number, with_numbers, settled}
-use Rattle.sim_values.specs.Order.{source_reads, signal_reads, module_reads, reads, rank}
+use Rattle.circuit.specs.Rows.{EachOf}
+use Rattle.sim_values.specs.Flat.{Flat, fed, source_number, signal_number, module_number, with_numbers, settled}
+use Rattle.sim_values.specs.Order.{reads, rank}
 use Rattle.sim_values.specs.Stands.{word_of, spot_at, kind_at, valuation_of, step, Has, IsFree, StandsFor, IsPlan}
-use Rattle.sim_values.proofs.Settles.{each_one, settled-known, settled-settles, rank_reads}
+use Rattle.sim_values.proofs.Settles.{each_one, settled-known, settled-settles}
+use Rattle.cycle_sim.proofs.StepReads.{lower, computed_reads}
 
 each_get : {X : Type 0} (P : X → Type 0) (xs : List X) (j : ℕ) (x : X) → EachOf P xs → slice_get xs j ≡ Some x → P x
 each_get P [] j x e at = absurd cc
@@ -52,9 +54,6 @@ module _ (modules : List Module) (top : Module) (parts : List Part) (steps : Lis
   abbrev level : Path → ℕ → ℕ
   level path x = rank 0 steps (word_of parts path x)
 
-  lower : (s : Step) → Has steps s → EachOf (λ y. rank 0 steps y < rank 0 steps s.target) (reads modules s.feed)
-  lower s has = rank_reads modules (IsFree free) 0 steps has.0 s plan.ordered has.1
-
   abbrev Below : ℕ → Type 0
   Below k = (path : Path) (m : Module) (x : ℕ) (s : Signal) → IsAt modules top path m x s → level path x < k → (seen path).signal x < 2 ^ s.width
 
@@ -73,18 +72,13 @@ module _ (modules : List Module) (top : Module) (parts : List Part) (steps : Lis
   computed_is path m x s right at e =
       ap (module_number (seen path) x) (plan.laid path m at.stands) ∙ ap (signal_number m (seen path)) at.listed ∙ ap (source_number m (seen path)) e
 
-  computed_reads : (path : Path) (m : Module) (x : ℕ) (s : Signal) (right : Value) → IsAt modules top path m x s → s.source ≡ Assigned right
-      → reads modules (Computed (kind_at parts path) x (spot_at parts path)) ≡ map (λ y. (spot_at parts path).base + y) (operands right)
-  computed_reads path m x s right at e =
-      ap (module_reads (spot_at parts path).base x) (plan.laid path m at.stands) ∙ ap (signal_reads (spot_at parts path).base) at.listed ∙ ap (source_reads (spot_at parts path).base) e
-
   assigned_right : (k : ℕ) → Below k → (path : Path) (m : Module) (x : ℕ) (s : Signal) (right : Value) → IsAt modules top path m x s → level path x ≤ k → s.source ≡ Assigned right
       → Has steps (step (word_of parts path x) (Computed (kind_at parts path) x (spot_at parts path))) → FitsValue (HasWidth m) (λ j. slice_get m.memories j) s.width right
       → Right path m x s (Assigned right)
   assigned_right k b path m x s right at l e has g =
       let feed = Computed (kind_at parts path) x (spot_at parts path) in
       let below : EachOf (λ y. rank 0 steps y < level path x) (map (λ y. (spot_at parts path).base + y) (operands right)) =
-      subst (EachOf (λ y. rank 0 steps y < level path x)) (computed_reads path m x s right at e) (lower (step (word_of parts path x) feed) has) in
+      subst (EachOf (λ y. rank 0 steps y < level path x)) (computed_reads modules top parts steps free most n plan path m x s right at e) (lower modules top parts steps free most n plan (step (word_of parts path x) feed) has) in
       let small : value m (seen path) right < 2 ^ s.width =
       value_below m (seen path) (words_below path m at.stands) s.width right
       (fits_among (HasWidth m) (Fitting m (seen path)) (λ j. slice_get m.memories j) s.width right
@@ -106,7 +100,7 @@ module _ (modules : List Module) (top : Module) (parts : List Part) (steps : Lis
   source_right k b path m x s at l (Port i port) e has g =
       let one = step (word_of parts path x) (Copied (word_of parts (i ∷ path) port)) in
       let same : (seen path).signal x ≡ (seen (i ∷ path)).signal port = holds one has in
-      (same, subst (λ (v : ℕ). v < 2 ^ s.width) (sym same) (has_below k b (i ∷ path) g.0 g.1 port s.width g.2 (let z = (lower one has).0 in omega arith)))
+      (same, subst (λ (v : ℕ). v < 2 ^ s.width) (sym same) (has_below k b (i ∷ path) g.0 g.1 port s.width g.2 (let z = (lower modules top parts steps free most n plan one has).0 in omega arith)))
   source_right k b [] m x s at l Input e has g =
       let same : (seen []).signal x ≡ choice_number c s.name = holds (step (word_of parts [] x) has.0) has.1 ∙ has.2 c after few in
       (same, subst (λ (v : ℕ). v < 2 ^ s.width) (sym same) (choice m x s at e))
@@ -114,7 +108,7 @@ module _ (modules : List Module) (top : Module) (parts : List Part) (steps : Lis
       let from = connected modules top (instance_at modules top outer i) x in
       let one = step (word_of parts (i ∷ outer) x) (Copied (word_of parts outer from)) in
       let same : (seen (i ∷ outer)).signal x ≡ (seen outer).signal from = holds one has in
-      (same, subst (λ (v : ℕ). v < 2 ^ s.width) (sym same) (has_below k b outer g.0 g.1 from s.width g.2 (let z = (lower one has).0 in omega arith)))
+      (same, subst (λ (v : ℕ). v < 2 ^ s.width) (sym same) (has_below k b outer g.0 g.1 from s.width g.2 (let z = (lower modules top parts steps free most n plan one has).0 in omega arith)))
 
   all_below : (k : ℕ) → Below k
   all_below zero path m x s at l = absurd (omega arith)

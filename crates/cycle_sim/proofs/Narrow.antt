@@ -21,7 +21,8 @@ use Rattle.netlist.specs.Sound.{width_read, value_fits, source_fits}
 use Rattle.netlist.specs.Sound as sound
 use Rattle.verilog_meaning.specs.Readings.{width, signal_width}
 use Rattle.verilog_meaning.specs.Threads.{operands}
-use Rattle.sim_values.specs.Flat.{EachOf, IsWide, HasRoom, IsNarrowSource, IsNarrowArgument, IsNarrowEffect, IsNarrowAction}
+use Rattle.circuit.specs.Rows.{EachOf}
+use Rattle.sim_values.specs.Flat.{IsWide, HasRoom, IsNarrowSource, IsNarrowArgument, IsNarrowEffect, IsNarrowAction}
 
 same_operands : (a : Value) → laid.operands a ≡ operands a
 same_operands (v.Copy x) = refl

@@ -12,7 +12,7 @@ use Rattle.circuit.proofs.States.{keeps_states}
 use Rattle.sim_values.specs.declared.value.Spot.{Spot}
 use Rattle.sim_values.specs.declared.settle.Step.{Step}
 use Rattle.sim_values.specs.declared.edge.Part.{Part}
-use Rattle.sim_values.specs.Flat.{EachOf}
+use Rattle.circuit.specs.Rows.{EachOf}
 use Rattle.sim_values.specs.Order.{IsMarked, Known, IsOrder}
 use Rattle.sim_values.specs.Stands.{place_of, word_of, step, Has, StandsFor, IsPlan}
 use Rattle.sim_layout.specs.Placed.{is_register}

@@ -12,7 +12,8 @@ use Rattle.netlist.specs.declared.netlist.Module.{Module}
 use Rattle.verilog_meaning.specs.Readings.{is_on, stored_by, word_after, memory_words}
 use Rattle.sim_values.specs.declared.value.Spot.{Spot}
 use Rattle.sim_values.specs.declared.edge.Part.{Part}
-use Rattle.sim_values.specs.Flat.{Flat, EachOf, reading, with_words, stored_word, act_word, acted_words, part_words, all_words}
+use Rattle.circuit.specs.Rows.{EachOf}
+use Rattle.sim_values.specs.Flat.{Flat, reading, with_words, stored_word, act_word, acted_words, part_words, all_words}
 
 not_less : (a b : ℕ) → nat_lt a b ≡ false → a < b → ⊥
 not_less a b e l = grind (arith, nat_tests)
