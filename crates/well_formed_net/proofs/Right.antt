@@ -17,12 +17,12 @@ use Rattle.verilog_meaning.specs.Names.{top_of}
 use Rattle.verilog_meaning.specs.Readings.{or_zero, signal_width}
 use Rattle.verilog_meaning.specs.Cycles.{Path, module_at, instance_at, connected, IsAt}
 use Rattle.verilog_meaning.specs.Threads.{operands, IsOneOf}
-use Rattle.circuit.specs.Rows as rows
 use Rattle.circuit.specs.Modules.{Has, FitsValue, FitsArgument, FitsEffect, FitsAction}
 use Rattle.circuit.specs.Nets.{FitsSource, FitsNet, FitsStatements}
 use Rattle.circuit.proofs.Tables.{operand_of}
 use Rattle.well_formed_net.specs.Fitting.{IsFitSource, IsFitModule}
-use Rattle.sim_values.specs.Flat.{EachOf, IsWide, HasRoom, IsNarrowSource, IsNarrowArgument, IsNarrowEffect, IsNarrowAction}
+use Rattle.circuit.specs.Rows.{EachOf}
+use Rattle.sim_values.specs.Flat.{IsWide, HasRoom, IsNarrowSource, IsNarrowArgument, IsNarrowEffect, IsNarrowAction}
 use Rattle.sim_layout.specs.Running.{IsRight}
 use Rattle.sim_values.proofs.Settles.{each_from}
 use Rattle.cycle_sim.proofs.Right.{held, placed_at}
@@ -67,7 +67,7 @@ module _ (modules : List Module) (m : Module) (fit : IsFitModule modules m) wher
     room = room a w f;
   }
 
-  narrow_arguments : (arguments : List Argument) → rows.EachOf (FitsArgument m) arguments → EachOf (IsNarrowArgument m) arguments
+  narrow_arguments : (arguments : List Argument) → EachOf (FitsArgument m) arguments → EachOf (IsNarrowArgument m) arguments
   narrow_arguments [] f = tt
   narrow_arguments (Unsigned x ∷ arguments) f = (tt, narrow_arguments arguments f.1)
   narrow_arguments (Signed x ∷ arguments) f = (wide x f.0.0 f.0.1, narrow_arguments arguments f.1)
@@ -77,7 +77,7 @@ module _ (modules : List Module) (m : Module) (fit : IsFitModule modules m) wher
   narrow_effect (effect.Store j x y) f = tt
   narrow_effect (effect.Write text arguments) f = narrow_arguments arguments f
 
-  narrow_actions : (actions : List Action) → rows.EachOf (FitsAction m) actions → EachOf (IsNarrowAction m) actions
+  narrow_actions : (actions : List Action) → EachOf (FitsAction m) actions → EachOf (IsNarrowAction m) actions
   narrow_actions [] f = tt
   narrow_actions (a ∷ actions) f = (narrow_effect a.effect f.0.1, narrow_actions actions f.1)
 
