@@ -16,3 +16,4 @@ pub mod BankOfElement
 pub mod OneAskedBank
 pub mod AskingOperations
 pub mod TypedIndexes
+pub use Rattle.thread_promise.proofs.BankTotal

@@ -1,6 +1,6 @@
 -- In a state a bank is asked by one operation at most: what the links of a block show of a bank is what that operation asks.
-use Rattle.std.proofs.Common.{◌≡◌, ◌≢◌, ℕ, zero, suc, ◌+◌, ◌%◌, ◌<◌, ◌≤◌, nat_eq, Bool, true, false, ◌&&◌}
-use Rattle.std.proofs.Common.{if◌then◌else◌, List, length, slice_get, slice_index, Option, Some, None, ℤ}
+use Rattle.std.proofs.Common.{◌≡◌, ℕ, ◌+◌, ◌%◌, ◌<◌, ◌≤◌, nat_eq, Bool, true, false, ◌&&◌}
+use Rattle.std.proofs.Common.{List, length, slice_get, slice_index, Option, Some, None, ℤ}
 use Rattle.std.proofs.Common.{refl, sym, ap, subst, ◌∙◌, arith, ◌⊎◌, ⊎_elim}
 use Rattle.std.proofs.lemmas.Bool.{cases_lt, and_parts, eqb-true}
 use Rattle.hls_ints.specs.Types.{IntegerType}
@@ -15,33 +15,13 @@ use Rattle.planned_block.specs.Block.{Operation as PlannedOperation, operation_a
 use Rattle.planned_block.specs.Plan.{OfGlobal, target_of, gap_after, KeepsOrders}
 use Rattle.planned_block.specs.Slot.{Slot, value_now}
 use Rattle.planned_block.specs.Advance.{last_of}
+use Rattle.planned_block.proofs.LastPassing.{last_hit, last_miss}
 use Rattle.thread_promise.specs.View.{planned_view, plan_view}
 use Rattle.thread_promise.specs.Globals.{IsSmallPower}
 use Rattle.block_datapath.specs.declared.registers.Registers.{Registers}
 use Rattle.block_datapath.specs.Requests.{Asked}
 use Rattle.block_datapath.specs.Accesses.{is_bank, index_number, reaches_bank, reaches_in, reaches_now, asked_now}
 use Rattle.block_datapath.proofs.OperationValues.{listed_view, within_view}
-
--- ---- the last that passes
-
-last_hit : {A : Type 0} (test : ℕ → Bool) (value : ℕ → A) (old : A) (n k : ℕ) → k < n → test k ≡ true → ((j : ℕ) → j < n → test j ≡ true → j ≡ k) →
-    last_of test value old n ≡ value k
-last_hit test value old zero k lt e one = absurd (omega arith)
-last_hit test value old (suc n) k lt e one = by (test n) refl (λ less. last_hit test value old n k less e (λ j l t. one j (omega arith) t))
-  where
-    by : (c : Bool) → test n ≡ c → (k < n → last_of test value old n ≡ value k) → (if test n then value n else last_of test value old n) ≡ value k
-    by true q rest = ap (λ (c : Bool). if c then value n else last_of test value old n) q ∙ ap value (one n (omega arith) q)
-    by false q rest =
-        let other : n ≢ k = λ s. absurd (let p = ap test s in cc) in
-        ap (λ (c : Bool). if c then value n else last_of test value old n) q ∙ rest (omega arith)
-
-last_miss : {A : Type 0} (test : ℕ → Bool) (value : ℕ → A) (old : A) (n : ℕ) → ((k : ℕ) → k < n → test k ≡ true → ⊥) → last_of test value old n ≡ old
-last_miss test value old zero none = refl
-last_miss test value old (suc n) none = by (test n) refl (last_miss test value old n (λ k l. none k (omega arith)))
-  where
-    by : (c : Bool) → test n ≡ c → last_of test value old n ≡ old → (if test n then value n else last_of test value old n) ≡ old
-    by true q rest = absurd (none n (omega arith) q)
-    by false q rest = ap (λ (c : Bool). if c then value n else last_of test value old n) q ∙ rest
 
 -- banks of different globals are different ones
 abbrev pub AreApart : List Spread → Type 0
