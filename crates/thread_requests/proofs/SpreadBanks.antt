@@ -1,5 +1,5 @@
 -- For each bank what its global has.
-use Rattle.std.proofs.Common.{◌≡◌, ℕ, zero, suc, ◌+◌, ◌-◌, ◌<◌, ◌≤◌, List, [], ◌∷◌, ◌++◌, length, take, fold, Option, Some, refl, sym, ap, ◌∙◌, arith, ⊎_elim, length-append}
+use Rattle.std.proofs.Common.{◌≡◌, ℕ, zero, suc, ◌+◌, ◌-◌, ◌<◌, ◌≤◌, List, [], ◌∷◌, ◌++◌, length, take, Option, Some, refl, sym, ap, ◌∙◌, arith, ⊎_elim, length-append}
 use Rattle.std.proofs.Common.{append_assoc, add-one}
 use Rattle.std.specs.Prelude.{replicate, slice_get}
 use Rattle.std.proofs.lemmas.Bool.{cases_lt}
@@ -7,6 +7,7 @@ use Rattle.std.proofs.lemmas.List.{append-nil, length-replicate}
 use Rattle.lists.proofs.Places.{copies_front}
 use Rattle.bank_partition.specs.declared.banks.Spread.{Spread}
 use Rattle.block_datapath.specs.Globals.{bank_total}
+use Rattle.block_datapath.proofs.BankTotal.{total_cons}
 use Rattle.thread_requests.specs.Early.{copies_of, spread_out}
 
 -- of one more global
@@ -32,16 +33,6 @@ spread_more before after spreads values n s v copies e listed at made same =
 past_first : (n v k : ℕ) (rest : List ℕ) → slice_get (replicate n v ++ rest) (n + k) ≡ slice_get rest k
 past_first zero v k rest = ap (slice_get rest) (let e : 0 + k ≡ k = omega arith in e)
 past_first (suc n) v k rest = ap (slice_get (v ∷ replicate n v ++ rest)) (let e : suc n + k ≡ suc (n + k) = omega arith in e) ∙ past_first n v k rest
-
-shifted : (a : ℕ) (ss : List Spread) → fold (λ n (s : Spread). n + s.count) a ss ≡ a + fold (λ n (s : Spread). n + s.count) 0 ss
-shifted a [] = let e : a ≡ a + 0 = omega arith in e
-shifted a (s ∷ ss) =
-    let one = shifted (a + s.count) ss in
-    let two = shifted (0 + s.count) ss in
-    omega arith
-
-pub total_cons : (s : Spread) (ss : List Spread) → bank_total (s ∷ ss) ≡ s.count + bank_total ss
-total_cons s ss = let e = shifted (0 + s.count) ss in omega arith
 
 -- bank k of a global
 pub spread_there : (spreads : List Spread) (values : List ℕ) (x k v : ℕ) (s : Spread) → slice_get spreads x ≡ Some s → slice_get values x ≡ Some v → k < s.count
