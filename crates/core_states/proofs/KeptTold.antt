@@ -4,7 +4,7 @@ use Rattle.std.proofs.Common.{◌≡◌, ◌≢◌, ℕ, replicate, refl, ap, �
 use Rattle.std.proofs.lemmas.Bool.{eq-eqb, both_ways, not-true}
 use Rattle.std.proofs.lemmas.List.{get_or-set_other}
 use Rattle.lists.proofs.Places.{zeros_at}
-use Rattle.core_states.specs.Machines.{gate_met, with_waiter, total_of, IdTable}
+use Rattle.core_states.specs.Machines.{barrier_waited, with_waiter, total_of, IdTable}
 use Rattle.core_states.specs.Laws.{RunnersStay, PassersStay}
 
 abbrev Stays : IdTable → IdTable → ℕ → Type 0
@@ -44,7 +44,7 @@ passers_stay n g i j operation count ne passes = waits (nat_eq operation 1)
     others false = zeros_at n i
 
     waits : (b : Bool) →
-        slice_index (if b then gate_met n g j else
+        slice_index (if b then barrier_waited n g j else
         (if nat_eq operation 3 then g else record { count = if nat_eq operation 0 then count else 0; waiting = replicate n 0 })).waiting i ≡ 0
     waits true = met (nat_lt (total_of n (with_waiter g j)) g.count)
     waits false = others (nat_eq operation 3)

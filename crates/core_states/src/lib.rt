@@ -4,13 +4,11 @@
 
 ghost use Rattle.core_states.specs.Laws.{RunnersStay, PassersStay, WaitersCount};
 
-/// A grant to another thread leaves what a thread is told that may go on or that runs.
+/// What grants leave, and what the bits of a barrier count.
 pub fn grants_keep()
-    ensures runners { RunnersStay }
-    ensures passers { PassersStay }
-{}
-
-/// The bits of a barrier count its waiters.
-pub fn bits_count()
-    ensures count { WaitersCount }
+    // A grant to another thread leaves what a thread is told that may go on or that runs.
+    ensures runners_stay { RunnersStay }
+    ensures passers_stay { PassersStay }
+    // The bits of a barrier count its waiters.
+    ensures waiters_count { WaitersCount }
 {}
