@@ -27,7 +27,8 @@ use Rattle.bank_cores.specs.declared.bank.Shape.{Shape}
 use Rattle.bank_cores.specs.Rows as row
 use Rattle.bank_cores.specs.Bank.{rows, at, end, store_under, memory_of, IsShape, IsBank}
 use Rattle.bank_cores.specs.Machine.{Words, Ask, ask_of, begun, bank_machine, bank_places, Shows, part_place, table_of, inputs, is_late}
-use Rattle.bank_cores.proofs.Effects.{first_word, read_is, each_kept, each_word, sized_after, each_after, if_same, no_bytes}
+use Rattle.circuit.proofs.ReadWords.{first_word, read_is, if_same}
+use Rattle.bank_cores.proofs.Effects.{each_kept, each_word, sized_after, each_after, no_bytes}
 
 none_printed : (shape : Shape) (s : Words) (f : ℕ → Ask) (o : Option ℕ) → [] ≡ printed (bank_machine shape) s f o
 none_printed shape s f None = refl

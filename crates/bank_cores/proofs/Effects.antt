@@ -1,30 +1,16 @@
 -- What a granted request does to a word and to a kept word.
-use Rattle.std.proofs.Common.{◌≡◌, ℕ, zero, suc, ◌<◌, ◌≤◌, ◌⊎◌, List, [], ◌∷◌, length, slice_get, Bool, true}
-use Rattle.std.proofs.Common.{false, nat_eq, nat_lt, if◌then◌else◌, refl, sym, ap, ◌∙◌, ⊎_elim, arith, get_or-set_other}
+use Rattle.std.proofs.Common.{◌≡◌, ℕ, ◌<◌, List, [], length, Bool, true}
+use Rattle.std.proofs.Common.{false, nat_eq, if◌then◌else◌, refl, sym, ap, ◌∙◌, ⊎_elim, arith, get_or-set_other}
 use Rattle.std.specs.Prelude.{not, ◌&&◌, slice_index}
 use Rattle.std.proofs.lemmas.Bool.Decides.{nat_tests}
 use Rattle.std.proofs.lemmas.Grind.{get_or-set_at}
 use Rattle.std.proofs.Math.ListN.{length-set}
 use Rattle.std.proofs.lemmas.Bool.{cases_eq}
-use Rattle.std.proofs.lemmas.List.{get_or_past}
-use Rattle.circuit.specs.Readings.{or_zero}
 use Rattle.bank_cores.specs.Machine.{Words, written, read}
 
 -- a request that writes or reads
 abbrev pub after : Bool → Words → ℕ → ℕ → ℕ → Words
 after b s thread address value = if b then written s address value else read s thread address
-
-pub first_word : (xs : List ℕ) (k : ℕ) → or_zero (slice_get xs k) ≡ slice_index xs k
-first_word [] k = refl
-first_word (x ∷ xs) zero = refl
-first_word (x ∷ xs) (suc k) = first_word xs k
-
--- a guarded read
-pub read_is : (size x y : ℕ) (words : List ℕ) → length words ≡ size → (x < size → y ≡ slice_index words x) → (if nat_lt x size then y else 0) ≡ slice_index words x
-read_is size x y words e h =
-    ⊎_elim (λ (l : x < size). let t : nat_lt x size ≡ true = grind (arith, nat_tests) in ap (λ b. if b then y else 0) t ∙ h l)
-    (λ (l : size ≤ x). let t : nat_lt x size ≡ false = grind (arith, nat_tests) in ap (λ b. if b then y else 0) t ∙ sym (get_or_past words x 0 (omega arith)))
-    (let c : (x < size) ⊎ (size ≤ x) = grind (arith, nat_tests) in c)
 
 -- the word that is kept for thread i, where thread v is granted and thread i's own request reads or not
 pub each_kept : (b reads : Bool) (s : Words) (i v address value old : ℕ) → v < length s.kept → (i ≡ v → reads ≡ not b) → old ≡ slice_index s.kept i
@@ -66,10 +52,6 @@ sized_after false s v address value = refl
 pub each_after : (b : Bool) (s : Words) (v address value : ℕ) → length (after b s v address value).kept ≡ length s.kept
 each_after true s v address value = refl
 each_after false s v address value = length-set s.kept v (slice_index s.words address)
-
-pub if_same : (b : Bool) (x : ℕ) → (if b then x else x) ≡ x
-if_same true x = refl
-if_same false x = refl
 
 pub no_bytes : (b : Bool) (c : List ℕ) → ◌≡◌ {A = List ℕ} (if b then [] else []) []
 no_bytes true c = refl
