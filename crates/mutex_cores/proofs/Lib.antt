@@ -1,3 +1,3 @@
-pub mod Locks
+pub mod MutexWords
 pub mod MutexTable
 pub mod MutexStands

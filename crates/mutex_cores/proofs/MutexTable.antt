@@ -19,19 +19,19 @@ use Rattle.circuit.proofs.TableRows.{ByRow, IsListed, listed}
 use Rattle.circuit.proofs.TableSound as sound
 use Rattle.circuit.proofs.Chains.{pick, chain_is}
 use Rattle.circuit.proofs.Edges.{one_after, tested, both_bits, a_bit}
-use Rattle.core_states.specs.Machines.{Lock, Unset, Free, Owned, is_owned, lock_eligible, lock_after}
+use Rattle.core_states.specs.Machines.{CoreMutex, Unset, Free, Owned, is_owned, mutex_eligible, mutex_after}
 use Rattle.mutex_cores.specs.declared.mutex.Shape.{Shape}
 use Rattle.mutex_cores.specs.Rows as row
 use Rattle.mutex_cores.specs.Mutex.{rows, at, owner, grants, chain, IsShape, IsMutex}
-use Rattle.mutex_cores.specs.Machine.{Ask, ask_of, mutex_machine, mutex_places, first_lock, word_of_lock, Shows, part_place, inputs, is_late}
-use Rattle.mutex_cores.proofs.Locks.{is_taken, word_if, first_is, offered}
+use Rattle.mutex_cores.specs.Machine.{Ask, ask_of, mutex_machine, mutex_places, initial_mutex, word_of_mutex, Shows, part_place, inputs, is_late}
+use Rattle.mutex_cores.proofs.MutexWords.{is_taken, word_if, first_is, offered}
 
-none_printed : (shape : Shape) (s : Lock) (f : ℕ → Ask) (o : Option ℕ) → [] ≡ printed (mutex_machine shape) s f o
+none_printed : (shape : Shape) (s : CoreMutex) (f : ℕ → Ask) (o : Option ℕ) → [] ≡ printed (mutex_machine shape) s f o
 none_printed shape s f None = refl
 none_printed shape s f (Some w) = refl
 
-after_pick : (shape : Shape) (s : Lock) (f : ℕ → Ask) (o : Option ℕ) →
-    pick o (word_of_lock s) (λ w. word_of_lock (lock_after s w (f w).operation)) ≡ word_of_lock (after_grant (mutex_machine shape) s f o)
+after_pick : (shape : Shape) (s : CoreMutex) (f : ℕ → Ask) (o : Option ℕ) →
+    pick o (word_of_mutex s) (λ w. word_of_mutex (mutex_after s w (f w).operation)) ≡ word_of_mutex (after_grant (mutex_machine shape) s f o)
 after_pick shape s f None = refl
 after_pick shape s f (Some w) = refl
 
@@ -85,20 +85,20 @@ module _ (shape : Shape) (ok : IsShape shape) (m : Module) (is : IsMutex shape m
 
   -- ---- the promise
 
-  abbrev Shown : Reading → Lock → Type 0
+  abbrev Shown : Reading → CoreMutex → Type 0
   Shown = Shows shape
 
-  starts : Shown (initial_reading (Some m)) (first_lock shape.initialised)
+  starts : Shown (initial_reading (Some m)) (initial_mutex shape.initialised)
   starts = ap initial_signal (there row.owner) ∙ first_is shape.initialised
 
-  keeps : (h g : Reading) (s : Lock) → Agree m h g → Shown h s → Shown g s
+  keeps : (h g : Reading) (s : CoreMutex) → Agree m h g → Shown h s → Shown g s
   keeps h g s same e = sym (same.registers (owner n) _ (there row.owner) tt) ∙ e
 
   -- the one register
   is_owner : (x : ℕ) → inputs shape ≤ x → x < place n table (registers table) → owner n ≡ x
   is_owner x a b = omega arith
 
-  faithful : (h g : Reading) (s : Lock) → Shown h s → Shown g s → Agree m h g
+  faithful : (h g : Reading) (s : CoreMutex) → Shown h s → Shown g s → Agree m h g
   faithful h g s e f = record {
     registers = sound.same_registers laid_by h g
         (λ x a b. subst (λ y. h.signal y ≡ g.signal y) (is_owner x a b) (e ∙ sym f));
@@ -110,7 +110,7 @@ module _ (shape : Shape) (ok : IsShape shape) (m : Module) (is : IsMutex shape m
       let with : ℕ → ℕ → Ask = λ x y. record { asks = nat_lt 0 x; operation = y } in
       ap (λ x. with x (f 1)) (h 0 (omega arith)) ∙ ap (with (g 0)) (h 1 (omega arith))
 
-  module _ (r : Reading) (s : Lock) (obeys : Obeys m r) (shown : Shown r s) where
+  module _ (r : Reading) (s : CoreMutex) (obeys : Obeys m r) (shown : Shown r s) where
     told : ByRow n table (Told m r)
     told = sound.told laid_by r obeys
 
@@ -139,7 +139,7 @@ module _ (shape : Shape) (ok : IsShape shape) (m : Module) (is : IsMutex shape m
       barred_is : each row.barred i ≡ bit_of (nat_eq operation 1 && is_owned s)
       barred_is = told row.barred i l ∙ both_bits (nat_eq operation 1) (is_owned s) (each row.locks i) (one row.owned) lock_is owned_is
 
-      offer_is : each row.offers i ≡ bit_of (nat_lt 0 (each row.asks i) && lock_eligible s operation)
+      offer_is : each row.offers i ≡ bit_of (nat_lt 0 (each row.asks i) && mutex_eligible s operation)
       offer_is =
           told row.offers i l ∙ told row.allowed i l
           ∙ tested (nat_eq operation 1 && is_owned s) (each row.barred i) (one row.none) (each row.asks i) barred_is
@@ -147,7 +147,7 @@ module _ (shape : Shape) (ok : IsShape shape) (m : Module) (is : IsMutex shape m
           ∙ ap (λ x. if nat_eq operation 1 && is_owned s then 0 else x) (a_bit (each row.asks i) (obeys.within (at n row.asks + i) _ (there row.asks i l)))
           ∙ offered (nat_eq operation 1 && is_owned s) (nat_lt 0 (each row.asks i))
 
-      other_is : each row.others i ≡ word_of_lock (if nat_eq operation 3 then Unset else Free)
+      other_is : each row.others i ≡ word_of_mutex (if nat_eq operation 3 then Unset else Free)
       other_is =
           told row.others i l
           ∙ tested (nat_eq operation 3) (each row.destroys i) (one row.unset) (one row.free) destroy_is
@@ -155,7 +155,7 @@ module _ (shape : Shape) (ok : IsShape shape) (m : Module) (is : IsMutex shape m
           ∙ ap (λ x. if nat_eq operation 3 then 0 else x) (told row.free)
           ∙ sym (word_if (nat_eq operation 3) Unset Free)
 
-      value_is : each row.values i ≡ word_of_lock (lock_after s i operation)
+      value_is : each row.values i ≡ word_of_mutex (mutex_after s i operation)
       value_is =
           told row.values i l
           ∙ tested (nat_eq operation 1) (each row.locks i) (each row.numbers i) (each row.others i) lock_is
@@ -176,7 +176,7 @@ module _ (shape : Shape) (ok : IsShape shape) (m : Module) (is : IsMutex shape m
     moves o granted =
         register_is
         ∙ chain_is r n (chain n) (grants n) (at n row.values) (one row.owner) o (told row.chain).0 (told row.chain).1 granted.below granted.bits
-        ∙ pick_same o n (one row.owner) (word_of_lock s) (each row.values) (λ w. word_of_lock (lock_after s w (each row.operations w))) granted.below shown value_is
+        ∙ pick_same o n (one row.owner) (word_of_mutex s) (each row.values) (λ w. word_of_mutex (mutex_after s w (each row.operations w))) granted.below shown value_is
         ∙ after_pick shape s (asked (mutex_machine shape) (mutex_places shape) r) o
 
   ask_input : (j i : ℕ) → j < 2 → i < n → HasInput m (part_place n j i)
