@@ -22,14 +22,14 @@ use Rattle.circuit.proofs.TableRows.{ByRow, IsListed, listed}
 use Rattle.circuit.proofs.TableSound as sound
 use Rattle.circuit.proofs.Chains.{pick, chain_is}
 use Rattle.circuit.proofs.Edges.{sets_after, sets_print, tested, both_bits, a_bit, each_spread}
-use Rattle.core_states.specs.Machines.{Gate, total_of, with_waiter}
+use Rattle.core_states.specs.Machines.{CoreBarrier, total_of, with_waiter}
 use Rattle.barrier_cores.specs.declared.barrier.Shape.{Shape}
 use Rattle.barrier_cores.specs.Rows as row
 use Rattle.barrier_cores.specs.Barrier.{rows, at, IsShape, IsBarrier}
 use Rattle.barrier_cores.specs.Machine.{Ask, ask_of, begun, barrier_machine, barrier_places, Shows, part_place, inputs, is_late}
 use Rattle.barrier_cores.proofs.Effects.{offered, own_number, summed, bit_joined, after_bit, after_count, after_sized}
 
-none_printed : (n : ℕ) (s : Gate) (f : ℕ → Ask) (o : Option ℕ) → [] ≡ printed (barrier_machine n) s f o
+none_printed : (n : ℕ) (s : CoreBarrier) (f : ℕ → Ask) (o : Option ℕ) → [] ≡ printed (barrier_machine n) s f o
 none_printed n s f None = refl
 none_printed n s f (Some w) = refl
 
@@ -74,7 +74,7 @@ module _ (shape : Shape) (ok : IsShape shape) (m : Module) (is : IsBarrier shape
 
   -- ---- the promise
 
-  abbrev Shown : Reading → Gate → Type 0
+  abbrev Shown : Reading → CoreBarrier → Type 0
   Shown = Shows n
 
   starts : Shown (initial_reading (Some m)) (begun n)
@@ -84,7 +84,7 @@ module _ (shape : Shape) (ok : IsShape shape) (m : Module) (is : IsBarrier shape
     count_is = ap initial_signal (there row.count);
   }
 
-  keeps : (h g : Reading) (s : Gate) → Agree m h g → Shown h s → Shown g s
+  keeps : (h g : Reading) (s : CoreBarrier) → Agree m h g → Shown h s → Shown g s
   keeps h g s same e = record {
     sized = e.sized;
     bits = λ i l. sym (same.registers (at n row.waiting + i) _ (there row.waiting i l) tt) ∙ e.bits i l;
@@ -92,7 +92,7 @@ module _ (shape : Shape) (ok : IsShape shape) (m : Module) (is : IsBarrier shape
   }
 
   -- a bit, or the count
-  same_at : (h g : Reading) (s : Gate) → Shown h s → Shown g s → (x : ℕ) → inputs n ≤ x → x < place n rows (registers rows) → h.signal x ≡ g.signal x
+  same_at : (h g : Reading) (s : CoreBarrier) → Shown h s → Shown g s → (x : ℕ) → inputs n ≤ x → x < place n rows (registers rows) → h.signal x ≡ g.signal x
   same_at h g s e f x a b =
       ⊎_elim
       (λ (l : x < at n row.count).
@@ -102,7 +102,7 @@ module _ (shape : Shape) (ok : IsShape shape) (m : Module) (is : IsBarrier shape
       (λ (l : at n row.count ≡ x). subst (λ y. h.signal y ≡ g.signal y) l (e.count_is ∙ sym f.count_is))
       (let c : (x < at n row.count) ⊎ (at n row.count ≡ x) = grind (arith, nat_tests) in c)
 
-  faithful : (h g : Reading) (s : Gate) → Shown h s → Shown g s → Agree m h g
+  faithful : (h g : Reading) (s : CoreBarrier) → Shown h s → Shown g s → Agree m h g
   faithful h g s e f = record {
     registers = sound.same_registers laid_by h g (same_at h g s e f);
     words = λ j k z q l. absurd (none-some z (sym (ap (λ (ms : List Memory). slice_get ms j) is.memories) ∙ q));
@@ -113,7 +113,7 @@ module _ (shape : Shape) (ok : IsShape shape) (m : Module) (is : IsBarrier shape
       let with : ℕ → ℕ → ℕ → Ask = λ x y z. record { asks = nat_lt 0 x; operation = y; count = z } in
       ap (λ x. with x (f 1) (f 2)) (h 0 (omega arith)) ∙ ap (λ y. with (g 0) y (f 2)) (h 1 (omega arith)) ∙ ap (with (g 0) (g 1)) (h 2 (omega arith))
 
-  module _ (r : Reading) (s : Gate) (obeys : Obeys m r) (shown : Shown r s) where
+  module _ (r : Reading) (s : CoreBarrier) (obeys : Obeys m r) (shown : Shown r s) where
     told : ByRow n rows (Told m r)
     told = sound.told laid_by r obeys
 

@@ -11,7 +11,7 @@ use Rattle.std.proofs.lemmas.Bool.{cases_eq}
 use Rattle.lists.proofs.Places.{zeros_at}
 use Rattle.hls_ints.specs.Residues.{bit_of}
 use Rattle.hls_ints.specs.Words.{word}
-use Rattle.core_states.specs.Machines.{Gate, total_of}
+use Rattle.core_states.specs.Machines.{CoreBarrier, total_of}
 
 -- ---- the offer
 
@@ -60,24 +60,24 @@ bit_joined xs w k x y one l o e f =
     (cases_eq k w)
 
 -- after a wait, nothing, an init or a destroy of thread w, with a count
-abbrev after : ℕ → Bool → Bool → Bool → Bool → Gate → ℕ → ℕ → Gate
+abbrev after : ℕ → Bool → Bool → Bool → Bool → CoreBarrier → ℕ → ℕ → CoreBarrier
 after n b1 b3 b0 sh s w c =
     if b1 then record { count = s.count; waiting = if sh then slice_set s.waiting w 1 else replicate n 0 }
     else (if b3 then s else record { count = if b0 then c else 0; waiting = replicate n 0 })
 
-pub after_bit : (n : ℕ) (b1 b3 b0 sh : Bool) (s : Gate) (w c i : ℕ)
+pub after_bit : (n : ℕ) (b1 b3 b0 sh : Bool) (s : CoreBarrier) (w c i : ℕ)
     → (if b1 then (if sh then slice_index (slice_set s.waiting w 1) i else 0) else (if b3 then slice_index s.waiting i else 0)) ≡ slice_index (after n b1 b3 b0 sh s w c).waiting i
 after_bit n true b3 b0 true s w c i = refl
 after_bit n true b3 b0 false s w c i = sym (zeros_at n i)
 after_bit n false true b0 sh s w c i = refl
 after_bit n false false b0 sh s w c i = sym (zeros_at n i)
 
-pub after_count : (n : ℕ) (b1 b3 b0 sh : Bool) (s : Gate) (w c : ℕ) → (if b1 then s.count else (if b3 then s.count else (if b0 then c else 0))) ≡ (after n b1 b3 b0 sh s w c).count
+pub after_count : (n : ℕ) (b1 b3 b0 sh : Bool) (s : CoreBarrier) (w c : ℕ) → (if b1 then s.count else (if b3 then s.count else (if b0 then c else 0))) ≡ (after n b1 b3 b0 sh s w c).count
 after_count n true b3 b0 sh s w c = refl
 after_count n false true b0 sh s w c = refl
 after_count n false false b0 sh s w c = refl
 
-pub after_sized : (n : ℕ) (b1 b3 b0 sh : Bool) (s : Gate) (w c : ℕ) → length s.waiting ≡ n → length (after n b1 b3 b0 sh s w c).waiting ≡ n
+pub after_sized : (n : ℕ) (b1 b3 b0 sh : Bool) (s : CoreBarrier) (w c : ℕ) → length s.waiting ≡ n → length (after n b1 b3 b0 sh s w c).waiting ≡ n
 after_sized n true b3 b0 true s w c e = length-set s.waiting w 1 ∙ e
 after_sized n true b3 b0 false s w c e = length-replicate {A = ℕ} n 0
 after_sized n false true b0 sh s w c e = e

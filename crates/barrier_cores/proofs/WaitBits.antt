@@ -6,7 +6,7 @@ use Rattle.std.proofs.lemmas.Grind.{get_or-set_at}
 use Rattle.lists.proofs.Places.{zeros_at}
 use Rattle.circuit.specs.Rows.{spread}
 use Rattle.circuit.proofs.Growth.{length-spread}
-use Rattle.core_states.specs.Machines.{total_of, with_waiter, gate_eligible}
+use Rattle.core_states.specs.Machines.{total_of, with_waiter, barrier_eligible}
 use Rattle.core_states.proofs.KeptTold.{passers_stay}
 use Rattle.barrier_cores.specs.Barrier.{at, waiting}
 use Rattle.barrier_cores.specs.Rows as row
@@ -44,5 +44,5 @@ barriers_wait n = record {
     },
   );
   some = omega arith;
-  asked = λ s i f e. ap (λ x. nat_lt 0 x && gate_eligible s i (f 1)) e;
+  asked = λ s i f e. ap (λ x. nat_lt 0 x && barrier_eligible s i (f 1)) e;
 }

@@ -1,4 +1,4 @@
-// Laws of barriers.
+// Laws of barriers. The function takes and answers nothing: its contract is the laws.
 
 ghost use Rattle.barrier_cores.specs.Laws.{BarriersWait, FullClears, OthersStay, WaitSetsOwn};
 
@@ -7,9 +7,6 @@ pub fn waits()
     ensures others_stay { OthersStay }
     ensures full_clears { FullClears }
     ensures wait_sets_own { WaitSetsOwn }
-{}
-
-/// Each reading shows a count and bits, and nothing is offered to who asks nothing.
-pub fn barriers_wait()
-    ensures { BarriersWait }
+    // Each reading shows a count and bits, and nothing is offered to who asks nothing.
+    ensures barriers_wait { BarriersWait }
 {}
