@@ -7,7 +7,7 @@ use Rattle.hls_ints.specs.Residues.{bit_of}
 use Rattle.core_states.specs.Machines.{IdTable, ids_eligible, ids_after, ids_tell}
 use Rattle.core_states.proofs.KeptTold.{runners_stay}
 use Rattle.circuit.specs.Machines.{asked}
-use Rattle.thread_id_cores.specs.Machine.{forks_machine, forks_places}
+use Rattle.thread_id_cores.specs.Machine.{thread_ids_machine, thread_ids_places}
 use Rattle.thread_id_cores.specs.Laws.{RunnersStay, RunnersStayInCycle, RunnersStayTold}
 
 is_one : (a : ℕ) → bit_of (nat_eq a 1) ≡ 1 → a ≡ 1
@@ -27,7 +27,7 @@ runners shape s i j a ne runs may told =
     number zero e f = ap (λ x. bit_of (nat_eq x 1)) (e ∙ sym (is_one (slice_index s.statuses i) runs))
     number (suc k) e f = f
 
-in_cycle : RunnersStayInCycle
+pub in_cycle : RunnersStayInCycle
 in_cycle shape s i asks None runs may told = refl
 in_cycle shape s i asks (Some w) runs may told = let h = may w refl in runners shape s i w (asks w) h.0 runs h.1 told
 
@@ -39,6 +39,6 @@ pub stays_told : RunnersStayTold
 stays_told shape m core r h s o i j obeys shown granted runs may after same jl il =
     let there = core.keeps _ h _ same (core.moves r s o obeys shown granted) in
     core.tells h _ after there j i jl il
-    ∙ in_cycle shape s i (asked (forks_machine shape) (forks_places shape) r) o (sym (core.tells r s obeys shown 0 i (omega arith) il) ∙ runs)
+    ∙ in_cycle shape s i (asked (thread_ids_machine shape) (thread_ids_places shape) r) o (sym (core.tells r s obeys shown 0 i (omega arith) il) ∙ runs)
     (λ w e. ((may w e).0, a_true _ (sym (core.offers r s obeys shown w (granted.below w e)) ∙ (may w e).1))) j
     ∙ sym (core.tells r s obeys shown j i jl il)

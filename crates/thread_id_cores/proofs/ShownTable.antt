@@ -5,10 +5,10 @@ use Rattle.circuit.specs.Rows.{spread}
 use Rattle.circuit.proofs.Growth.{length-spread}
 use Rattle.circuit.proofs.Spreads.{spread_is}
 use Rattle.core_states.specs.Machines.{ids_eligible}
-use Rattle.thread_id_cores.specs.Laws.{ForksWait}
+use Rattle.thread_id_cores.specs.Laws.{ThreadIdsWait}
 
-pub forks_wait : ForksWait
-forks_wait shape = record {
+pub thread_ids_wait : ThreadIdsWait
+thread_ids_wait shape = record {
   shown = λ r. (
     record { statuses = spread (λ k. r.word 0 k) 0 shape.threads; arguments = spread (λ k. r.word 1 k) 0 shape.threads },
     record {

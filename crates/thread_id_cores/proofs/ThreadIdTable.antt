@@ -1,4 +1,4 @@
--- The table of the fork and join core keeps the promise of its machine.
+-- The table of the core of the thread ids keeps the promise of its machine.
 use Rattle.std.proofs.Common.{◌∷◌, subst, ◌≡◌, ℕ, zero, suc, ◌+◌, ◌^◌, ◌<◌, List, [], length, replicate, slice_get, slice_set, Option, Some, None, true, false}
 use Rattle.std.proofs.Common.{nat_eq, nat_lt, if◌then◌else◌, refl, sym, ap, ◌∙◌, arith, lit<, add-zero, zero-add}
 use Rattle.std.specs.Prelude.{not, ◌&&◌, slice_index}
@@ -18,14 +18,15 @@ use Rattle.circuit.proofs.TableSound as sound
 use Rattle.circuit.proofs.Chains.{pick, picked, chain_is}
 use Rattle.circuit.proofs.Edges.{a_bit}
 use Rattle.core_states.specs.Machines.{IdTable}
-use Rattle.thread_id_cores.specs.declared.forks.Shape.{Shape}
+use Rattle.thread_id_cores.specs.declared.thread_ids.Shape.{Shape}
 use Rattle.thread_id_cores.specs.Rows as row
-use Rattle.thread_id_cores.specs.Forks.{rows, at, end, store_under, status_memory, argument_memory, IsShape, IsForks}
-use Rattle.thread_id_cores.specs.Machine.{Ask, ask_of, begun, forks_machine, forks_places, Shows, part_place, told_place, inputs, is_late}
-use Rattle.thread_id_cores.proofs.Effects.{first_word, read_is, if_same, no_bytes, each_zero, by_test, offered, kept_by, stored, target_of, status_of, after_statuses}
+use Rattle.thread_id_cores.specs.ThreadIds.{rows, at, end, store_under, status_memory, argument_memory, IsShape, IsThreadIdsModule}
+use Rattle.thread_id_cores.specs.Machine.{Ask, ask_of, begun, thread_ids_machine, thread_ids_places, Shows, part_place, told_place, inputs, is_late}
+use Rattle.circuit.proofs.ReadWords.{first_word, read_is, if_same}
+use Rattle.thread_id_cores.proofs.Effects.{no_bytes, each_zero, by_test, offered, kept_by, stored, target_of, status_of, after_statuses}
 use Rattle.thread_id_cores.proofs.Effects.{after_arguments, after_sized, after_each}
 
-none_printed : (shape : Shape) (s : IdTable) (f : ℕ → Ask) (o : Option ℕ) → [] ≡ printed (forks_machine shape) s f o
+none_printed : (shape : Shape) (s : IdTable) (f : ℕ → Ask) (o : Option ℕ) → [] ≡ printed (thread_ids_machine shape) s f o
 none_printed shape s f None = refl
 none_printed shape s f (Some w) = refl
 
@@ -37,7 +38,7 @@ memories = record { width = 2; address = 64 } ∷ record { width = 64; address =
 pub rows_fit : fits (is_late_row rows) memories rows ≡ true
 rows_fit = refl
 
-module _ (shape : Shape) (ok : IsShape shape) (m : Module) (is : IsForks shape m) where
+module _ (shape : Shape) (ok : IsShape shape) (m : Module) (is : IsThreadIdsModule shape m) where
   abbrev n : ℕ
   n = shape.threads
 
@@ -96,8 +97,8 @@ module _ (shape : Shape) (ok : IsShape shape) (m : Module) (is : IsForks shape m
   pub begins : EachOf FitsMemory m.memories
   begins = subst (EachOf FitsMemory) (sym is.memories) (each_zero n (2 ^ 2) (lit< tt), (each_zero n (2 ^ 64) (lit< tt), tt))
 
-  pub forks_leaf : IsLeaf m (inputs shape) (is_late shape)
-  forks_leaf = sound.leaf laid_by is.instances acts_fit begins
+  pub thread_ids_leaf : IsLeaf m (inputs shape) (is_late shape)
+  thread_ids_leaf = sound.leaf laid_by is.instances acts_fit begins
 
   -- ---- the promise
 
@@ -219,7 +220,7 @@ module _ (shape : Shape) (ok : IsShape shape) (m : Module) (is : IsForks shape m
       handed_is = told row.handed i l ∙ (told row.given) i
           l ∙ argument_read (S (at n row.numbers + i)) ∙ ap (slice_index s.arguments) number_is
 
-    module _ (o : Option ℕ) (granted : Grants (forks_machine shape) (forks_places shape) n r o) where
+    module _ (o : Option ℕ) (granted : Grants (thread_ids_machine shape) (thread_ids_places shape) n r o) where
       going_is : S (end n row.going) ≡ pick o 0 (λ k. 1)
       going_is =
           picked n (λ k. S (at n row.going + k)) (λ k. S (at n row.grants + k)) (λ k. 1)
@@ -254,14 +255,14 @@ module _ (shape : Shape) (ok : IsShape shape) (m : Module) (is : IsForks shape m
         ap (λ (xs : List Action). word_after r xs 1 k (r.word 1 k)) is.actions
         ∙ ap (kept_by (S (end n row.create)) (S (end n row.target)) (S (end n row.argument)) k) (if_same (nat_lt 0 (S (end n row.going)) && true) (r.word 1 k))
 
-    silent : (o : Option ℕ) → written m r ≡ printed (forks_machine shape) s (asked (forks_machine shape) (forks_places shape) r) o
+    silent : (o : Option ℕ) → written m r ≡ printed (thread_ids_machine shape) s (asked (thread_ids_machine shape) (thread_ids_places shape) r) o
     silent o =
         ap (action_bytes m r) is.actions
         ∙ no_bytes (nat_lt 0 (S (end n row.going)) && true) (nat_lt 0 (S (end n row.create)) && true)
-        ∙ none_printed shape s (asked (forks_machine shape) (forks_places shape) r) o
+        ∙ none_printed shape s (asked (thread_ids_machine shape) (thread_ids_places shape) r) o
 
-    moves : (o : Option ℕ) → Grants (forks_machine shape) (forks_places shape) n r o
-        → Shown (next_reading m r) (after_grant (forks_machine shape) s (asked (forks_machine shape) (forks_places shape) r) o)
+    moves : (o : Option ℕ) → Grants (thread_ids_machine shape) (thread_ids_places shape) n r o
+        → Shown (next_reading m r) (after_grant (thread_ids_machine shape) s (asked (thread_ids_machine shape) (thread_ids_places shape) r) o)
     moves None granted = record {
       sized = shown.sized;
       statuses = λ k l. statuses_after k
@@ -296,18 +297,18 @@ module _ (shape : Shape) (ok : IsShape shape) (m : Module) (is : IsForks shape m
               ∙ ap (λ (ys : List ℕ). slice_index ys k) (after_arguments b c s v id x);
         }
 
-    told_is : (j i : ℕ) → j < 2 → i < n → S (told_place n j i) ≡ (forks_machine shape).tells s i j
+    told_is : (j i : ℕ) → j < 2 → i < n → S (told_place n j i) ≡ (thread_ids_machine shape).tells s i j
     told_is zero i a l = run_is i l
     told_is (suc j) i a l = handed_is i l
 
   ask_input : (j i : ℕ) → j < 4 → i < n → HasInput m (part_place n j i)
-  ask_input zero i l b = forks_leaf.first (at n row.asks + i) (omega arith)
-  ask_input (suc zero) i l b = forks_leaf.first (at n row.operations + i) (omega arith)
-  ask_input (suc (suc zero)) i l b = forks_leaf.first (at n row.ids + i) (omega arith)
-  ask_input (suc (suc (suc j))) i l b = forks_leaf.first (at n row.arguments + i) (omega arith)
+  ask_input zero i l b = thread_ids_leaf.first (at n row.asks + i) (omega arith)
+  ask_input (suc zero) i l b = thread_ids_leaf.first (at n row.operations + i) (omega arith)
+  ask_input (suc (suc zero)) i l b = thread_ids_leaf.first (at n row.ids + i) (omega arith)
+  ask_input (suc (suc (suc j))) i l b = thread_ids_leaf.first (at n row.arguments + i) (omega arith)
 
-  pub forks_core : IsCore (forks_machine shape) (forks_places shape) n m
-  forks_core = record {
+  pub thread_ids_is_core : IsCore (thread_ids_machine shape) (thread_ids_places shape) n m
+  thread_ids_is_core = record {
     starts = starts;
     keeps = keeps;
     faithful = λ h g s e f. record {
@@ -320,5 +321,5 @@ module _ (shape : Shape) (ok : IsShape shape) (m : Module) (is : IsForks shape m
     moves = λ r s o ob sh g. moves r s ob sh o g;
     writes = λ r s o ob sh g. silent r s ob sh o;
     ask_inputs = ask_input;
-    grant_inputs = λ i l. forks_leaf.first (at n row.grants + i) (omega arith);
+    grant_inputs = λ i l. thread_ids_leaf.first (at n row.grants + i) (omega arith);
   }

@@ -13,13 +13,13 @@ use Rattle.circuit.specs.Fits.{registers}
 use Rattle.circuit.proofs.LeafForm.{ActsOnData, IsFormedMemory}
 use Rattle.circuit.proofs.TableRows.{length-laid}
 use Rattle.circuit.proofs.TableModule.{stands, signals_named, none_zero}
-use Rattle.thread_id_cores.specs.declared.forks.Shape.{Shape}
-use Rattle.thread_id_cores.specs.Forks.{rows, statements, IsShape, IsForks}
+use Rattle.thread_id_cores.specs.declared.thread_ids.Shape.{Shape}
+use Rattle.thread_id_cores.specs.ThreadIds.{rows, statements, IsShape, IsThreadIdsModule}
 use Rattle.thread_id_cores.specs.Machine.{inputs, input_widths, output_widths}
 use Rattle.thread_id_cores.proofs.ThreadIdTable.{laid_by, acts_fit, begins}
 use Rattle.thread_id_cores.proofs.MemoryNames.{memories_apart}
 
-module _ (shape : Shape) (ok : IsShape shape) (m : Module) (is : IsForks shape m) where
+module _ (shape : Shape) (ok : IsShape shape) (m : Module) (is : IsThreadIdsModule shape m) where
   abbrev n : ℕ
   n = shape.threads
 
@@ -38,8 +38,8 @@ module _ (shape : Shape) (ok : IsShape shape) (m : Module) (is : IsForks shape m
   acts : EachOf (ActsOnData m) (statements n)
   acts = (((omega arith, tt), (omega arith, omega arith)), (((omega arith, tt), (omega arith, omega arith)), tt))
 
-  pub forks_stands : IsTableModule m (input_widths shape) (output_widths shape)
-  forks_stands = stands (laid_by shape ok m is) set small
+  pub thread_ids_stands : IsTableModule m (input_widths shape) (output_widths shape)
+  thread_ids_stands = stands (laid_by shape ok m is) set small
       is.instances (acts_fit shape ok m is) (begins shape ok m is) names (ap is_clk is.named)
       (subst (EachOf (ActsOnData m)) (sym is.actions) acts)
       (subst (EachOf (IsFormedMemory m)) (sym is.memories) (

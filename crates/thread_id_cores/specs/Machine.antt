@@ -6,9 +6,9 @@ use Rattle.circuit.specs.Table.{place}
 use Rattle.circuit.specs.Fits as table
 use Rattle.circuit.specs.Machines.{CoreMachine, CorePlaces}
 use Rattle.core_states.specs.Machines.{IdTable, ids_eligible, ids_after, ids_tell}
-use Rattle.thread_id_cores.specs.declared.forks.Shape.{Shape}
+use Rattle.thread_id_cores.specs.declared.thread_ids.Shape.{Shape}
 use Rattle.thread_id_cores.specs.Rows as row
-use Rattle.thread_id_cores.specs.Forks.{rows, at, grants, offers, tells, handed}
+use Rattle.thread_id_cores.specs.ThreadIds.{rows, at, grants, offers, tells, handed}
 
 -- whether a thread asks, the operation, the id and the argument
 pub record Ask : Type 0 where
@@ -25,8 +25,8 @@ ask_of f = record { asks = nat_lt 0 (f 0); operation = f 1; id = f 2; argument =
 abbrev pub begun : ℕ → IdTable
 begun threads = record { statuses = replicate threads 0; arguments = replicate threads 0 }
 
-abbrev pub forks_machine : Shape → CoreMachine
-forks_machine shape = record {
+abbrev pub thread_ids_machine : Shape → CoreMachine
+thread_ids_machine shape = record {
   State = IdTable;
   Ask = Ask;
   start = begun shape.threads;
@@ -57,8 +57,8 @@ abbrev pub told_place : ℕ → ℕ → ℕ → ℕ
 told_place n zero i = tells n + i
 told_place n (suc j) i = handed n + i
 
-abbrev pub forks_places : (shape : Shape) → CorePlaces (forks_machine shape)
-forks_places shape = record {
+abbrev pub thread_ids_places : (shape : Shape) → CorePlaces (thread_ids_machine shape)
+thread_ids_places shape = record {
   shows = Shows shape;
   ask = part_place shape.threads;
   offer = λ i. offers shape.threads + i;

@@ -1,12 +1,12 @@
-// The module of the fork and join core.
+// The module of the core of the thread ids.
 
 ghost use Rattle.std.specs.Prelude.{◌≡◌, ◌≤◌, [], ◌∷◌, replicate, IfOk};
 ghost use Rattle.circuit.specs.Table.{laid};
 ghost use Rattle.circuit.specs.Modules.{IsLeaf};
 ghost use Rattle.circuit.specs.Interfaces.{IsTableModule};
 ghost use Rattle.circuit.specs.Machines.{IsCore};
-ghost use Rattle.thread_id_cores.specs.Forks.{end, status_memory, argument_memory, rows, statements, store_under, IsShape, IsForks};
-ghost use Rattle.thread_id_cores.specs.Machine.{forks_machine, forks_places, inputs, input_widths, output_widths, is_late};
+ghost use Rattle.thread_id_cores.specs.ThreadIds.{end, status_memory, argument_memory, rows, statements, store_under, IsShape, IsThreadIdsModule};
+ghost use Rattle.thread_id_cores.specs.Machine.{thread_ids_machine, thread_ids_places, inputs, input_widths, output_widths, is_late};
 
 use circuit::rows::Role::{Address, Ask, Clock, Data, Grant, Offer, Operation, Told, Wire};
 use circuit::table::Form::{Binary, Conditional, Constant, Count, Input, MemoryRead, Output};
@@ -19,7 +19,7 @@ use std::alloc::{AllocError, Global};
 use verilog_tree::name::Identifier;
 use verilog_tree::tree::BinaryOperator::Equal;
 
-/// A fork and join core that so many threads ask.
+/// A core of the thread ids that so many threads ask.
 #[derive(Drop)]
 pub struct Shape {
     pub threads: usize,
@@ -39,9 +39,9 @@ pub struct Shape {
 /// whatever modules stand before it.
 pub fn module(alloc: Global, shape: &Shape) -> Result<Module, AllocError>
     requires { IsShape shape.now }
-    ensures core { IfOk result (IsCore (forks_machine shape.now) (forks_places shape.now) shape.now.threads) }
+    ensures core { IfOk result (IsCore (thread_ids_machine shape.now) (thread_ids_places shape.now) shape.now.threads) }
     ensures leaf { IfOk result (λ m. IsLeaf m (inputs shape.now) (is_late shape.now)) }
-    ensures table { IfOk result (IsForks shape.now) }
+    ensures table { IfOk result (IsThreadIdsModule shape.now) }
     ensures stands { IfOk result (λ m. IsTableModule m (input_widths shape.now) (output_widths shape.now)) }
 {
     table(alloc, shape)
@@ -49,7 +49,7 @@ pub fn module(alloc: Global, shape: &Shape) -> Result<Module, AllocError>
 
 fn table(alloc: Global, shape: &Shape) -> Result<Module, AllocError>
     requires { IsShape shape.now }
-    ensures { IfOk result (IsForks shape.now) }
+    ensures { IfOk result (IsThreadIdsModule shape.now) }
 {
     let signals = signals(alloc, shape.threads)?;
     let memories = memories(alloc, shape.threads)?;

@@ -1,4 +1,4 @@
--- The module of the fork and join core: its table of rows, its memories and its statements.
+-- The module of the core of the thread ids: its table of rows, its memories and its statements.
 use Rattle.std.specs.Prelude.{◌≡◌, ℕ, ◌+◌, ◌≤◌, replicate, List, [], ◌∷◌, codes}
 use Rattle.netlist.specs.declared.netlist.Memory.{Memory}
 use Rattle.netlist.specs.declared.netlist.Action.{Action}
@@ -6,7 +6,7 @@ use Rattle.netlist.specs.declared.netlist.Effect.TheVariants.{Store}
 use Rattle.netlist.specs.declared.netlist.Module.{Module}
 use Rattle.circuit.specs.declared.table.Row.{Row}
 use Rattle.circuit.specs.Table.{place, laid}
-use Rattle.thread_id_cores.specs.declared.forks.Shape.{Shape}
+use Rattle.thread_id_cores.specs.declared.thread_ids.Shape.{Shape}
 use Rattle.thread_id_cores.specs.Rows as row
 
 abbrev pub rows : List Row
@@ -58,7 +58,7 @@ pub record IsShape (s : Shape) : Type 0 where
   pub some : 1 ≤ s.threads
 
 -- the module of a shape and nothing else
-pub record IsForks (s : Shape) (m : Module) : Type 0 where
+pub record IsThreadIdsModule (s : Shape) (m : Module) : Type 0 where
   pub named : m.name ≡ codes "forkjoin"
   pub signals : m.signals ≡ laid s.threads rows
   pub memories : m.memories ≡ status_memory s.threads ∷ argument_memory s.threads ∷ []
