@@ -1,4 +1,4 @@
-// Laws of nets that are wired so. Each function takes and answers nothing: its contract is the law.
+// Laws of nets that are wired so. The function takes and answers nothing: its contract is the laws.
 
 ghost use Rattle.std.specs.Prelude.{ℕ, length};
 ghost use Rattle.circuit.specs.Machines.{CoreMachine, ThreadMachine};
@@ -18,29 +18,18 @@ pub trait Machines {
     ghost places: { (layout : Layout) → NetPlaces (length layout.threads) (length layout.cores) threads cores };
 }
 
-/// Where the modules keep their promises as threads, cores and arbiters, `top` is the machine of its threads and cores:
-/// each cycle is one step of all of them.
-pub fn is_one_machine<M: Machines>()
-    ensures { IsOneMachine M.threads M.cores M.places }
-{}
-
-/// `top`, its inputs, the slots of the threads and `done` are found by their names.
-pub fn tops_are_found()
-    ensures { TopsAreFound }
-{}
-
-/// Where no module puts out what depends on its grants, the signals can be put in stages, so that none depends on itself.
-pub fn nets_have_stages()
-    ensures { NetsHaveStages }
-{}
-
-/// Where no module puts out what depends on its grants, each state has exactly one settled valuation for each choice.
-pub fn settles_once()
-    ensures { NetsSettle }
-{}
-
-/// Where the modules are sound, of which one alone writes, in one instance, the net is sound, so that its text is a
-/// well-formed net.
-pub fn nets_are_sound()
-    ensures { NetsAreSound }
+/// What holds of a net that is wired so.
+pub fn nets_are_machines<M: Machines>()
+    // Where the modules keep their promises as threads, cores and arbiters, `top` is the machine of its threads and cores: each
+    // cycle is one step of all of them.
+    ensures is_one_machine { IsOneMachine M.threads M.cores M.places }
+    // `top`, its inputs, the slots of the threads and `done` are found by their names.
+    ensures tops_are_found { TopsAreFound }
+    // Where no module puts out what depends on its grants, the signals can be put in stages, so that none depends on itself, and
+    // each state has exactly one settled valuation for each choice.
+    ensures nets_have_stages { NetsHaveStages }
+    ensures settles_once { NetsSettle }
+    // Where the modules are sound, of which one alone writes, in one instance, the net is sound, so that its text is a well-formed
+    // net.
+    ensures nets_are_sound { NetsAreSound }
 {}
