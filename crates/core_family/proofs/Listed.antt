@@ -8,7 +8,7 @@ use Rattle.lists.proofs.Places.{get_there, get_front, get_right, get_mapped, cop
 use Rattle.hls_ints.specs.Residues.{bit_of}
 use Rattle.bank_cores.specs.declared.bank.Shape.{Shape as BankShape}
 use Rattle.mutex_cores.specs.declared.mutex.Shape.{Shape as MutexShape}
-use Rattle.thread_id_cores.specs.declared.forks.Shape.{Shape as ThreadIdsShape}
+use Rattle.thread_id_cores.specs.declared.thread_ids.Shape.{Shape as ThreadIdsShape}
 use Rattle.printer_cores.specs.declared.printer.Shape.{Shape as PrinterShape}
 use Rattle.core_family.specs.declared.cores.Cores.{Cores}
 use Rattle.core_family.specs.Kinds.{barrier, thread_ids, barrier_kinds, thread_ids_kinds, act_kinds, kinds_of}

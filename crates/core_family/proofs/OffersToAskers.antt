@@ -10,9 +10,9 @@ use Rattle.bank_cores.specs.Bank.{kept}
 use Rattle.bank_cores.specs.Machine.{bank_machine, bank_places}
 use Rattle.printer_cores.specs.declared.printer.Shape.{Shape as PrinterShape}
 use Rattle.printer_cores.specs.Machine.{printer_machine, printer_places}
-use Rattle.mutex_cores.proofs.Locks.{locks_wait}
+use Rattle.mutex_cores.proofs.MutexWords.{mutex_waits}
 use Rattle.barrier_cores.proofs.WaitBits.{barriers_wait}
-use Rattle.thread_id_cores.proofs.ShownTable.{forks_wait}
+use Rattle.thread_id_cores.proofs.ShownTable.{thread_ids_wait}
 use Rattle.core_family.specs.Family.{Bank, Mutex, Barrier, ThreadIds, Printer}
 use Rattle.core_family.specs.Laws.{EachWaits}
 
@@ -45,7 +45,7 @@ each_waits None = record {
   asked = λ s i f e. refl;
 }
 each_waits (Some (Bank s)) = bank_waits s
-each_waits (Some (Mutex s)) = locks_wait s
+each_waits (Some (Mutex s)) = mutex_waits s
 each_waits (Some (Barrier s)) = barriers_wait s.threads
-each_waits (Some (ThreadIds s)) = forks_wait s
+each_waits (Some (ThreadIds s)) = thread_ids_wait s
 each_waits (Some (Printer s)) = printer_waits s

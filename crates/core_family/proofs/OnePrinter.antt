@@ -6,7 +6,7 @@ use Rattle.netlist.specs.declared.netlist.Module.{Module}
 use Rattle.circuit.specs.Rows.{EachOf, set_at, sets}
 use Rattle.circuit.proofs.Edges.{each_joined, each_spread}
 use Rattle.leaf_machine.specs.Standing.{IsSilent}
-use Rattle.thread_id_cores.specs.declared.forks.Shape.{Shape as ThreadIdsShape}
+use Rattle.thread_id_cores.specs.declared.thread_ids.Shape.{Shape as ThreadIdsShape}
 use Rattle.bank_cores.specs.Bank as bank
 use Rattle.barrier_cores.specs.Barrier as barrier
 use Rattle.core_family.specs.Family.{CoreKind, Bank, Mutex, Barrier, ThreadIds, Printer, machine_of, port_of, told_width, IsTable}

@@ -4,11 +4,11 @@ use Rattle.std.specs.Prelude.{nat_eq, nat_lt, if◌then◌else◌, slice_index, 
 use Rattle.std.proofs.lemmas.Nat.{pow_pos}
 use Rattle.hls_ints.specs.Residues.{bit_of}
 use Rattle.circuit.specs.Rows.{EachOf}
-use Rattle.core_states.specs.Machines.{Gate, total_of, with_waiter, gate_met, gate_after, IdTable, ids_after, ids_tell}
+use Rattle.core_states.specs.Machines.{CoreBarrier, total_of, with_waiter, barrier_waited, barrier_after, IdTable, ids_after, ids_tell}
 use Rattle.bank_cores.specs.declared.bank.Shape.{Shape as BankShape}
 use Rattle.bank_cores.specs.Machine as bank
 use Rattle.barrier_cores.specs.declared.barrier.Shape.{Shape as BarrierShape}
-use Rattle.thread_id_cores.specs.declared.forks.Shape.{Shape as ThreadIdsShape}
+use Rattle.thread_id_cores.specs.declared.thread_ids.Shape.{Shape as ThreadIdsShape}
 use Rattle.core_family.specs.Family.{Bank, Mutex, Barrier, ThreadIds, Printer, told_width}
 use Rattle.core_family.specs.Laws.{FitsState, KeepsFitting, EachKeepsFitting}
 
@@ -53,18 +53,18 @@ bank_fits b = record {
 
 -- ---- a barrier
 
-met_below : (n : ℕ) (g : Gate) (i : ℕ) → AllBelow 2 g.waiting → AllBelow 2 (gate_met n g i).waiting
+met_below : (n : ℕ) (g : CoreBarrier) (i : ℕ) → AllBelow 2 g.waiting → AllBelow 2 (barrier_waited n g i).waiting
 met_below n g i h = by (nat_lt (total_of n (with_waiter g i)) g.count)
   where
     by : (b : Bool) → AllBelow 2 (if b then with_waiter g i else replicate n 0)
     by true = set_below 2 g.waiting i 1 (omega arith) h
     by false = zeros_below 2 n (omega arith)
 
-gate_below : (n : ℕ) (g : Gate) (i operation count : ℕ) → AllBelow 2 g.waiting → AllBelow 2 (gate_after n g i operation count).waiting
-gate_below n g i operation count h = by (nat_eq operation 1) (nat_eq operation 3)
+barrier_below : (n : ℕ) (g : CoreBarrier) (i operation count : ℕ) → AllBelow 2 g.waiting → AllBelow 2 (barrier_after n g i operation count).waiting
+barrier_below n g i operation count h = by (nat_eq operation 1) (nat_eq operation 3)
   where
     by : (w x : Bool) →
-        AllBelow 2 (if w then gate_met n g i else (if x then g else record { count = if nat_eq operation 0 then count else 0; waiting = replicate n 0 })).waiting
+        AllBelow 2 (if w then barrier_waited n g i else (if x then g else record { count = if nat_eq operation 0 then count else 0; waiting = replicate n 0 })).waiting
     by true x = met_below n g i h
     by false true = h
     by false false = zeros_below 2 n (omega arith)
@@ -72,7 +72,7 @@ gate_below n g i operation count h = by (nat_eq operation 1) (nat_eq operation 3
 barrier_fits : (b : BarrierShape) → KeepsFitting (Some (Barrier b))
 barrier_fits b = record {
   starts = λ e. zeros_below 2 b.threads (omega arith);
-  acts = λ s h i f l. gate_below b.threads s i (f 1) (f 2) h;
+  acts = λ s h i f l. barrier_below b.threads s i (f 1) (f 2) h;
   tells = λ s h i j l. h i;
 }
 

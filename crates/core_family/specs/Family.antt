@@ -13,8 +13,8 @@ use Rattle.mutex_cores.specs.Machine as mutex
 use Rattle.barrier_cores.specs.declared.barrier.Shape.{Shape as BarrierShape}
 use Rattle.barrier_cores.specs.Barrier.{IsBarrier}
 use Rattle.barrier_cores.specs.Machine as barrier
-use Rattle.thread_id_cores.specs.declared.forks.Shape.{Shape as ThreadIdsShape}
-use Rattle.thread_id_cores.specs.Forks.{IsForks}
+use Rattle.thread_id_cores.specs.declared.thread_ids.Shape.{Shape as ThreadIdsShape}
+use Rattle.thread_id_cores.specs.ThreadIds.{IsThreadIdsModule}
 use Rattle.thread_id_cores.specs.Machine as thread_ids
 use Rattle.printer_cores.specs.declared.printer.Shape.{Shape as PrinterShape}
 use Rattle.printer_cores.specs.Printer.{IsPrinter}
@@ -60,7 +60,7 @@ machine_of None = no_machine
 machine_of (Some (Bank s)) = bank.bank_machine s
 machine_of (Some (Mutex s)) = mutex.mutex_machine s
 machine_of (Some (Barrier s)) = barrier.barrier_machine s.threads
-machine_of (Some (ThreadIds s)) = thread_ids.forks_machine s
+machine_of (Some (ThreadIds s)) = thread_ids.thread_ids_machine s
 machine_of (Some (Printer s)) = printer.printer_machine s
 
 abbrev pub places_of : (o : Option CoreKind) → CorePlaces (machine_of o)
@@ -68,7 +68,7 @@ places_of None = no_places
 places_of (Some (Bank s)) = bank.bank_places s
 places_of (Some (Mutex s)) = mutex.mutex_places s
 places_of (Some (Barrier s)) = barrier.barrier_places s.threads
-places_of (Some (ThreadIds s)) = thread_ids.forks_places s
+places_of (Some (ThreadIds s)) = thread_ids.thread_ids_places s
 places_of (Some (Printer s)) = printer.printer_places s
 
 -- core k of a list
@@ -124,7 +124,7 @@ abbrev pub IsTable : CoreKind → Module → Type 0
 IsTable (Bank s) m = IsBank s m
 IsTable (Mutex s) m = IsMutex s m
 IsTable (Barrier s) m = IsBarrier s m
-IsTable (ThreadIds s) m = IsForks s m
+IsTable (ThreadIds s) m = IsThreadIdsModule s m
 IsTable (Printer s) m = IsPrinter s m
 
 -- the input ports stand before this place
