@@ -8,8 +8,8 @@ use Rattle.circuit.specs.Interfaces.{first_of, HasInterface}
 use Rattle.circuit.proofs.TableRows.{length-laid}
 use Rattle.circuit.proofs.Tables.{between_on, between_behind}
 use Rattle.core_family.specs.Shape.{Shape}
-use Rattle.core_family.specs.Forks.{grants, zero_code, going_chain, offers, rows}
-use Rattle.core_family.specs.Machine.{forks_machine, forks_places, part_place, told_place, output_widths, is_late}
+use Rattle.core_family.specs.ThreadIds.{grants, zero_code, going_chain, offers, rows}
+use Rattle.core_family.specs.Machine.{thread_ids_machine, thread_ids_places, part_place, told_place, output_widths, is_late}
 use Rattle.core_family.specs.Family.{ThreadIds, port_of, IsCoreModule}
 use Rattle.core_tables.proofs.Ports.{inputs, outputs, length-ports}
 use Rattle.core_tables.proofs.CoreStands.{StandsFor}
@@ -59,7 +59,7 @@ module _ (s : Shape) (m : Module) (is : IsCoreModule s.threads (ThreadIds s) m) 
   many : zero_code n ≡ length (inputs n asks)
   many = let a = length-ports n asks (replicate n 1) in let b = length-replicate {A = ℕ} n 1 in omega (arith, a, b)
 
-  pub thread_ids_stand_for : StandsFor n (port_of (ThreadIds s)).asks (port_of (ThreadIds s)).told (forks_machine s) (forks_places s) (is_late s) m
+  pub thread_ids_stand_for : StandsFor n (port_of (ThreadIds s)).asks (port_of (ThreadIds s)).told (thread_ids_machine s) (thread_ids_places s) (is_late s) m
   thread_ids_stand_for = record {
     core = is.core;
     parts = refl;

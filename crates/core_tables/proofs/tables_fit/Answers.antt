@@ -4,6 +4,9 @@ use Rattle.core_tables.proofs.CoreNames.{cores_are_named}
 use Rattle.core_tables.proofs.Threads.{threads_fit}
 use Rattle.core_tables.proofs.Widths.{thread_ports}
 use Rattle.core_tables.proofs.OneWriter.{printers_write}
+use Rattle.core_tables.proofs.Sound.{tables_are_sound}
+use Rattle.core_tables.proofs.TableNets.{tables_are_nets}
+use Rattle.core_tables.proofs.TablesKeep.{tables_keep_promises}
 use Rattle.core_tables.proofs.tables_fit.Goals as goal
 
 pub returns-clause-cores : goal.returns-clause-cores
@@ -23,3 +26,12 @@ returns-clause-writer c = printers_write
 
 pub returns-clause-modules : goal.returns-clause-modules
 returns-clause-modules c = threads_fit
+
+pub returns-clause-sound : goal.returns-clause-sound
+returns-clause-sound c = tables_are_sound
+
+pub returns-clause-promises : goal.returns-clause-promises
+returns-clause-promises c = tables_keep_promises
+
+pub returns-clause-nets : goal.returns-clause-nets
+returns-clause-nets c = tables_are_nets
