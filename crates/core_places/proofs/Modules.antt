@@ -20,9 +20,6 @@ use Rattle.core_places.specs.Kinds.{IsWantedBank, IsRight, HaveModules}
 
 -- ---- one more
 
-pub no_modules : (threads : ℕ) → AreModules threads [] []
-no_modules threads = record { count = refl; each = λ j s e. absurd cc }
-
 one_more : (threads : ℕ) (kinds : List CoreKind) (modules : List Module) (s : CoreKind) (m : Module) → AreModules threads kinds modules → IsCoreModule threads s m →
     AreModules threads (kinds ++ s ∷ []) (modules ++ m ∷ [])
 one_more threads kinds modules s m are is = record {

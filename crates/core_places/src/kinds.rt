@@ -15,7 +15,7 @@ use netlist::netlist::Module;
 use printer_cores::printer;
 use sqlite_items::Items;
 use std::alloc::{AllocError, Global};
-use thread_id_cores::forks;
+use thread_id_cores::thread_ids;
 
 /// Whether a mutex is uninitialised at the start.
 pub fn has_unset(mutexes: &[mutex::Shape]) -> bool
@@ -65,7 +65,10 @@ fn module(alloc: Global, kind: &CoreKind) -> Result<Module, AllocError>
         CoreKind::Bank(shape) => bank::module(alloc, shape),
         CoreKind::Mutex(shape) => mutex::module(alloc, shape),
         CoreKind::Barrier(threads) => barrier::module(alloc, &barrier::Shape { threads: *threads }),
-        CoreKind::ThreadIds(threads) => forks::module(alloc, &forks::Shape { threads: *threads }),
+        CoreKind::ThreadIds(threads) => thread_ids::module(
+            alloc,
+            &thread_ids::Shape { threads: *threads },
+        ),
         CoreKind::Printer(shape) => printer::module(alloc, shape),
     }
 }
