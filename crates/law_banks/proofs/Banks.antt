@@ -1,5 +1,5 @@
 -- The banks of a partition: as many as the spreads say, those of two globals apart, and what they have at the start.
-use Rattle.std.proofs.Common.{◌≡◌, ℕ, zero, suc, ◌+◌, ◌*◌, ◌-◌, ◌%◌, ◌<◌, ◌≤◌, List, [], ◌∷◌, ◌++◌, map, length, replicate, fold, Option, Some}
+use Rattle.std.proofs.Common.{◌≡◌, ℕ, zero, suc, ◌+◌, ◌*◌, ◌-◌, ◌%◌, ◌<◌, ◌≤◌, List, [], ◌∷◌, ◌++◌, map, length, replicate, Option, Some}
 use Rattle.std.proofs.Common.{None, slice_get, slice_index, ℤ, pos}
 use Rattle.std.proofs.Common.{refl, sym, ap, ◌∙◌, subst, arith, length-append}
 use Rattle.std.specs.Prelude.{unwrap_or}
@@ -18,19 +18,10 @@ use Rattle.bank_partition.specs.Shapes.{BankShape, spread, first_value, count_of
 use Rattle.bank_partition.specs.Partition.{AreBanks}
 use Rattle.bank_partition.proofs.BanksOfSpreads.{spread_front, spread_behind, length-spread}
 use Rattle.thread_promise.specs.Globals.{bank_total, bank_at, bank_of}
+use Rattle.thread_promise.proofs.BankTotal.{total_cons}
 use Rattle.law_banks.proofs.Typed.{zero_typed}
 
 -- ---- how many there are
-
-shifted : (a : ℕ) (ss : List Spread) → fold (λ n (s : Spread). n + s.count) a ss ≡ a + fold (λ n (s : Spread). n + s.count) 0 ss
-shifted a [] = let e : a ≡ a + 0 = omega arith in e
-shifted a (s ∷ ss) =
-    let one = shifted (a + s.count) ss in
-    let two = shifted (0 + s.count) ss in
-    omega arith
-
-pub total_cons : (s : Spread) (ss : List Spread) → bank_total (s ∷ ss) ≡ s.count + bank_total ss
-total_cons s ss = let e = shifted (0 + s.count) ss in omega arith
 
 pub totals : (threads : List ℕ) (x first : ℕ) (globals : List GlobalVariable) → bank_total (spreads_from threads x first globals) ≡ length (banks_from threads x globals)
 totals threads x first [] = refl

@@ -16,12 +16,13 @@ use Rattle.planned_block.specs.Slot.{Slot, operand_now, bank_access_now, stayed,
 use Rattle.planned_block.specs.Advance.{requests, answered, is_ready, is_answered, any_below, wires, reads_bank, word_read, words_next, registers_next, left_for_next, state_left}
 use Rattle.planned_block.specs.Advance.{advance}
 use Rattle.planned_block.proofs.Bits.{both_true, is_same, same_is}
+use Rattle.planned_block.proofs.LastPassing.{last_hit, last_miss}
 use Rattle.plan_blocks.specs.View.{planned_view, plan_view}
 use Rattle.thread_promise.specs.Globals.{bank_total, bank_at, bank_of, IsAddress, place_now, bank_now, written_now, IsOpen}
 use Rattle.law_banks.specs.Memory.{place_at, IsReadPlace, IsWrittenPlace}
 use Rattle.law_banks.specs.Cycle.{IsAskFor, AreBanked, Works}
 use Rattle.law_banks.proofs.AskingOperation.{IsFound, find}
-use Rattle.law_banks.proofs.StateAccesses.{read_kind, write_kind, writes_is, written_by_one, after_one, last_hit, last_miss}
+use Rattle.law_banks.proofs.StateAccesses.{read_kind, write_kind, writes_is, written_by_one, after_one}
 use Rattle.law_banks.proofs.StateAccesses.{one_open, spread_of, reads_there, writes_there, written_typed}
 
 -- ---- the words of a slot that advances

@@ -29,7 +29,7 @@ use Rattle.planned_block.specs.Block.{Operation, operation_at, size, operand_val
 use Rattle.planned_block.specs.Plan.{NoTarget, OfGlobal, target_of, last_state, gap_after}
 use Rattle.planned_block.specs.Run.{bank_access}
 use Rattle.planned_block.specs.Slot.{Slot, is_request, accesses_where, register_value, value_now, operand_now, asks, starts_now}
-use Rattle.planned_block.specs.Advance.{requests, last_of}
+use Rattle.planned_block.specs.Advance.{requests}
 use Rattle.planned_block.proofs.Bits.{both_true, is_same, other_is}
 use Rattle.plan_blocks.specs.View.{converted_to, source_view, operand_view, operation_view, operations_view, planned_view, plan_view, binary_kind}
 use Rattle.verilog_meaning.specs.Readings.{Reading}
@@ -176,27 +176,6 @@ after_one f made (suc count) n k l v m le lt e is others =
         memory_after-unwritten (accesses_where f made count (suc n)) (memory_after (if f n then made n else []) m) l
         (λ w. let j = written_by_one f made count (suc n) l w in others j.0 (let less = j.2 in omega arith) j.3 (λ q. absurd (let more = j.1 in omega arith)) j.4)
         ∙ ap (λ (es : List (Access ℤ)). memory_after es m l) now ∙ with_value-same m l v
-
--- ---- the last that passes
-
-pub last_hit : {A : Type 0} (test : ℕ → Bool) (value : ℕ → A) (old : A) (n k : ℕ) → k < n → test k ≡ true → ((j : ℕ) → j < n → test j ≡ true → j ≡ k) →
-    last_of test value old n ≡ value k
-last_hit test value old zero k lt e one = absurd (omega arith)
-last_hit test value old (suc n) k lt e one = by (test n) refl (λ less. last_hit test value old n k less e (λ j l t. one j (omega arith) t))
-  where
-    by : (c : Bool) → test n ≡ c → (k < n → last_of test value old n ≡ value k) → (if test n then value n else last_of test value old n) ≡ value k
-    by true q rest = ap (λ (c : Bool). if c then value n else last_of test value old n) q ∙ ap value (one n (omega arith) q)
-    by false q rest =
-        let other : n ≢ k = λ s. absurd (let p = ap test s in cc) in
-        ap (λ (c : Bool). if c then value n else last_of test value old n) q ∙ rest (omega arith)
-
-pub last_miss : {A : Type 0} (test : ℕ → Bool) (value : ℕ → A) (old : A) (n : ℕ) → ((k : ℕ) → k < n → test k ≡ true → ⊥) → last_of test value old n ≡ old
-last_miss test value old zero none = refl
-last_miss test value old (suc n) none = by (test n) refl (last_miss test value old n (λ k l. none k (omega arith)))
-  where
-    by : (c : Bool) → test n ≡ c → last_of test value old n ≡ old → (if test n then value n else last_of test value old n) ≡ old
-    by true q rest = absurd (none n (omega arith) q)
-    by false q rest = ap (λ (c : Bool). if c then value n else last_of test value old n) q ∙ rest
 
 -- ---- what is written has the type of the global
 
