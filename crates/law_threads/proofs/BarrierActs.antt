@@ -20,9 +20,9 @@ use Rattle.race_model.proofs.Orderly.{orderly}
 use Rattle.code_following.specs.Following.{print_formats}
 use Rattle.block_ir.specs.Asked.{Asked, Numbers, mutex_core, barrier_core, thread_ids_core, printer_core}
 use Rattle.block_ir.specs.declared.service.Service.TheVariants as service
-use Rattle.core_states.specs.Machines.{Gate}
+use Rattle.core_states.specs.Machines.{CoreBarrier}
 use Rattle.law_threads.specs.Cores.{Core, OfBarrier, granted, status_in, argument_in, waits_in as core_waits}
-use Rattle.law_threads.specs.Stands.{GateStands, BarrierStands, StandsFor}
+use Rattle.law_threads.specs.Stands.{CoreBarrierStands, BarrierStands, StandsFor}
 use Rattle.block_refine.specs.Routines.{Codes}
 use Rattle.law_threads.specs.Requests.{AreNumbers, Other, Same, Released, HearsSame, cores_after}
 use Rattle.law_threads.proofs.Common.{status_kept, other_core, same_core}
@@ -34,8 +34,8 @@ asks_barrier n operation ws = record { service = service.Barrier; core = n; numb
 -- barrier n comes from one state to another, and its core from one gate to another
 module _ (P : Program) (codes : Codes) (N : Numbers) (T : ℕ) (R : IsResolved P) (numbers : AreNumbers P N T) (s : State) (i : ℕ) (c : ℕ → Core) (reached : Reachable (c_source P) s)
     (stands : StandsFor N T c s) (calls frames : List Frame) (runs : local_of s i ≡ running calls) (n operation : ℕ) (ws : List ℕ) (old new : Barrier)
-    (here : slice_get s.barriers n ≡ Some old) (gate : Gate)
-    (becomes : granted T (print_formats P) (OfBarrier (stands.barriers n old here).gate) i (asks_barrier n operation ws) ≡ OfBarrier gate) (gates : GateStands T gate new) where
+    (here : slice_get s.barriers n ≡ Some old) (gate : CoreBarrier)
+    (becomes : granted T (print_formats P) (OfBarrier (stands.barriers n old here).gate) i (asks_barrier n operation ws) ≡ OfBarrier gate) (gates : CoreBarrierStands T gate new) where
   abbrev k : ℕ
   k = barrier_core N n
 
@@ -65,7 +65,7 @@ module _ (P : Program) (codes : Codes) (N : Numbers) (T : ℕ) (R : IsResolved P
     mutexes = λ m x at. others_stay (mutex_core N m) (λ e. absurd (let lt = slice_get_within s.mutexes m x at in let z = stands.mutex_count in omega arith))
         ∙ stands.mutexes m x at;
     barriers = λ m b at. ⊎_elim
-        (λ same. record { gate = gate; is = subst (λ z. after (barrier_core N z) ≡ OfBarrier gate) same.0 here_after; stands = subst (GateStands T gate) same.1 gates })
+        (λ same. record { gate = gate; is = subst (λ z. after (barrier_core N z) ≡ OfBarrier gate) same.0 here_after; stands = subst (CoreBarrierStands T gate) same.1 gates })
         (λ other. let z = stands.barriers m b other.1 in
         record { gate = z.gate; is = others_stay (barrier_core N m) (λ e. other.0 (omega arith)) ∙ z.is; stands = z.stands })
         (get-set_cases s.barriers n m new b at);

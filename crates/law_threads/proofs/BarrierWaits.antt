@@ -25,9 +25,9 @@ use Rattle.race_model.proofs.Lists.{list_any_at}
 use Rattle.race_model.proofs.Orderly.{orderly, none_same}
 use Rattle.block_ir.specs.Asked.{act_value, Asked, Numbers, barrier_core, core_of}
 use Rattle.code_following.specs.Following.{print_formats, SameAct}
-use Rattle.core_states.specs.Machines.{Gate, total_of, with_waiter}
+use Rattle.core_states.specs.Machines.{CoreBarrier, total_of, with_waiter}
 use Rattle.law_threads.specs.Cores.{Core, OfBarrier, may_grant, granted, waits_in as core_waits}
-use Rattle.law_threads.specs.Stands.{GateStands, BarrierStands}
+use Rattle.law_threads.specs.Stands.{CoreBarrierStands, BarrierStands}
 use Rattle.core_states.proofs.Waiters.{waiters_count}
 use Rattle.block_refine.specs.Routines.{Codes}
 use Rattle.block_refine.specs.RoutineActs.{IsStepOf}
@@ -62,11 +62,11 @@ module _ (P : Program) (codes : Codes) (N : Numbers) (T : ℕ) (R : IsResolved P
     abbrev before : BarrierStands T (c (barrier_core N n)) (Awaits count waiters)
     before = at.cores.barriers n (Awaits count waiters) here
 
-    abbrev g : Gate
+    abbrev g : CoreBarrier
     g = before.gate
 
-    abbrev granted_gate : Core
-    granted_gate = granted T (print_formats P) (OfBarrier g) i (asks_barrier n 1 [])
+    abbrev granted_barrier : Core
+    granted_barrier = granted T (print_formats P) (OfBarrier g) i (asks_barrier n 1 [])
 
     apart : list_any (nat_eq i) waiters ≡ false
     apart = list_any_at (is_waiter i) s.barriers n (Awaits count waiters) (ap (λ (x : Local). x.waits) step_of.runs) here
@@ -116,16 +116,16 @@ module _ (P : Program) (codes : Codes) (N : Numbers) (T : ℕ) (R : IsResolved P
     -- ---- all go on
 
     module _ (enough : length waiters + 1 ≡ g.count) (steps : step P s i ≡ with_barrier (with_slot s i (Running step_of.frames)) n (Awaits count [])) where
-      abbrev opened : Gate
+      abbrev opened : CoreBarrier
       opened = record { count = g.count; waiting = replicate T 0 }
 
-      opens : granted_gate ≡ OfBarrier opened
+      opens : granted_barrier ≡ OfBarrier opened
       opens =
           ap (λ (b : Bool). OfBarrier (record { count = g.count; waiting = if b then with_waiter g i else replicate T 0 }))
           (not_less_is (total_of T (with_waiter g i)) g.count (let t = total in omega arith))
 
-      gates_open : GateStands T opened (Awaits count [])
-      gates_open = record {
+      barriers_open : CoreBarrierStands T opened (Awaits count [])
+      barriers_open = record {
         sized = length-replicate T 0;
         bits = λ j lt. zeros_at T j;
         count = λ k ws e. let same : count ≡ k = cc in before.stands.count count waiters refl ∙ same;
@@ -139,15 +139,15 @@ module _ (P : Program) (codes : Codes) (N : Numbers) (T : ℕ) (R : IsResolved P
           (record s { slots = slice_set s.slots i (Running step_of.frames); barriers = slice_set s.barriers n (Awaits count []) }) j
       open_others j ne true e =
           released P codes N T R numbers s i c at.reached at.cores step_of.calls step_of.frames step_of.runs n 1 [] (Awaits count waiters)
-          (Awaits count []) here opened opens gates_open
+          (Awaits count []) here opened opens barriers_open
           j ne e refl (no_zero j)
       open_others j ne false e =
           same_other P codes N T R numbers s i c at.reached at.cores step_of.calls step_of.frames step_of.runs n 1 [] (Awaits count waiters)
-          (Awaits count []) here opened opens gates_open
+          (Awaits count []) here opened opens barriers_open
           j ne (sym e)
           (no_zero j
           ∙ sym (no_bit P codes N T R numbers s i c at.reached at.cores step_of.calls step_of.frames step_of.runs n 1 [] (Awaits count waiters)
-          (Awaits count []) here opened opens gates_open j e))
+          (Awaits count []) here opened opens barriers_open j e))
 
       serves_open : ServesWait (asks_barrier n 1 [])
       serves_open = record {
@@ -159,12 +159,12 @@ module _ (P : Program) (codes : Codes) (N : Numbers) (T : ℕ) (R : IsResolved P
           steps = ap outcome_of steps;
           stands =
               barrier_stands P codes N T R numbers s i c at.reached at.cores step_of.calls step_of.frames step_of.runs n 1 [] (Awaits count waiters)
-              (Awaits count []) here opened opens gates_open;
+              (Awaits count []) here opened opens barriers_open;
           own = record {
             frames = step_of.frames;
             runs =
                 own_slot P codes N T R numbers s i c at.reached at.cores step_of.calls step_of.frames step_of.runs n 1 [] (Awaits count waiters)
-                (Awaits count []) here opened opens gates_open;
+                (Awaits count []) here opened opens barriers_open;
             below = n_below;
             bit =
                 any_set_same (is_waiter i) s.barriers n (Awaits count []) (Awaits count waiters) here (sym apart) ∙ ap (λ (x : Local). x.waits) step_of.runs
@@ -181,16 +181,16 @@ module _ (P : Program) (codes : Codes) (N : Numbers) (T : ℕ) (R : IsResolved P
     -- ---- it joins
 
     module _ (fewer : length waiters + 1 < g.count) (steps : step P s i ≡ with_barrier (with_slot s i (Running step_of.frames)) n (Awaits count (i ∷ waiters))) where
-      abbrev shut : Gate
+      abbrev shut : CoreBarrier
       shut = record { count = g.count; waiting = with_waiter g i }
 
-      joins : granted_gate ≡ OfBarrier shut
+      joins : granted_barrier ≡ OfBarrier shut
       joins =
           ap (λ (b : Bool). OfBarrier (record { count = g.count; waiting = if b then with_waiter g i else replicate T 0 }))
           (less_is (total_of T (with_waiter g i)) g.count (let t = total in omega arith))
 
-      gates_shut : GateStands T shut (Awaits count (i ∷ waiters))
-      gates_shut = record {
+      barriers_shut : CoreBarrierStands T shut (Awaits count (i ∷ waiters))
+      barriers_shut = record {
         sized = length-set g.waiting i 1 ∙ before.stands.sized;
         bits = joined_bits;
         count = λ k ws e. let same : count ≡ k = cc in before.stands.count count waiters refl ∙ same;
@@ -201,7 +201,7 @@ module _ (P : Program) (codes : Codes) (N : Numbers) (T : ℕ) (R : IsResolved P
           (record s { slots = slice_set s.slots i (Running step_of.frames); barriers = slice_set s.barriers n (Awaits count (i ∷ waiters)) }) j
       shut_others j ne =
           same_other P codes N T R numbers s i c at.reached at.cores step_of.calls step_of.frames step_of.runs n 1 [] (Awaits count waiters)
-          (Awaits count (i ∷ waiters)) here shut joins gates_shut
+          (Awaits count (i ∷ waiters)) here shut joins barriers_shut
           j ne (ap (λ (b : Bool). b || list_any (nat_eq j) waiters) (other_is j i ne))
           (ap (λ (x : ℕ). nat_lt 0 x) (get_or-set_other g.waiting i j 1 0 ne))
 
@@ -216,13 +216,13 @@ module _ (P : Program) (codes : Codes) (N : Numbers) (T : ℕ) (R : IsResolved P
           stands =
               barrier_stands P codes N T R numbers s i c at.reached at.cores step_of.calls step_of.frames step_of.runs n 1 [] (Awaits count waiters)
               (Awaits count (i ∷ waiters)) here shut joins
-              gates_shut;
+              barriers_shut;
           own = record {
             frames = step_of.frames;
             runs =
                 own_slot P codes N T R numbers s i c at.reached at.cores step_of.calls step_of.frames step_of.runs n 1 [] (Awaits count waiters)
                 (Awaits count (i ∷ waiters)) here shut joins
-                gates_shut;
+                barriers_shut;
             below = n_below;
             bit =
                 waits_now

@@ -21,9 +21,9 @@ use Rattle.planned_block.proofs.Bits.{less_is}
 use Rattle.race_model.specs.Source.{Local, local_of, running, outcome_of}
 use Rattle.block_ir.specs.Asked.{act_value, Asked, Numbers, barrier_core}
 use Rattle.code_following.specs.Following.{print_formats, SameAct}
-use Rattle.core_states.specs.Machines.{Gate, gate_eligible}
+use Rattle.core_states.specs.Machines.{CoreBarrier, barrier_eligible}
 use Rattle.law_threads.specs.Cores.{Core, OfBarrier, may_grant, granted}
-use Rattle.law_threads.specs.Stands.{GateStands}
+use Rattle.law_threads.specs.Stands.{CoreBarrierStands}
 use Rattle.block_refine.specs.Routines.{Codes, Starts}
 use Rattle.block_refine.specs.RoutineActs.{IsStepOf}
 use Rattle.law_threads.specs.Requests.{AreNumbers, StandsAtAct, Serves, OwnAfter}
@@ -43,13 +43,13 @@ module _ (a : CodeAct) (m : ActOperand) (operation : ℕ) (ws : List ℕ) (P : P
     (variables : ℕ → ℤ) (arrays : Memory ℤ) (c : ℕ → Core) (ask : Asked) (at : StandsAtAct P codes N T s i f l next variables arrays a ask c)
     (step_of : IsStepOf P codes s i f next variables arrays a)
     (own : (d : ℕ → Core) (x : Local) → Starts P codes x f next variables arrays → OwnAfter P codes N d i x f next variables arrays a)
-    (always : (g : Gate) → gate_eligible g i operation ≡ true) where
+    (always : (g : CoreBarrier) → barrier_eligible g i operation ≡ true) where
   pub undefined : (offset : ℕ) → step P s i ≡ Undefines offset BarrierCause → ⊥
   undefined offset e = never P R s i offset BarrierCause step_of.calls at.reached at.defined step_of.runs e
 
   pub serve : (n : ℕ) (word : n < 2 ^ 64 → residue_of 64 (act_value variables m) ≡ n) (old new : Barrier) (here : slice_get s.barriers n ≡ Some old) (count : ℕ) →
       granted T (print_formats P) (OfBarrier (at.cores.barriers n old here).gate) i (asks_barrier n operation ws) ≡ OfBarrier (record { count = count; waiting = replicate T 0 }) →
-      GateStands T (record { count = count; waiting = replicate T 0 }) new → ((j : ℕ) → is_waiter j old ≡ false) → ((j : ℕ) → is_waiter j new ≡ false) →
+      CoreBarrierStands T (record { count = count; waiting = replicate T 0 }) new → ((j : ℕ) → is_waiter j old ≡ false) → ((j : ℕ) → is_waiter j new ≡ false) →
       step P s i ≡ with_barrier (with_slot s i (Running step_of.frames)) n new →
       Serves P codes N T s i f next variables arrays a (asks_barrier (residue_of 64 (act_value variables m)) operation ws) c
   serve n word old new here count becomes gates was now steps =
@@ -75,7 +75,7 @@ module _ (a : CodeAct) (m : ActOperand) (operation : ℕ) (ws : List ℕ) (P : P
             cc);
       })
     where
-      gate : Gate
+      gate : CoreBarrier
       gate = record { count = count; waiting = replicate T 0 }
 
       below : n < N.barriers
@@ -106,7 +106,7 @@ barrier_inits_are_steps m o P codes N T R numbers acts s i f l next variables ar
     same_ask = let e = at.asks in cc
 
     gates : (v : ℤ) → residue_of 64 (act_value variables o) ≡ residue_of 64 v → is_count v ≡ true →
-        GateStands T (record { count = residue_of 64 (act_value variables o); waiting = replicate T 0 }) (Awaits v [])
+        CoreBarrierStands T (record { count = residue_of 64 (act_value variables o); waiting = replicate T 0 }) (Awaits v [])
     gates v word counts = record {
       sized = length-replicate T 0;
       bits = λ j lt. zeros_at T j;
@@ -154,7 +154,7 @@ barrier_destroys_are_steps m P codes N T R numbers acts s i f l next variables a
     same_ask : asks_barrier (residue_of 64 (act_value variables m)) 2 [] ≡ ask
     same_ask = let e = at.asks in cc
 
-    gates : GateStands T (record { count = 0; waiting = replicate T 0 }) NoBarrier
+    gates : CoreBarrierStands T (record { count = 0; waiting = replicate T 0 }) NoBarrier
     gates = record {
       sized = length-replicate T 0;
       bits = λ j lt. zeros_at T j;

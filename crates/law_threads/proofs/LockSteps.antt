@@ -26,9 +26,9 @@ use Rattle.race_model.proofs.Lists.{get-set_cases}
 use Rattle.block_ir.specs.Asked.{act_value, Asked, Numbers, mutex_core, barrier_core, thread_ids_core, printer_core, core_of}
 use Rattle.block_ir.specs.declared.service.Service.TheVariants.{Mutex}
 use Rattle.code_following.specs.Following.{print_formats, SameAct}
-use Rattle.core_states.specs.Machines.{lock_eligible, lock_after}
+use Rattle.core_states.specs.Machines.{mutex_eligible, mutex_after}
 use Rattle.law_threads.specs.Cores.{Core, OfMutex, may_grant, status_in, argument_in, waits_in}
-use Rattle.law_threads.specs.Stands.{lock_of, StandsFor}
+use Rattle.law_threads.specs.Stands.{mutex_of, StandsFor}
 use Rattle.block_refine.specs.Routines.{Codes, Starts}
 use Rattle.block_refine.specs.RoutineActs.{IsStepOf}
 use Rattle.law_threads.specs.Requests.{AreNumbers, StandsAtAct, Serves, Other, Same, cores_after}
@@ -43,7 +43,7 @@ asks_mutex n operation = record { service = Mutex; core = n; number = operation;
 
 module _ (P : Program) (codes : Codes) (N : Numbers) (T : ℕ) (s : State) (i f next : ℕ) (variables : ℕ → ℤ) (arrays : Memory ℤ) (c : ℕ → Core)
     (stands : StandsFor N T c s) (calls frames : List Frame) (runs : local_of s i ≡ running calls) (starts : Starts P codes (running frames) f next variables arrays)
-    (n operation : ℕ) (old new : MutexState) (here : slice_get s.mutexes n ≡ Some old) (becomes : lock_after (lock_of old) i operation ≡ lock_of new) where
+    (n operation : ℕ) (old new : MutexState) (here : slice_get s.mutexes n ≡ Some old) (becomes : mutex_after (mutex_of old) i operation ≡ mutex_of new) where
   abbrev k : ℕ
   k = mutex_core N n
 
@@ -65,8 +65,8 @@ module _ (P : Program) (codes : Codes) (N : Numbers) (T : ℕ) (s : State) (i f 
   pub mutex_stands : StandsFor N T after t
   mutex_stands = record {
     mutexes = λ m x at. ⊎_elim
-        (λ same. subst (λ z. after (mutex_core N z) ≡ OfMutex (lock_of x)) same.0
-        (same_core T (print_formats P) k i (asks_mutex n operation) c (OfMutex (lock_of old)) (stands.mutexes n old here) ∙ ap OfMutex (becomes ∙ ap lock_of same.1)))
+        (λ same. subst (λ z. after (mutex_core N z) ≡ OfMutex (mutex_of x)) same.0
+        (same_core T (print_formats P) k i (asks_mutex n operation) c (OfMutex (mutex_of old)) (stands.mutexes n old here) ∙ ap OfMutex (becomes ∙ ap mutex_of same.1)))
         (λ other. others_stay (mutex_core N m) (λ e. other.0 (omega arith)) ∙ stands.mutexes m x other.1)
         (get-set_cases s.mutexes n m new x at);
     barriers = λ m b at.
@@ -129,7 +129,7 @@ module _ (m : ActOperand) (P : Program) (codes : Codes) (N : Numbers) (T : ℕ) 
           let few = numbers.few_mutexes in
           word (omega arith)
 
-      may : (old : MutexState) → slice_get s.mutexes n ≡ Some old → (b : Bool) → may_grant (c (mutex_core N n)) i (asks_mutex n 1) ≡ b → lock_eligible (lock_of old) 1 ≡ b
+      may : (old : MutexState) → slice_get s.mutexes n ≡ Some old → (b : Bool) → may_grant (c (mutex_core N n)) i (asks_mutex n 1) ≡ b → mutex_eligible (mutex_of old) 1 ≡ b
       may old here b e = sym (ap (λ (z : Core). may_grant z i (asks_mutex n 1)) (at.cores.mutexes n old here)) ∙ e
 
       go : (o : Option MutexState) → slice_get s.mutexes n ≡ o → step P s i ≡ mutex_locked (with_slot s i (Running step_of.frames)) i offset n o →

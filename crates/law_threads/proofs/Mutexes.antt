@@ -19,9 +19,9 @@ use Rattle.block_ir.specs.declared.code.ActOperand.{ActOperand}
 use Rattle.planned_block.proofs.Bits.{less_is}
 use Rattle.race_model.specs.Source.{Local, outcome_of}
 use Rattle.block_ir.specs.Asked.{act_value, Asked, Numbers, mutex_core}
-use Rattle.core_states.specs.Machines.{Lock, lock_eligible, lock_after}
+use Rattle.core_states.specs.Machines.{CoreMutex, mutex_eligible, mutex_after}
 use Rattle.law_threads.specs.Cores.{Core, may_grant}
-use Rattle.law_threads.specs.Stands.{lock_of}
+use Rattle.law_threads.specs.Stands.{mutex_of}
 use Rattle.code_following.specs.Following.{SameAct}
 use Rattle.block_refine.specs.Routines.{Codes, Starts}
 use Rattle.block_refine.specs.RoutineActs.{IsStepOf}
@@ -35,12 +35,12 @@ module _ (a : CodeAct) (m : ActOperand) (operation : ℕ) (P : Program) (codes :
     (variables : ℕ → ℤ) (arrays : Memory ℤ) (c : ℕ → Core) (ask : Asked) (at : StandsAtAct P codes N T s i f l next variables arrays a ask c)
     (step_of : IsStepOf P codes s i f next variables arrays a)
     (own : (d : ℕ → Core) (x : Local) → Starts P codes x f next variables arrays → OwnAfter P codes N d i x f next variables arrays a)
-    (always : (l : Lock) → lock_eligible l operation ≡ true) where
+    (always : (l : CoreMutex) → mutex_eligible l operation ≡ true) where
   pub undefined : (offset : ℕ) → step P s i ≡ Undefines offset Mutex → ⊥
   undefined offset e = never P R s i offset Mutex step_of.calls at.reached at.defined step_of.runs e
 
   pub serve : (n : ℕ) (word : n < 2 ^ 64 → residue_of 64 (act_value variables m) ≡ n) (old new : MutexState) → slice_get s.mutexes n ≡ Some old →
-      lock_after (lock_of old) i operation ≡ lock_of new → step P s i ≡ with_mutex (with_slot s i (Running step_of.frames)) n new →
+      mutex_after (mutex_of old) i operation ≡ mutex_of new → step P s i ≡ with_mutex (with_slot s i (Running step_of.frames)) n new →
       Serves P codes N T s i f next variables arrays a (asks_mutex (residue_of 64 (act_value variables m)) operation) c
   serve n word old new here becomes steps =
       subst (λ z. Serves P codes N T s i f next variables arrays a (asks_mutex z operation) c) (sym (word few))
@@ -61,7 +61,7 @@ module _ (a : CodeAct) (m : ActOperand) (operation : ℕ) (P : Program) (codes :
         };
         waits = λ no.
             absurd (let t : true ≡ false =
-            sym (always (lock_of old)) ∙ sym (ap (λ (z : Core). may_grant z i (asks_mutex n operation)) (at.cores.mutexes n old here)) ∙ no in
+            sym (always (mutex_of old)) ∙ sym (ap (λ (z : Core). may_grant z i (asks_mutex n operation)) (at.cores.mutexes n old here)) ∙ no in
             cc);
       })
     where
@@ -152,18 +152,18 @@ unlocks_are_steps m P codes N T R numbers acts s i f l next variables arrays ask
     same_ask : asks_mutex (residue_of 64 (act_value variables m)) 2 ≡ ask
     same_ask = let e = at.asks in cc
 
-    own_lock : (offset n j : ℕ) → (n < 2 ^ 64 → residue_of 64 (act_value variables m) ≡ n) → slice_get s.mutexes n ≡ Some (mutex.Owned j) → (b : Bool) →
+    own_mutex : (offset n j : ℕ) → (n < 2 ^ 64 → residue_of 64 (act_value variables m) ≡ n) → slice_get s.mutexes n ≡ Some (mutex.Owned j) → (b : Bool) →
         step P s i ≡ (if b then with_mutex (with_slot s i (Running there.frames)) n mutex.Free else Undefines offset Mutex) →
         Serves P codes N T s i f next variables arrays (act.MutexUnlock m) (asks_mutex (residue_of 64 (act_value variables m)) 2) c
-    own_lock offset n j word here true e =
+    own_mutex offset n j word here true e =
         serve (act.MutexUnlock m) m 2 P codes N T R numbers s i f l next variables arrays c ask at there (λ d x h. h) (λ l. refl) n word (mutex.Owned j) mutex.Free here refl e
-    own_lock offset n j word here false e =
+    own_mutex offset n j word here false e =
         absurd (undefined (act.MutexUnlock m) m 2 P codes N T R numbers s i f l next variables arrays c ask at there (λ d x h. h) (λ l. refl) offset e)
 
     cases : (offset n : ℕ) → (n < 2 ^ 64 → residue_of 64 (act_value variables m) ≡ n) → (o : Option MutexState) → slice_get s.mutexes n ≡ o →
         step P s i ≡ mutex_unlocked (with_slot s i (Running there.frames)) i offset n o →
         Serves P codes N T s i f next variables arrays (act.MutexUnlock m) (asks_mutex (residue_of 64 (act_value variables m)) 2) c
-    cases offset n word (Some (mutex.Owned j)) here e = own_lock offset n j word here (nat_eq i j) e
+    cases offset n word (Some (mutex.Owned j)) here e = own_mutex offset n j word here (nat_eq i j) e
     cases offset n word None here e =
         absurd (undefined (act.MutexUnlock m) m 2 P codes N T R numbers s i f l next variables arrays c ask at there (λ d x h. h) (λ l. refl) offset e)
     cases offset n word (Some mutex.Uninitialised) here e =

@@ -4,9 +4,9 @@ use Rattle.std.specs.List.{AllByRecursion, IsDistinct}
 use Rattle.c_program.specs.Tree.{Piece}
 use Rattle.thread_semantics.specs.State.{Awaits}
 use Rattle.block_ir.specs.Asked.{Asked}
-use Rattle.core_states.specs.Machines.{Gate, total_of}
+use Rattle.core_states.specs.Machines.{CoreBarrier, total_of}
 use Rattle.law_threads.specs.Cores.{Core, may_grant, granted, status_in, argument_in, waits_in}
-use Rattle.law_threads.specs.Stands.{GateStands}
+use Rattle.law_threads.specs.Stands.{CoreBarrierStands}
 
 -- GRANTS KEEP: whoever runs, by a core, runs after a grant of it to another thread, with its argument
 abbrev pub RunnersStay : Type 0
@@ -22,5 +22,5 @@ PassersStay =
 -- WAITERS COUNT: as many bits of a barrier's core are set as threads wait there
 abbrev pub WaitersCount : Type 0
 WaitersCount =
-    (T : ℕ) (g : Gate) (count : ℤ) (waiters : List ℕ) → GateStands T g (Awaits count waiters) → IsDistinct nat_eq waiters → AllByRecursion (λ w. w < T) waiters →
+    (T : ℕ) (g : CoreBarrier) (count : ℤ) (waiters : List ℕ) → CoreBarrierStands T g (Awaits count waiters) → IsDistinct nat_eq waiters → AllByRecursion (λ w. w < T) waiters →
     total_of T g.waiting ≡ length waiters

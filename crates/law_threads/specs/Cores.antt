@@ -4,13 +4,13 @@ use Rattle.std.specs.Prelude.{ℕ, Bool, true, false, nat_eq, nat_lt, if◌then�
 use Rattle.c_program.specs.Tree.{Piece}
 use Rattle.block_ir.specs.Asked.{Asked, Numbers, barrier_core, thread_ids_core, first_word, second_word}
 pub use Rattle.block_refine.specs.Acts.{printed_words}
-use Rattle.core_states.specs.Machines.{Lock, lock_eligible, lock_after, Gate, gate_eligible, gate_after, IdTable, ids_eligible, ids_after}
+use Rattle.core_states.specs.Machines.{CoreMutex, mutex_eligible, mutex_after, CoreBarrier, barrier_eligible, barrier_after, IdTable, ids_eligible, ids_after}
 
 -- of a bank nothing is said: what banks have is the memory and the words of slots
 pub data Core : Type 0 where
   OfBank : Core
-  OfMutex : (lock : Lock) → Core
-  OfBarrier : (gate : Gate) → Core
+  OfMutex : (lock : CoreMutex) → Core
+  OfBarrier : (gate : CoreBarrier) → Core
   OfThreadIds : (thread_ids : IdTable) → Core
   OfPrinter : (bytes : List ℕ) → Core
 
@@ -24,8 +24,8 @@ text_at (Some format) ws = printed_words format ws
 -- whether the core may grant thread i what it asks
 abbrev pub may_grant : Core → ℕ → Asked → Bool
 may_grant OfBank i a = false
-may_grant (OfMutex l) i a = lock_eligible l a.number
-may_grant (OfBarrier g) i a = gate_eligible g i a.number
+may_grant (OfMutex l) i a = mutex_eligible l a.number
+may_grant (OfBarrier g) i a = barrier_eligible g i a.number
 may_grant (OfThreadIds t) i a = ids_eligible t a.number (first_word a.values)
 may_grant (OfPrinter bytes) i a = true
 
@@ -34,8 +34,8 @@ module _ (threads : ℕ) (formats : List (List Piece)) where
   -- the core after a grant to thread i
   abbrev pub granted : Core → ℕ → Asked → Core
   granted OfBank i a = OfBank
-  granted (OfMutex l) i a = OfMutex (lock_after l i a.number)
-  granted (OfBarrier g) i a = OfBarrier (gate_after threads g i a.number (first_word a.values))
+  granted (OfMutex l) i a = OfMutex (mutex_after l i a.number)
+  granted (OfBarrier g) i a = OfBarrier (barrier_after threads g i a.number (first_word a.values))
   granted (OfThreadIds t) i a = OfThreadIds (ids_after t i a.number (first_word a.values) (second_word a.values))
   granted (OfPrinter bytes) i a = OfPrinter (bytes ++ text_at (slice_get formats a.number) a.values)
 
@@ -46,15 +46,15 @@ module _ (threads : ℕ) (formats : List (List Piece)) where
 -- ---- what a thread is told
 
 -- a core that is no barrier's has none that wait, and one that is not that of the thread ids has none that run
-abbrev pub no_gate : Gate
-no_gate = record { count = 0; waiting = [] }
+abbrev pub no_barrier : CoreBarrier
+no_barrier = record { count = 0; waiting = [] }
 
 abbrev pub no_thread_ids : IdTable
 no_thread_ids = record { statuses = []; arguments = [] }
 
-abbrev pub gate_in : Core → Gate
-gate_in (OfBarrier g) = g
-gate_in _ = no_gate
+abbrev pub barrier_in : Core → CoreBarrier
+barrier_in (OfBarrier g) = g
+barrier_in _ = no_barrier
 
 abbrev pub thread_ids_in : Core → IdTable
 thread_ids_in (OfThreadIds t) = t
@@ -67,7 +67,7 @@ abbrev pub argument_in : Core → ℕ → ℕ
 argument_in k i = slice_index (thread_ids_in k).arguments i
 
 abbrev pub waits_in : Core → ℕ → Bool
-waits_in k i = nat_lt 0 (slice_index (gate_in k).waiting i)
+waits_in k i = nat_lt 0 (slice_index (barrier_in k).waiting i)
 
 module _ (N : Numbers) (c : ℕ → Core) where
   -- the status of thread i, 0 unused, 1 running, 2 finished; and its argument, a word of 64 bits

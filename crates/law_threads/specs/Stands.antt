@@ -6,27 +6,27 @@ use Rattle.thread_semantics.specs.declared.object.MutexState.TheVariants as mute
 use Rattle.thread_semantics.specs.State.{Slot, Barrier, Awaits, State}
 use Rattle.thread_semantics.specs.Step.{is_unused, is_running, is_waiter}
 use Rattle.block_ir.specs.Asked.{Numbers, mutex_core, barrier_core, thread_ids_core, printer_core}
-use Rattle.core_states.specs.Machines.{Lock, Unset, Free, Owned, Gate, IdTable}
+use Rattle.core_states.specs.Machines.{CoreMutex, Unset, Free, Owned, CoreBarrier, IdTable}
 use Rattle.law_threads.specs.Cores.{Core, OfMutex, OfBarrier, OfThreadIds, OfPrinter}
 
-abbrev pub lock_of : MutexState → Lock
-lock_of mutex.Uninitialised = Unset
-lock_of mutex.Free = Free
-lock_of (mutex.Owned i) = Owned i
+abbrev pub mutex_of : MutexState → CoreMutex
+mutex_of mutex.Uninitialised = Unset
+mutex_of mutex.Free = Free
+mutex_of (mutex.Owned i) = Owned i
 
 abbrev pub status_of : Slot → ℕ
 status_of slot = if is_unused slot then 0 else (if is_running (Some slot) then 1 else 2)
 
-pub record GateStands (T : ℕ) (g : Gate) (b : Barrier) : Type 0 where
+pub record CoreBarrierStands (T : ℕ) (g : CoreBarrier) (b : Barrier) : Type 0 where
   pub sized : length g.waiting ≡ T
   pub bits : (i : ℕ) → i < T → slice_index g.waiting i ≡ bit_of (is_waiter i b)
   pub count : (count : ℤ) (waiters : List ℕ) → b ≡ Awaits count waiters → pos g.count ≡ count
 
 -- the core of a barrier, and that of the thread ids; id 0 is main, which is not kept there
 pub record BarrierStands (T : ℕ) (k : Core) (b : Barrier) : Type 0 where
-  pub gate : Gate
+  pub gate : CoreBarrier
   pub is : k ≡ OfBarrier gate
-  pub stands : GateStands T gate b
+  pub stands : CoreBarrierStands T gate b
 
 pub record ThreadIdsStand (T : ℕ) (k : Core) (slots : List Slot) : Type 0 where
   pub thread_ids : IdTable
@@ -38,7 +38,7 @@ pub record ThreadIdsStand (T : ℕ) (k : Core) (slots : List Slot) : Type 0 wher
 
 -- THE CORES STAND FOR THE STATE
 pub record StandsFor (N : Numbers) (T : ℕ) (c : ℕ → Core) (s : State) : Type 0 where
-  pub mutexes : (n : ℕ) (m : MutexState) → slice_get s.mutexes n ≡ Some m → c (mutex_core N n) ≡ OfMutex (lock_of m)
+  pub mutexes : (n : ℕ) (m : MutexState) → slice_get s.mutexes n ≡ Some m → c (mutex_core N n) ≡ OfMutex (mutex_of m)
   pub barriers : (n : ℕ) (b : Barrier) → slice_get s.barriers n ≡ Some b → BarrierStands T (c (barrier_core N n)) b
   pub thread_ids : N.thread_ids ≡ true → ThreadIdsStand T (c (thread_ids_core N)) s.slots
   pub output : c (printer_core N) ≡ OfPrinter s.output

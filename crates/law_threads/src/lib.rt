@@ -20,15 +20,9 @@ pub fn planned_threads()
     ensures end_is_marked { (P : _) (codes : _) (N : _) (T : _) (spreads : _) (chain : _) → MarksThreads P codes N T spreads chain }
     // A thread that asks nothing that may be granted, and does not wake, is blocked.
     ensures what_blocks { (P : _) (codes : _) (N : _) (T : _) (spreads : _) (chain : _) → WhatBlocks P codes N T spreads chain }
-{}
-
-/// A grant to another thread leaves what a thread is told that runs, or that waits at no barrier.
-pub fn grants_keep()
-    ensures runners { RunnersStay }
-    ensures passers { PassersStay }
-{}
-
-/// The bits of a barrier's core count the threads that wait there.
-pub fn bits_count()
-    ensures count { WaitersCount }
+    // A grant to another thread leaves what a thread is told that runs, or that waits at no barrier.
+    ensures runners_stay { RunnersStay }
+    ensures passers_stay { PassersStay }
+    // The bits of a barrier's core count the threads that wait there.
+    ensures waiters_count { WaitersCount }
 {}
