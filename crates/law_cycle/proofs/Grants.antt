@@ -6,11 +6,11 @@ use Rattle.c_program.specs.Tree.{Piece}
 use Rattle.circuit.specs.Rows.{spread}
 use Rattle.planned_block.proofs.Bits.{is_same}
 use Rattle.block_ir.specs.Asked.{Asked, first_word, second_word}
-use Rattle.core_states.specs.Machines.{lock_eligible, lock_after, Gate, gate_eligible, gate_met, gate_after, IdTable, ids_eligible, ids_after}
+use Rattle.core_states.specs.Machines.{mutex_eligible, mutex_after, CoreBarrier, barrier_eligible, barrier_waited, barrier_after, IdTable, ids_eligible, ids_after}
 use Rattle.bank_cores.specs.declared.bank.Shape.{Shape as BankShape}
 use Rattle.mutex_cores.specs.declared.mutex.Shape.{Shape as MutexShape}
 use Rattle.barrier_cores.specs.declared.barrier.Shape.{Shape as BarrierShape}
-use Rattle.thread_id_cores.specs.declared.forks.Shape.{Shape as ThreadIdsShape}
+use Rattle.thread_id_cores.specs.declared.thread_ids.Shape.{Shape as ThreadIdsShape}
 use Rattle.printer_cores.specs.declared.printer.Shape.{Shape as PrinterShape}
 use Rattle.printer_cores.specs.Machine.{bytes_of_site}
 use Rattle.law_threads.specs.Cores.{OfBank, OfMutex, OfBarrier, OfThreadIds, OfPrinter, may_grant, granted, text_at}
@@ -19,16 +19,16 @@ use Rattle.law_cycle.specs.Stage.{shown_as}
 
 -- ---- what an operation does not use changes nothing
 
-abbrev gate_by : ℕ → Gate → ℕ → ℕ → ℕ → Bool → Gate
-gate_by n g i operation count init =
-    if nat_eq operation 1 then gate_met n g i else (if nat_eq operation 3 then g else record { count = if init then count else 0; waiting = replicate n 0 })
+abbrev barrier_by : ℕ → CoreBarrier → ℕ → ℕ → ℕ → Bool → CoreBarrier
+barrier_by n g i operation count init =
+    if nat_eq operation 1 then barrier_waited n g i else (if nat_eq operation 3 then g else record { count = if init then count else 0; waiting = replicate n 0 })
 
-gate_count : (n : ℕ) (g : Gate) (i operation x y : ℕ) → (operation ≡ 0 → x ≡ y) → gate_after n g i operation x ≡ gate_after n g i operation y
-gate_count n g i operation x y same = by (nat_eq operation 0) refl
+counts_alike : (n : ℕ) (g : CoreBarrier) (i operation x y : ℕ) → (operation ≡ 0 → x ≡ y) → barrier_after n g i operation x ≡ barrier_after n g i operation y
+counts_alike n g i operation x y same = by (nat_eq operation 0) refl
   where
-    by : (b : Bool) → nat_eq operation 0 ≡ b → gate_after n g i operation x ≡ gate_after n g i operation y
-    by true e = ap (gate_after n g i operation) (same (is_same operation 0 e))
-    by false e = ap (gate_by n g i operation x) e ∙ sym (ap (gate_by n g i operation y) e)
+    by : (b : Bool) → nat_eq operation 0 ≡ b → barrier_after n g i operation x ≡ barrier_after n g i operation y
+    by true e = ap (barrier_after n g i operation) (same (is_same operation 0 e))
+    by false e = ap (barrier_by n g i operation x) e ∙ sym (ap (barrier_by n g i operation y) e)
 
 abbrev may_by : IdTable → ℕ → Bool → Bool → Bool
 may_by t id create join = if create then not (nat_eq (slice_index t.statuses id) 1) else (if join then nat_eq (slice_index t.statuses id) 2 else true)
@@ -70,7 +70,7 @@ pub mutex_may : (o : Option CoreKind) (s : MutexShape) → o ≡ Some (Mutex s) 
     MayAlike o state out i f a
 mutex_may None s e state out i f a number = absurd cc
 mutex_may (Some (Bank c)) s e state out i f a number = absurd cc
-mutex_may (Some (Mutex c)) s e state out i f a number = ap (λ n. nat_lt 0 (f 0) && lock_eligible state n) number
+mutex_may (Some (Mutex c)) s e state out i f a number = ap (λ n. nat_lt 0 (f 0) && mutex_eligible state n) number
 mutex_may (Some (Barrier c)) s e state out i f a number = absurd cc
 mutex_may (Some (ThreadIds c)) s e state out i f a number = absurd cc
 mutex_may (Some (Printer c)) s e state out i f a number = absurd cc
@@ -79,7 +79,7 @@ pub mutex_does : (T : ℕ) (formats : List (List Piece)) (o : Option CoreKind) (
     (f : ℕ → ℕ) (a : Asked) → f 1 ≡ a.number → DoesAlike T formats o state out after i f a
 mutex_does T formats None s e state out after i f a number = absurd cc
 mutex_does T formats (Some (Bank c)) s e state out after i f a number = absurd cc
-mutex_does T formats (Some (Mutex c)) s e state out after i f a number = ap (λ n. OfMutex (lock_after state i n)) number
+mutex_does T formats (Some (Mutex c)) s e state out after i f a number = ap (λ n. OfMutex (mutex_after state i n)) number
 mutex_does T formats (Some (Barrier c)) s e state out after i f a number = absurd cc
 mutex_does T formats (Some (ThreadIds c)) s e state out after i f a number = absurd cc
 mutex_does T formats (Some (Printer c)) s e state out after i f a number = absurd cc
@@ -90,7 +90,7 @@ pub barrier_may : (o : Option CoreKind) (s : BarrierShape) → o ≡ Some (Barri
 barrier_may None s e state out i f a number = absurd cc
 barrier_may (Some (Bank c)) s e state out i f a number = absurd cc
 barrier_may (Some (Mutex c)) s e state out i f a number = absurd cc
-barrier_may (Some (Barrier c)) s e state out i f a number = ap (λ n. nat_lt 0 (f 0) && gate_eligible state i n) number
+barrier_may (Some (Barrier c)) s e state out i f a number = ap (λ n. nat_lt 0 (f 0) && barrier_eligible state i n) number
 barrier_may (Some (ThreadIds c)) s e state out i f a number = absurd cc
 barrier_may (Some (Printer c)) s e state out i f a number = absurd cc
 
@@ -102,8 +102,8 @@ barrier_does T formats (Some (Mutex c)) s e many state out after i f a number co
 barrier_does T formats (Some (Barrier c)) s e many state out after i f a number count =
     let same : c ≡ s = cc in
     let threads : c.threads ≡ T = ap (λ (z : BarrierShape). z.threads) same ∙ many in
-    ap (λ n. OfBarrier (gate_after n state i (f 1) (f 2))) threads ∙ ap (λ n. OfBarrier (gate_after T state i n (f 2))) number
-    ∙ ap OfBarrier (gate_count T state i a.number (f 2) (first_word a.values) count)
+    ap (λ n. OfBarrier (barrier_after n state i (f 1) (f 2))) threads ∙ ap (λ n. OfBarrier (barrier_after T state i n (f 2))) number
+    ∙ ap OfBarrier (counts_alike T state i a.number (f 2) (first_word a.values) count)
 barrier_does T formats (Some (ThreadIds c)) s e many state out after i f a number count = absurd cc
 barrier_does T formats (Some (Printer c)) s e many state out after i f a number count = absurd cc
 

@@ -7,7 +7,7 @@ use Rattle.hls_ints.specs.Residues.{residue_of, bit_of}
 use Rattle.c_program.specs.Tree.{Program}
 use Rattle.interleaving.specs.Memory.{Access}
 use Rattle.bank_cores.specs.Machine.{ask_of}
-use Rattle.thread_id_cores.specs.declared.forks.Shape.{Shape as ThreadIdsShape}
+use Rattle.thread_id_cores.specs.declared.thread_ids.Shape.{Shape as ThreadIdsShape}
 use Rattle.barrier_cores.specs.declared.barrier.Shape.{Shape as BarrierShape}
 use Rattle.block_ir.specs.declared.block.Block.{Block}
 use Rattle.block_ir.specs.declared.code.Stage.{Stage as CodeStage}
@@ -30,7 +30,7 @@ use Rattle.thread_promise.specs.Globals.{bank_of}
 use Rattle.thread_promise.specs.Promise.{is_run, went_on}
 use Rattle.thread_promise.specs.Moves.{meeting, set_out, stage_after}
 use Rattle.core_states.specs.Machines.{ids_tell}
-use Rattle.law_threads.specs.Cores.{Core, gate_in, thread_ids_in, status_at}
+use Rattle.law_threads.specs.Cores.{Core, barrier_in, thread_ids_in, status_at}
 use Rattle.law_threads.specs.Surroundings.{routine_of, Sets_out, Goes_on}
 use Rattle.core_family.specs.Family.{CoreKind, Bank, Mutex, Barrier, ThreadIds, Printer, machine_of}
 use Rattle.law_banks.specs.Cycle.{Does, InBlock}
@@ -61,7 +61,7 @@ tells_thread_ids (Some (ThreadIds c)) s e state out i j = refl
 tells_thread_ids (Some (Printer c)) s e state out i j = absurd cc
 
 tells_bit : (o : Option CoreKind) (s : BarrierShape) → o ≡ Some (Barrier s) → (state : (machine_of o).State) (out : List ℕ) (i : ℕ) →
-    (machine_of o).tells state i 0 ≡ slice_index (gate_in (shown_as o state out)).waiting i
+    (machine_of o).tells state i 0 ≡ slice_index (barrier_in (shown_as o state out)).waiting i
 tells_bit None s e state out i = absurd cc
 tells_bit (Some (Bank c)) s e state out i = absurd cc
 tells_bit (Some (Mutex c)) s e state out i = absurd cc
@@ -82,7 +82,7 @@ thread_ids_told P K built i lt other h j =
 
 -- and each its bit at a barrier
 pub bit_told : (P : Program) (K : Parts) (i : ℕ) (h : Stage P K) (n : ℕ) → n < K.cores.barriers →
-    news P K h.net i (barrier_core (numbers_of K.cores) n) 0 ≡ slice_index (gate_in (cores_shown P K h.net h.out (barrier_core (numbers_of K.cores) n))).waiting i
+    news P K h.net i (barrier_core (numbers_of K.cores) n) 0 ≡ slice_index (barrier_in (cores_shown P K h.net h.out (barrier_core (numbers_of K.cores) n))).waiting i
 bit_told P K i h n l =
     tells_bit (core_at K.cores (barrier_core (numbers_of K.cores) n)) (record { threads = K.cores.threads }) (barrier_at K.cores n l) (h.net.states (barrier_core (numbers_of K.cores) n)) h.out i
 

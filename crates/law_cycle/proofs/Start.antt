@@ -9,9 +9,9 @@ use Rattle.block_ir.specs.Asked.{mutex_core, barrier_core, thread_ids_core, prin
 use Rattle.block_refine.specs.Routines.{rest_of}
 use Rattle.circuit.specs.Wiring.{start}
 use Rattle.mutex_cores.specs.declared.mutex.Shape.{Shape as MutexShape}
-use Rattle.mutex_cores.specs.Machine.{first_lock}
+use Rattle.mutex_cores.specs.Machine.{initial_mutex}
 use Rattle.barrier_cores.specs.declared.barrier.Shape.{Shape as BarrierShape}
-use Rattle.thread_id_cores.specs.declared.forks.Shape.{Shape as ThreadIdsShape}
+use Rattle.thread_id_cores.specs.declared.thread_ids.Shape.{Shape as ThreadIdsShape}
 use Rattle.printer_cores.specs.declared.printer.Shape.{Shape as PrinterShape}
 use Rattle.leaf_machine.specs.Leaves.{leaf_thread}
 use Rattle.leaf_machine.proofs.Leaves.{leaf_keeps_slots}
@@ -33,10 +33,10 @@ use Rattle.law_cycle.proofs.Steps.{is_thread}
 
 -- ---- what cores begin with
 
-mutex_begins : (o : Option CoreKind) (s : MutexShape) → o ≡ Some (Mutex s) → shown_as o (machine_of o).start [] ≡ OfMutex (first_lock s.initialised)
+mutex_begins : (o : Option CoreKind) (s : MutexShape) → o ≡ Some (Mutex s) → shown_as o (machine_of o).start [] ≡ OfMutex (initial_mutex s.initialised)
 mutex_begins None s e = absurd cc
 mutex_begins (Some (Bank c)) s e = absurd cc
-mutex_begins (Some (Mutex c)) s e = let same : c ≡ s = cc in ap (λ (z : MutexShape). OfMutex (first_lock z.initialised)) same
+mutex_begins (Some (Mutex c)) s e = let same : c ≡ s = cc in ap (λ (z : MutexShape). OfMutex (initial_mutex z.initialised)) same
 mutex_begins (Some (Barrier c)) s e = absurd cc
 mutex_begins (Some (ThreadIds c)) s e = absurd cc
 mutex_begins (Some (Printer c)) s e = absurd cc

@@ -17,7 +17,7 @@ use Rattle.block_refine.specs.Routines.{stage_at, rest_of, blocks_of, plans_of, 
 use Rattle.verilog_meaning.specs.Cycles.{Choice}
 use Rattle.circuit.specs.Wiring.{is_enabled, start}
 use Rattle.mutex_cores.specs.declared.mutex.Shape.{Shape as MutexShape}
-use Rattle.mutex_cores.specs.Machine.{first_lock}
+use Rattle.mutex_cores.specs.Machine.{initial_mutex}
 use Rattle.leaf_machine.specs.Leaves.{leaf_thread}
 use Rattle.thread_promise.specs.Globals.{bank_of}
 use Rattle.thread_promise.specs.Moves.{first_slot}
@@ -113,7 +113,7 @@ pub record First (P : Program) (K : Parts) : Type 0 where
   pub out : stage.out ≡ []
   pub slots : (i : ℕ) → stage.slots i ≡ first_slot (nat_eq i 0) (routine_of P i) (rest_of K.codes (routine_of P i))
   pub memory : (l : Location) → stage.memory l ≡ memory_of (first_state P).globals l
-  pub mutexes : (n : ℕ) (s : MutexShape) → slice_get K.cores.mutexes n ≡ Some s → cores_shown P K stage.net [] (mutex_core (numbers_of K.cores) n) ≡ OfMutex (first_lock s.initialised)
+  pub mutexes : (n : ℕ) (s : MutexShape) → slice_get K.cores.mutexes n ≡ Some s → cores_shown P K stage.net [] (mutex_core (numbers_of K.cores) n) ≡ OfMutex (initial_mutex s.initialised)
   pub barriers : (n : ℕ) → n < K.cores.barriers →
       cores_shown P K stage.net [] (barrier_core (numbers_of K.cores) n) ≡ OfBarrier (record { count = 0; waiting = replicate K.cores.threads 0 })
   pub thread_ids : K.cores.thread_ids ≡ true →
