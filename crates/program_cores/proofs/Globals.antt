@@ -23,7 +23,8 @@ use Rattle.bank_partition.proofs.BankCount.{count_is}
 use Rattle.bank_cores.specs.declared.bank.Shape.{Shape as Bank}
 use Rattle.thread_promise.specs.Globals.{IsSmallPower, bank_total}
 use Rattle.law_banks.specs.Partition.{ArePartitioned}
-use Rattle.law_banks.proofs.Banks.{total_cons, totals, below_all}
+use Rattle.thread_promise.proofs.BankTotal.{total_cons}
+use Rattle.law_banks.proofs.Banks.{totals, below_all}
 use Rattle.core_places.specs.Kinds.{IsWantedBank}
 use Rattle.program_cores.specs.Banks.{core_shape, core_shapes, IsNamed, AreNamed}
 

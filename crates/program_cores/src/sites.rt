@@ -62,9 +62,10 @@ fn push_sites(
         rest = next;
     }
     match rest {
-        Statement::Block(body) | Statement::While(_, body) | Statement::DoWhile(body, _) => {
-            push_sites(alloc, body, sites)
-        }
+        Statement::Block(body)
+        | Statement::While(_, body)
+        | Statement::DoWhile(body, _)
+        | Statement::Switch(_, _, _, body) => push_sites(alloc, body, sites),
         Statement::If(_, consequent, alternative) => {
             push_sites(alloc, consequent, sites)?;
             push_sites(alloc, alternative, sites)
