@@ -9,10 +9,10 @@ use Rattle.thread_semantics.specs.declared.object.MutexState.{MutexState}
 use Rattle.thread_semantics.specs.declared.object.MutexState.TheVariants as mutex
 use Rattle.thread_semantics.specs.State.{first_mutex, first_mutexes, start}
 use Rattle.mutex_cores.specs.declared.mutex.Shape.{Shape as MutexShape}
-use Rattle.mutex_cores.specs.Machine.{first_lock}
+use Rattle.mutex_cores.specs.Machine.{initial_mutex}
 use Rattle.block_ir.specs.Asked.{Numbers, mutex_core, barrier_core, thread_ids_core, printer_core}
 use Rattle.law_threads.specs.Cores.{Core, OfMutex}
-use Rattle.law_threads.specs.Stands.{lock_of}
+use Rattle.law_threads.specs.Stands.{mutex_of}
 use Rattle.law_banks.proofs.Partitioned.{there}
 use Rattle.law_cycle.specs.Built.{Parts, IsBuilt, Machine}
 use Rattle.law_cycle.specs.Bodies.{numbers_of}
@@ -63,16 +63,16 @@ module _ (P : Program) (K : Parts) (built : IsBuilt P K) where
   nothing_yet : (k : ℕ) → cores k ≡ cores_shown P K net [] k
   nothing_yet k = ap (λ (out : List ℕ). cores_shown P K net out k) begin.out
 
-  is_lock : (n : ℕ) (m : MutexState) (s : MutexShape) → slice_get (start P).mutexes n ≡ Some m → slice_get K.cores.mutexes n ≡ Some s → first_lock s.initialised ≡ lock_of m
-  is_lock n mutex.Free s e listed = ap first_lock ((built.mutexes.free n s listed).1 e)
+  is_lock : (n : ℕ) (m : MutexState) (s : MutexShape) → slice_get (start P).mutexes n ≡ Some m → slice_get K.cores.mutexes n ≡ Some s → initial_mutex s.initialised ≡ mutex_of m
+  is_lock n mutex.Free s e listed = ap initial_mutex ((built.mutexes.free n s listed).1 e)
   is_lock n mutex.Uninitialised s e listed = by s.initialised refl
     where
-      by : (b : Bool) → s.initialised ≡ b → first_lock s.initialised ≡ lock_of mutex.Uninitialised
+      by : (b : Bool) → s.initialised ≡ b → initial_mutex s.initialised ≡ mutex_of mutex.Uninitialised
       by true on = absurd (let free = sym e ∙ (built.mutexes.free n s listed).0 on in cc)
-      by false off = ap first_lock off
+      by false off = ap initial_mutex off
   is_lock n (mutex.Owned i) s e listed = absurd (nobody_owns P.mutexes n (mutex.Owned i) e)
 
-  first_mutex_is : (n : ℕ) (m : MutexState) → slice_get (start P).mutexes n ≡ Some m → cores (mutex_core N n) ≡ OfMutex (lock_of m)
+  first_mutex_is : (n : ℕ) (m : MutexState) → slice_get (start P).mutexes n ≡ Some m → cores (mutex_core N n) ≡ OfMutex (mutex_of m)
   first_mutex_is n m e =
       let lt = slice_get_within (start P).mutexes n m e in
       let all = mutexes_counted P.mutexes in

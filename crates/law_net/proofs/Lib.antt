@@ -27,8 +27,8 @@ pub mod MachineFollows
 pub mod Masks
 pub mod ModuleNames
 pub mod SameNames
-pub mod NetFollows
 pub mod NetFollowsFrom
+pub mod NetFollows
 pub mod PartsAreGood
 pub mod PortableTexts
 pub mod PreferenceInputs

@@ -179,7 +179,7 @@ module _ (P : Program) (K : Parts) (modules : List Module) (top : Module) (whole
                 ));
           }
 
-    net_follows_it : FollowsFrom modules top K.cores.threads (seen_of P) from choices
+    pub net_follows_it : FollowsFrom modules top K.cores.threads (seen_of P) from choices
     net_follows_it = record {
       interleaving = follows.interleaving;
       steps = follows.steps;

@@ -21,7 +21,7 @@ use Rattle.bank_arbiter.specs.Arbiter as arbiter
 use Rattle.bank_cores.specs.Bank as bank
 use Rattle.mutex_cores.specs.Mutex as mutex
 use Rattle.barrier_cores.specs.Barrier as barrier
-use Rattle.thread_id_cores.specs.Forks as thread_ids
+use Rattle.thread_id_cores.specs.ThreadIds as thread_ids
 use Rattle.printer_cores.specs.Printer as printer
 use Rattle.core_tables.specs.Family.{CoreKind, Bank, Mutex, Barrier, ThreadIds, Printer, IsTable}
 use Rattle.core_tables.specs.Tables.{PlacedCore, core_name, kinds_at, laid_core, layout_of, modules_of}

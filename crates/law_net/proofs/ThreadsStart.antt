@@ -19,7 +19,7 @@ use Rattle.planned_block.proofs.Bits.{other_is}
 use Rattle.race_model.specs.Source.{local_of, running}
 use Rattle.law_threads.specs.Cores.{Core, status_in, status_at}
 use Rattle.block_ir.specs.Asked.{Numbers, thread_ids_core, printer_core}
-use Rattle.law_threads.specs.Stands.{status_of, GateStands, StandsFor}
+use Rattle.law_threads.specs.Stands.{status_of, CoreBarrierStands, StandsFor}
 use Rattle.code_following.specs.Following.{HasArguments}
 use Rattle.block_refine.specs.Routines.{Codes, rest_of, Starts}
 use Rattle.block_refine.proofs.RoutineLaws.{code_follows}
@@ -67,7 +67,7 @@ module _ (P : Program) (codes : Codes) (N : Numbers) (T : ℕ) (spreads : List S
         record {
           gate = record { count = 0; waiting = replicate T 0 };
           is = first.barriers n (let lt = slice_get_within (start P).barriers n b e in let t = barrier_total in omega arith);
-          stands = subst (GateStands T (record { count = 0; waiting = replicate T 0 })) (sym none)
+          stands = subst (CoreBarrierStands T (record { count = 0; waiting = replicate T 0 })) (sym none)
               (record { sized = length-replicate T 0; bits = λ i lt. zeros_at T i; count = λ k ws q. absurd cc });
         };
     thread_ids = λ has. record {

@@ -17,7 +17,7 @@ use Rattle.race_model.specs.Source.{local_of, c_source}
 use Rattle.thread_promise.specs.Globals.{bank_of}
 use Rattle.block_ir.specs.Asked.{Numbers, mutex_core, barrier_core, thread_ids_core, printer_core}
 use Rattle.law_threads.specs.Cores.{Core, OfMutex, OfBarrier, OfThreadIds, OfPrinter}
-use Rattle.law_threads.specs.Stands.{lock_of, StandsFor}
+use Rattle.law_threads.specs.Stands.{mutex_of, StandsFor}
 use Rattle.block_refine.specs.Routines.{Codes, rest_of, blocks_of, plans_of}
 use Rattle.law_threads.specs.Requests.{AreNumbers}
 use Rattle.law_threads.specs.Surroundings.{routine_of, around, hardware_code}
@@ -31,7 +31,7 @@ pub record CountElements (P : Program) (N : Numbers) : Type 0 where
 -- the cores before the first cycle: mutexes are what the program initialises them to, barriers are not initialised, no thread id is in use, and
 -- nothing is printed
 pub record AreFirst (P : Program) (N : Numbers) (T : ℕ) (c : ℕ → Core) : Type 0 where
-  pub mutexes : (n : ℕ) (m : MutexState) → slice_get (start P).mutexes n ≡ Some m → c (mutex_core N n) ≡ OfMutex (lock_of m)
+  pub mutexes : (n : ℕ) (m : MutexState) → slice_get (start P).mutexes n ≡ Some m → c (mutex_core N n) ≡ OfMutex (mutex_of m)
   pub barriers : (n : ℕ) → n < N.barriers → c (barrier_core N n) ≡ OfBarrier (record { count = 0; waiting = replicate T 0 })
   -- whatever arguments it has
   pub thread_ids : N.thread_ids ≡ true → (given : List ℕ) × (length given ≡ T) × (c (thread_ids_core N) ≡ OfThreadIds (record { statuses = replicate T 0; arguments = given }))
