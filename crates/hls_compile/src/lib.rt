@@ -125,9 +125,9 @@ pub fn compile<R: Threads + Sync>(
     })
 }
 
-/// The lines of cores in the report of a net that is compiled are those of the program's names: `core K NAME` says that the
-/// instance NAME is served by `arbiter_K`, which prefers the thread that `pref_K` says. The function takes and answers nothing:
-/// its contract is the law.
+/// The lines of cores in the report of a net that is compiled are those of the program's names: `core K NAME` says that NAME
+/// is the core of `arbiter_K`, in the order of the arbiters. That `pref_K` reaches `arbiter_K` alone is `served` of
+/// `IsCompiled`. The function takes and answers nothing: its contract is the law.
 pub fn report_names_cores()
     ensures { ReportNamesCores }
 {}
