@@ -12,15 +12,23 @@ pub mod slot;
 pub mod taking;
 
 ghost use Rattle.slot_sim.specs.Laws.{AloneFits, NeedIsTold, NeedsMove, MovesByTrial, TakenIsSame, ClosedGoes};
+ghost use Rattle.slot_sim.specs.Same.{RegistersTold, RegistersShown, WordsTold, WordsShown};
 
-/// What the slot calls rest on: the choice of one thread alone fits, `need` is told once and is the same in states that are the same, one
-/// cycle tells whether a thread moves, what is taken over from a slot is all that was missing, and closed cycles of a thread go in one
-/// state as they go in another with the same slot.
+/// What the slot calls rest on.
 pub fn slot_laws()
-    ensures alone { AloneFits }
-    ensures told { NeedIsTold }
-    ensures needs { NeedsMove }
-    ensures trial { MovesByTrial }
-    ensures taken { TakenIsSame }
-    ensures closed { ClosedGoes }
+    // The choice of one thread alone fits; `need` is told once, and is the same in states that are the same; and one cycle tells
+    // whether a thread moves.
+    ensures alone_fits { AloneFits }
+    ensures need_is_told { NeedIsTold }
+    ensures needs_move { NeedsMove }
+    ensures moves_by_trial { MovesByTrial }
+    // What is taken over from a slot is all that was missing, and closed cycles of a thread go in one state as they go in another
+    // with the same slot.
+    ensures taken_is_same { TakenIsSame }
+    ensures closed_goes { ClosedGoes }
+    // The numbers are found to be the same exactly where those of all registers are, and the words exactly where all of them are.
+    ensures registers_told { RegistersTold }
+    ensures registers_shown { RegistersShown }
+    ensures words_told { WordsTold }
+    ensures words_shown { WordsShown }
 {}

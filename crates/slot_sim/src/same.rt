@@ -96,19 +96,3 @@ pub fn same_parts(left: &Sim, right: &Sim, places: &[usize]) -> bool
     }
     true
 }
-
-ghost use Rattle.slot_sim.specs.Same.{RegistersTold, RegistersShown};
-
-/// The numbers are found to be the same exactly where those of all registers are.
-pub fn registers_law()
-    ensures told { RegistersTold }
-    ensures shown { RegistersShown }
-{}
-
-ghost use Rattle.slot_sim.specs.Same.{WordsTold, WordsShown};
-
-/// The words are found to be the same exactly where all of them are.
-pub fn words_law()
-    ensures told { WordsTold }
-    ensures shown { WordsShown }
-{}
