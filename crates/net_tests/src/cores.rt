@@ -13,7 +13,7 @@ use sqlite_items::Items;
 use std::alloc::{AllocError, Global};
 use std::process::Abort;
 use std::test::Fail;
-use thread_id_cores::forks;
+use thread_id_cores::thread_ids;
 
 /// A bank of two words, of which the second begins as 7.
 fn two_words(alloc: Global) -> Result<Module, AllocError> {
@@ -56,7 +56,7 @@ enum Core {
     Printer,
     Mutex,
     Barrier,
-    Forks,
+    ThreadIds,
 }
 
 /// The module of a core for two threads; the printer is for one, and the thread ids are those of three.
@@ -67,7 +67,7 @@ fn made(alloc: Global, core: Core) -> Result<Module, AllocError> {
         Core::Printer => one_site(alloc),
         Core::Mutex => mutex::module(alloc, &FREE),
         Core::Barrier => barrier::module(alloc, &barrier::Shape { threads: 2 }),
-        Core::Forks => forks::module(alloc, &forks::Shape { threads: 3 }),
+        Core::ThreadIds => thread_ids::module(alloc, &thread_ids::Shape { threads: 3 }),
     }
 }
 
@@ -117,7 +117,7 @@ fn has_parts(core: Core, module: &Module) -> bool {
         Core::Printer => is_written(module.actions.as_slice()),
         Core::Mutex => signals.len() == 33 && actions == 1,
         Core::Barrier => actions == 3,
-        Core::Forks => module.memories.len() == 2 && actions == 2,
+        Core::ThreadIds => module.memories.len() == 2 && actions == 2,
     }
 }
 
@@ -128,7 +128,7 @@ const CORES: [(&str, Core); 6] = [
     ("printer", Core::Printer),
     ("mutex_1", Core::Mutex),
     ("barrier", Core::Barrier),
-    ("forkjoin", Core::Forks),
+    ("forkjoin", Core::ThreadIds),
 ];
 
 fn named_cores() -> &'static [(&'static str, Core)] {
