@@ -1,7 +1,7 @@
 // A call of each command.
 
 use crate::call::{Asked, Row, SURE, each, is_right};
-use crate::programs::{COUNTING, MAIN, tripled, tripled_report};
+use crate::programs::{COUNTING, MAIN, RACING, tripled, tripled_report};
 use crate::sims::CLIMBING;
 use std::test::Fail;
 
@@ -43,13 +43,7 @@ const COMMANDS: [Row; 15] = [
         "",
         "hls: disciplined, 0 globals\n",
     ),
-    (
-        "pthread_t t; int n; void *w(void *p){n = 1; return NULL;} int main(void){pthread_create(&t, NULL, w, NULL); pthread_join(t, NULL); return 0;}",
-        Asked::Check,
-        12,
-        "",
-        "hls: doubt at byte 37: n\n",
-    ),
+    (RACING, Asked::Check, 12, "", "hls: doubt at byte 37: n\n"),
     (
         COUNTING,
         Asked::CheckRun { steps: 16 },
@@ -58,7 +52,7 @@ const COMMANDS: [Row; 15] = [
         "hls: good, 16 steps, one output\n",
     ),
     (
-        "pthread_t t; int n; void *w(void *p){n = 1; return NULL;} int main(void){pthread_create(&t, NULL, w, NULL); n = 2; pthread_join(t, NULL); return 0;}",
+        RACING,
         Asked::CheckRun { steps: 100 },
         13,
         "0*2\n",

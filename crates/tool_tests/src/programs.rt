@@ -7,6 +7,10 @@ pub const ENDLESS: &str = "int main(void){while (1) ; return 0;}";
 pub const COUNTING: &str =
     "int main(void){int i; for (i = 1; i < 4; i++) printf(\"%d\\n\", i); return 0;}";
 
+/// `main` and its thread write one global, which nothing orders.
+pub const RACING: &str =
+    "pthread_t t; int n; void *w(void *p){n = 1; return NULL;} int main(void){pthread_create(&t, NULL, w, NULL); n = 2; pthread_join(t, NULL); return 0;}";
+
 /// Three threads add 1 each.
 pub const ADDING: &str =
     "pthread_t t[3]; pthread_mutex_t m = PTHREAD_MUTEX_INITIALIZER; int s; void *w(void *arg){pthread_mutex_lock(&m); s = s + 1; pthread_mutex_unlock(&m); \
