@@ -651,6 +651,7 @@ WRONG = [
     "an unlock keeps",
     "a join of one element",
     "a create keeps",
+    "one thread a routine",
 ]
 # The objects that are unused, and the mutexes that are held.
 Sets = tuple[frozenset[str], frozenset[str]]
@@ -658,12 +659,13 @@ Sets = tuple[frozenset[str], frozenset[str]]
 
 @dataclass
 class Access:
-    """A global where a thread names it: whether it is written, whether by main, and the mutexes that are held there."""
+    """A global where a thread names it: whether it is written, the function whose walk it is, and the mutexes that are
+    held there."""
 
     name: str
     place: int
     written: bool
-    main: bool
+    walk: str
     held: frozenset[str]
 
 
@@ -671,7 +673,7 @@ class Walk:
     """What a thread meets, and what is surely so there: the objects that are unused, and the mutexes that are held."""
 
     def __init__(self, program: Program, name: str, wrong: str | None) -> None:
-        self.program, self.main, self.wrong = program, name == "main", wrong
+        self.program, self.name, self.main, self.wrong = program, name, name == "main", wrong
         self.met: list[Access] = []
         self.returns: list[Sets] = []
         self.joined = False
@@ -680,7 +682,7 @@ class Walk:
     def touch(self, sets: Sets, use: Use, written: bool) -> None:
         unused = sets[0] == set(self.program.objects) or (self.wrong == WRONG[0] and self.joined)
         if not (self.main and unused):
-            self.met.append(Access(use.name, use.place, written, self.main, sets[1]))
+            self.met.append(Access(use.name, use.place, written, self.name, sets[1]))
 
     def read(self, sets: Sets, value: Sum | None) -> None:
         for use in value.uses if value is not None else []:
@@ -773,9 +775,10 @@ def inside(program: Program, body: Iterable[Statement]) -> Iterator[Statement]:
             yield from inside(program, program.functions[it.name])
 
 
-def is_disciplined(met: list[Access]) -> bool:
-    """None writes, or all are main's, or one mutex is held at all."""
-    if not any(access.written for access in met) or all(access.main for access in met):
+def is_disciplined(met: list[Access], owners: set[str]) -> bool:
+    """None writes, or all are of one thread, or one mutex is held at all."""
+    walks = {access.walk for access in met}
+    if not any(access.written for access in met) or (len(walks) == 1 and walks <= owners):
         return True
     return bool(frozenset.intersection(*(access.held for access in met)))
 
@@ -786,10 +789,23 @@ def creators(program: Program) -> list[int]:
     return [it.place for it in statements if isinstance(it, (Thread, JoinLoop))]
 
 
+def created(program: Program) -> set[str]:
+    """The objects that a create names."""
+    statements = (it for body in program.functions.values() for it in inside(program, body))
+    return {it.name for it in statements if isinstance(it, Thread) and it.creates}
+
+
 def started(program: Program) -> set[str]:
     """The routines of the threads that are created."""
-    statements = (it for body in program.functions.values() for it in inside(program, body))
-    return {program.routines[it.name] for it in statements if isinstance(it, Thread) and it.creates}
+    return {program.routines[name] for name in created(program)}
+
+
+def alone(program: Program) -> set[str]:
+    """Main, and the routines that one thread alone runs: each element of an object that a create names is a thread,
+    whatever the number of creates."""
+    used = created(program)
+    runs = [program.routines[name] for name, _ in elements(program.objects) if name in used]
+    return {"main", *(routine for routine in runs if runs.count(routine) == 1)}
 
 
 def verdict(program: Program, wrong: str | None = None) -> str:
@@ -798,8 +814,9 @@ def verdict(program: Program, wrong: str | None = None) -> str:
         return f"hls: doubt at byte {min(places)}: creator\n"
     walked = ["main", *sorted(started(program))]
     met = [access for name in walked for access in Walk(program, name, wrong).met]
+    owners = set(walked) if wrong == WRONG[6] else alone(program)
     for name in program.globals:
         counted = [access for access in met if access.name == name]
-        if counted and not is_disciplined(counted):
+        if counted and not is_disciplined(counted, owners):
             return f"hls: doubt at byte {min(access.place for access in counted)}: {name}\n"
     return f"hls: disciplined, {len(program.globals)} globals\n"
