@@ -1,0 +1,4 @@
+pub mod Carried
+pub mod Fits
+pub mod Listed
+pub mod Scheduled
