@@ -62,9 +62,13 @@ class Writer:
 
     def index(self, scope: Scope, array: str) -> str:
         _, length, *first = scope.arrays[array]
+        return "".join(f"{it} + " for it in first) + self.below(scope, length)
+
+    def below(self, scope: Scope, length: int) -> str:
+        """A number below a length."""
         loops = [it for it in sorted(scope.fixed) if scope.scalars.get(it)]
         chosen = self.draw.choice(loops) if loops and self.draw.random() < 0.5 else f"({self.leaf_scalar(scope)})"
-        return "".join(f"{it} + " for it in first) + f"(unsigned){chosen} % {length}u"
+        return f"(unsigned){chosen} % {length}u"
 
     def leaf_scalar(self, scope: Scope) -> str:
         return self.draw.choice(sorted(scope.scalars)) if scope.scalars else str(self.draw.randrange(100))

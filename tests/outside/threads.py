@@ -245,6 +245,11 @@ class ThreadedWriter(Writer):
         else:
             self.section(scope, depth)
 
+    def owns(self, group: Group, scope: Scope) -> None:
+        """The elements that each thread of the group has for itself."""
+        for name, (element, part) in group.slices.items():
+            scope.arrays[name] = (element, part, f"id * {part}")
+
     def routine(self, group: Group, tables: Scope) -> None:
         self.put(0, f"void *{group.routine}(void *arg) {{")
         kind = "int" if self.maybe(0.3) else "long"
@@ -253,8 +258,7 @@ class ThreadedWriter(Writer):
         scope = Scope(tables)
         scope.scalars.update({"r": "unsigned", "id": kind})
         scope.fixed.add("id")
-        for name, (element, part) in group.slices.items():
-            scope.arrays[name] = (element, part, f"id * {part}")
+        self.owns(group, scope)
         for _ in range(self.draw.randrange(3)):
             self.declare(scope, 1)
         self.room = 10
