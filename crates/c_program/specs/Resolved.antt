@@ -194,24 +194,20 @@ IsJoined (Statement.Both first second) = ⊤
 IsJoined (Statement.Either first second) = ⊤
 IsJoined statement = ⊥
 
--- forms that are not lowered yet: no text makes one
-abbrev pub IsBuiltYet : Type 0
-IsBuiltYet = ⊥
-
 -- what stands before the step of an operand, and a condition
 abbrev mutual
   pub IsCut : Program → Function → Statement → Type 0
   IsCut P f Statement.Done = ⊤
   IsCut P f (Statement.Sequence first rest) = IsCut P f first × IsCut P f rest
   IsCut P f (Statement.Call offset (Some slot) callee arguments) = IsKeptCall P f (Some slot) callee arguments
-  IsCut P f (Statement.Keep offset slot ty operand) = IsSlot f slot × IsExpression P f operand × IsBuiltYet
-  IsCut P f (Statement.Truth slot condition) = IsSlot f slot × IsJoined condition × IsCondition P f condition × IsBuiltYet
+  IsCut P f (Statement.Keep offset slot ty operand) = IsSlot f slot × IsExpression P f operand
+  IsCut P f (Statement.Truth slot condition) = IsSlot f slot × IsJoined condition × IsCondition P f condition
   IsCut P f (Statement.If condition consequent alternative) =
-      IsCondition P f condition × IsCut P f consequent × IsCut P f alternative × IsBuiltYet
+      IsCondition P f condition × IsCut P f consequent × IsCut P f alternative
   IsCut P f statement = ⊥
 
   pub IsCondition : Program → Function → Statement → Type 0
-  IsCondition P f (Statement.Sequence first rest) = IsCut P f first × IsCondition P f rest × IsBuiltYet
+  IsCondition P f (Statement.Sequence first rest) = IsCut P f first × IsCondition P f rest
   IsCondition P f (Statement.Test offset operand) = IsExpression P f operand
   IsCondition P f (Statement.Both first second) = IsCondition P f first × IsCondition P f second
   IsCondition P f (Statement.Either first second) = IsCondition P f first × IsCondition P f second
@@ -263,8 +259,8 @@ IsStatement P f a (Statement.DoWhile body condition) = IsStatement P f in_loop b
 IsStatement P f a (Statement.For first condition last body) =
     IsStatement P f nowhere first × IsCondition P f condition × IsStatement P f nowhere last × IsStatement P f in_loop body
 IsStatement P f a (Statement.Switch offset ty operand body) =
-    (ty ≡ promoted (type_of operand)) × IsExpression P f operand × IsStatement P f (in_switch ty a) body × IsBuiltYet
-IsStatement P f a (Statement.Label value operators) = IsLabel a.labels value × IsBuiltYet
+    (ty ≡ promoted (type_of operand)) × IsExpression P f operand × IsStatement P f (in_switch ty a) body
+IsStatement P f a (Statement.Label value operators) = IsLabel a.labels value
 IsStatement P f a Statement.Break = IsTrue a.leaves
 IsStatement P f a Statement.Continue = IsTrue a.turns
 IsStatement P f a (Statement.Return offset right) = IsReturn P f f.returns right
