@@ -3,11 +3,12 @@
 --     expr    = binary ["?" expr ":" expr]
 --     binary  = the ten levels of C99 from || down to * / %, left to right
 --     cast    = "(" spec ")" cast | ("-"|"+"|"~"|"!") cast | primary
---     primary = name | name "[" expr "]" | call | constant | "(" expr ")"
+--     primary = name | name dims | call | constant | "(" expr ")"
 --     call    = name "(" [ arg {"," arg} ] ")"
 --     arg     = expr | string | "&" place | pointer
 --     pointer = "NULL" | "(" "void" "*" ")" cast
---     place   = name ["[" expr "]"]
+--     place   = name [dims]
+--     dims    = "[" expr "]" ["[" expr "]" ["[" expr "]"]]
 --     spec    = word { word }
 --
 -- Nesting: brackets with what they enclose; the operand of a unary operator, of `&` and of a cast; the third operand
@@ -16,7 +17,7 @@ use Rattle.std.specs.Prelude.{ℕ, zero, suc, List, [], ◌∷◌, ◌++◌, fol
 use Rattle.c_token.specs.declared.keyword.Keyword.TheVariants as k
 use Rattle.c_token.specs.declared.punctuator.Punctuator.TheVariants as p
 use Rattle.c_token.specs.declared.token.Token.{Token}
-use Rattle.grammar.specs.Rules.{Rule, pure, one, ◌>>=◌, ◌>>◌, ◌<|>◌, none, nested, many, optional}
+use Rattle.grammar.specs.Rules.{Rule, pure, one, ◌>>=◌, ◌>>◌, ◌<|>◌, none, nested, many}
 use Rattle.c_tree.specs.declared.sign.Sign.{Sign}
 use Rattle.c_tree.specs.declared.sign.Sign.TheVariants.{Word, Mark}
 use Rattle.c_tree.specs.declared.expression.Name.{Name}
@@ -56,6 +57,14 @@ listed item = do
   more ← many (sign (Mark p.Comma) >> item)
   pure (first ∷ more)
 
+-- none or more, but no more than the number
+abbrev pub at_most : {A : Type 0} → ℕ → Phrase A → Phrase (List A)
+at_most zero item = pure []
+at_most (suc n) item = (do
+  first ← item
+  more ← at_most n item
+  pure (first ∷ more)) <|> pure []
+
 -- ---- the levels of binary operators
 
 abbrev pub term : ℕ → Phrase Expression → Phrase Term
@@ -87,11 +96,15 @@ module _ (cast expr : Phrase Expression) where
     sign (Mark p.CloseSquare)
     pure x)
 
+  -- the indices of an element (C99 6.5.2.1), or the lengths of an array (C99 6.7.5.2)
+  abbrev pub indices : Phrase (List Expression)
+  indices = at_most 3 index
+
   abbrev pub place : Phrase Place
   place = do
     x ← name
-    i ← optional index
-    pure (tree.place x i)
+    found ← indices
+    pure (tree.place x found)
 
   -- ---- pointers, arguments, calls
 
@@ -155,8 +168,8 @@ module _ (cast expr : Phrase Expression) where
   abbrev pub place_value : Phrase Expression
   place_value = do
     x ← name
-    i ← optional index
-    pure (tree.expression x.offset (form.Place (tree.place x i)))
+    found ← indices
+    pure (tree.expression x.offset (form.Place (tree.place x found)))
 
   abbrev pub call_value : Phrase Expression
   call_value = do

@@ -1,15 +1,18 @@
 -- The grammar of statements.
 --
 --     block  = "{" { decl | stmt } "}"
---     decl   = spec ld {"," ld} ";"       ld = name ["[" expr "]"] ["=" expr]
+--     decl   = spec ld {"," ld} ";"       ld = name [dims] ["=" expr]
 --     stmt   = block | ";" | simple ";" | "break" ";" | "continue" ";"
 --            | "if" "(" expr ")" stmt ["else" stmt] | "while" "(" expr ")" stmt
 --            | "do" stmt "while" "(" expr ")" ";"
 --            | "for" "(" (decl | [simple] ";") [expr] ";" [simple] ")" stmt
 --            | "return" [ expr | pointer ] ";"
+--            | "switch" "(" expr ")" "{" { group } "}"
+--     group  = label {stmt}               label = ("case" expr | "default") ":"
 --     simple = place asg expr | place ("++"|"--") | ("++"|"--") place | call
 --
--- Nesting: brackets with what they enclose; the bodies of control statements, and what stands behind `else`.
+-- Nesting: brackets with what they enclose; the bodies of control statements (of a switch its braces), and what stands
+-- behind `else`.
 use Rattle.std.specs.Prelude.{ℕ, zero, suc, Bool, true, false, List, [], ◌∷◌, Option, Some, None}
 use Rattle.c_token.specs.declared.keyword.Keyword.TheVariants as k
 use Rattle.c_token.specs.declared.punctuator.Punctuator.TheVariants as p
@@ -29,16 +32,18 @@ use Rattle.c_tree.specs.declared.statement.BlockItem.TheOpen.{Block-F, BlockItem
 use Rattle.c_tree.specs.declared.statement.BlockItem.TheFolds.{fold-Statement}
 use Rattle.c_tree.specs.declared.statement.Statement.{Statement}
 use Rattle.c_tree.specs.declared.statement.Statement.TheVariants as st
+use Rattle.c_tree.specs.declared.statement.CaseLabel.{CaseLabel}
+use Rattle.c_tree.specs.declared.statement.Group.{Group}
 use Rattle.c_tree.specs.declared.declaration.Declaration.{Declaration}
 use Rattle.c_tree.specs.declared.declaration.Declarator.{Declarator}
 use Rattle.c_tree.specs.Tokens.{assignment_at, direction_of, direction_at}
 use Rattle.c_tree.specs.Trees as tree
-use Rattle.c_tree.specs.Expressions.{cast, expr, Phrase, sign, name, specifiers, listed, index, place, arguments, null, converted_pointer}
+use Rattle.c_tree.specs.Expressions.{cast, expr, Phrase, sign, name, specifiers, listed, indices, place, arguments, null, converted_pointer}
 
 -- ---- which statements an else may stand behind
 
 -- Whether a statement does not end in an if without else, where that is known of the statements in it.
-abbrev pub closed_step : Statement-F Bool Bool Bool → Bool
+abbrev pub closed_step : Statement-F Bool Bool Bool Bool → Bool
 closed_step (Statement-F.If c body None) = false
 closed_step (Statement-F.If c body (Some other)) = other
 closed_step (Statement-F.While c body) = body
@@ -46,7 +51,7 @@ closed_step (Statement-F.For start c step body) = body
 closed_step _ = true
 
 abbrev pub closed : Statement → Bool
-closed = fold-Statement Bool Bool Bool (λ i. true) closed_step (λ b. true)
+closed = fold-Statement Bool Bool Bool Bool (λ i. true) closed_step (λ b. true) (λ g. true)
 
 module _ (cast expr : Phrase Expression) where
   -- ---- simple statements
@@ -54,17 +59,17 @@ module _ (cast expr : Phrase Expression) where
   abbrev pub assignment : Phrase SimpleStatement
   assignment = do
     x ← name
-    i ← optional (index cast expr)
+    found ← indices cast expr
     op ← one assignment_at
     value ← expr
-    pure (record { form = simple_form.Assign (tree.place x i) op value; offset = x.offset })
+    pure (record { form = simple_form.Assign (tree.place x found) op value; offset = x.offset })
 
   abbrev pub step_behind : Phrase SimpleStatement
   step_behind = do
     x ← name
-    i ← optional (index cast expr)
+    found ← indices cast expr
     way ← one direction_of
-    pure (record { form = simple_form.Step (tree.place x i) way; offset = x.offset })
+    pure (record { form = simple_form.Step (tree.place x found) way; offset = x.offset })
 
   abbrev pub step_before : Phrase SimpleStatement
   step_before = do
@@ -92,9 +97,9 @@ module _ (cast expr : Phrase Expression) where
   abbrev pub declarator : Phrase Declarator
   declarator = do
     x ← name
-    length ← optional (index cast expr)
+    lengths ← indices cast expr
     initial ← optional value
-    pure (record { name = x; length = length; initializer = initial })
+    pure (record { name = x; lengths = lengths; initializer = initial })
 
   abbrev pub declaration : Phrase Declaration
   declaration = do
@@ -194,6 +199,24 @@ module _ (cast expr : Phrase Expression) where
     sign (Mark p.CloseRound)
     pure (first, c, step))
 
+  -- ---- labels (C99 6.8.1)
+
+  abbrev pub case_label : Phrase CaseLabel
+  case_label = do
+    at ← sign (Word k.Case)
+    x ← expr
+    sign (Mark p.Colon)
+    pure (record { value = Some x; offset = at })
+
+  abbrev pub default_label : Phrase CaseLabel
+  default_label = do
+    at ← sign (Word k.Default)
+    sign (Mark p.Colon)
+    pure (record { value = None; offset = at })
+
+  abbrev pub label : Phrase CaseLabel
+  label = case_label <|> default_label
+
   -- ---- statements with statements in them
 
   module _ (statement : Phrase Statement) where
@@ -252,8 +275,30 @@ module _ (cast expr : Phrase Expression) where
       body ← nested statement
       pure (st.For head.0 head.1 head.2 body)
 
+    -- a label of a switch with what stands behind it up to the next one (C99 6.8.4.2)
+    abbrev pub group : Phrase Group
+    group = do
+      x ← label
+      statements ← many statement
+      pure (tree.group x statements)
+
+    -- the groups of a switch, with their braces
+    abbrev pub groups : Phrase (List Group)
+    groups = nested (do
+      sign (Mark p.OpenCurly)
+      found ← many group
+      sign (Mark p.CloseCurly)
+      pure found)
+
+    abbrev pub switch : Phrase Statement
+    switch = do
+      at ← sign (Word k.Switch)
+      x ← condition
+      found ← nested groups
+      pure (st.Switch x found at)
+
     abbrev pub compound : Phrase Statement
-    compound = block_statement <|> (branch <|> (while_loop <|> (do_loop <|> for_loop)))
+    compound = block_statement <|> (branch <|> (while_loop <|> (do_loop <|> (for_loop <|> switch))))
 
     abbrev pub any_statement : Phrase Statement
     any_statement = compound <|> plain_statement

@@ -1,5 +1,5 @@
 -- Trees as the grammar makes them.
-use Rattle.std.specs.Prelude.{ℕ, Bool, true, false, List, [], ◌∷◌, ◌++◌, Option, Some, None}
+use Rattle.std.specs.Prelude.{ℕ, Bool, true, false, List, [], ◌∷◌, ◌++◌, Some, None}
 use Rattle.c_token.specs.declared.constant.Constant.{Constant}
 use Rattle.c_tree.specs.declared.expression.Name.{Name}
 use Rattle.c_tree.specs.declared.expression.Specifiers.{Specifiers}
@@ -15,8 +15,11 @@ use Rattle.c_tree.specs.declared.expression.Call.{Call, roll-Call}
 use Rattle.c_tree.specs.declared.expression.Argument.{Argument}
 use Rattle.c_tree.specs.declared.expression.Argument.TheVariants as argument
 use Rattle.c_tree.specs.declared.expression.Pointer.{Pointer, roll-Pointer}
+use Rattle.c_tree.specs.declared.statement.CaseLabel.{CaseLabel}
 use Rattle.c_tree.specs.declared.statement.Block.{Block, roll-Block}
 use Rattle.c_tree.specs.declared.statement.BlockItem.{BlockItem}
+use Rattle.c_tree.specs.declared.statement.Statement.{Statement}
+use Rattle.c_tree.specs.declared.statement.Group.{Group, roll-Group}
 
 -- an expression whose text begins at the place
 abbrev pub expression : ℕ → Form → Expression
@@ -39,8 +42,8 @@ unary op e = expression op.1 (form.Unary op.0 e)
 abbrev pub cast : Specifiers → ℕ → Expression → Expression
 cast s at e = expression at (form.Cast s e)
 
-abbrev pub place : Name → Option Expression → Place
-place x index = roll-Place (record { name = x; index = index })
+abbrev pub place : Name → List Expression → Place
+place x indices = roll-Place (record { name = x; indices = indices })
 
 abbrev pub call : Name → List Argument → Call
 call f arguments = roll-Call (record { name = f; arguments = arguments })
@@ -77,3 +80,6 @@ pointer at e = roll-Pointer (record { operand = Some e; offset = at })
 
 abbrev pub block : List BlockItem → ℕ → Block
 block items close = roll-Block (record { items = items; close = close })
+
+abbrev pub group : CaseLabel → List Statement → Group
+group label statements = roll-Group (record { label = label; statements = statements })

@@ -13,8 +13,8 @@ pub struct Declaration {
 /// A variable of a block.
 pub struct Declarator {
     pub name: Name,
-    /// Between brackets.
-    pub length: Option<Boxed<Expression>>,
+    /// What stands in each pair of brackets (C99 6.7.5.2), from left to right; at most three.
+    pub lengths: Items<Expression>,
     /// Behind `=`.
     pub initializer: Option<Boxed<Expression>>,
 }
@@ -59,8 +59,8 @@ pub struct GlobalDeclaration {
 /// A variable at file scope.
 pub struct GlobalDeclarator {
     pub name: Name,
-    /// Between brackets.
-    pub length: Option<Boxed<Expression>>,
+    /// What stands in each pair of brackets (C99 6.7.5.2), from left to right; at most three.
+    pub lengths: Items<Expression>,
     /// Behind `=`.
     pub initializer: Option<Initializer>,
 }
@@ -68,10 +68,19 @@ pub struct GlobalDeclarator {
 /// What stands behind the `=` of a global (C99 6.7.8).
 pub enum Initializer {
     Value(Boxed<Expression>),
-    /// Between braces; at least one.
-    List(Items<Expression>),
+    /// Between braces, at least one; and the place of the first brace.
+    List(Items<Initial>, usize),
     /// `PTHREAD_MUTEX_INITIALIZER`
     Mutex,
+}
+
+/// What stands between the braces of an initializer, for an element or for the elements of one row (C99 6.7.8).
+#[cycle(initials)]
+#[derive(Drop)]
+pub enum Initial {
+    Value(Boxed<Expression>),
+    /// Between braces, at least one; and the place of the first brace.
+    List(Items<Initial>, usize),
 }
 
 // A drop that is written here is proved here; a derived one is proved again in each crate that drops the type.
@@ -89,7 +98,7 @@ impl Drop for Declarator {
     fn drop(self) {
         let Declarator {
             name: _,
-            length: _,
+            lengths: _,
             initializer: _,
         } = self;
     }
@@ -146,7 +155,7 @@ impl Drop for GlobalDeclarator {
     fn drop(self) {
         let GlobalDeclarator {
             name: _,
-            length: _,
+            lengths: _,
             initializer: _,
         } = self;
     }
@@ -156,7 +165,7 @@ impl Drop for Initializer {
     fn drop(self) {
         match self {
             Initializer::Value(_) => {}
-            Initializer::List(_) => {}
+            Initializer::List(_, _) => {}
             Initializer::Mutex => {}
         }
     }

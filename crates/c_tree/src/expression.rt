@@ -125,12 +125,13 @@ pub struct Choice {
     pub otherwise: Expression,
 }
 
-/// An object, or an element of one.
+/// An object, or an element of one (C99 6.5.2.1).
 #[cycle(expressions)]
 #[derive(Drop)]
 pub struct Place {
     pub name: Name,
-    pub index: Option<Boxed<Expression>>,
+    /// What stands in each pair of brackets (C99 6.5.2.1), from left to right; at most three.
+    pub indices: Items<Expression>,
 }
 
 /// A call by the called name (C99 6.5.2.2).

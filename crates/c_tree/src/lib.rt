@@ -8,7 +8,7 @@ pub mod statement;
 
 pub use declaration::{
     Declaration, Declarator, ExternalDeclaration, Function, GlobalDeclaration, GlobalDeclarator,
-    Initializer, Parameter, TranslationUnit,
+    Initial, Initializer, Parameter, TranslationUnit,
 };
 pub use expression::{
     Argument, BinaryOperator, Call, Choice, Expression, Form, Name, Place, Pointer, Specifiers,
@@ -16,6 +16,6 @@ pub use expression::{
 };
 pub use sign::Sign;
 pub use statement::{
-    AssignmentOperator, Block, BlockItem, Direction, ForStart, Returned, SimpleForm,
-    SimpleStatement, Statement,
+    AssignmentOperator, Block, BlockItem, CaseLabel, Direction, ForStart, Group, Returned,
+    SimpleForm, SimpleStatement, Statement,
 };

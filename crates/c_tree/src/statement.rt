@@ -47,6 +47,14 @@ pub enum ForStart {
     Simple(Boxed<SimpleStatement>),
 }
 
+/// `case` and its value, or `default` (C99 6.8.1).
+pub struct CaseLabel {
+    /// None of `default`.
+    pub value: Option<Boxed<Expression>>,
+    /// Of the word.
+    pub offset: usize,
+}
+
 /// `{`, declarations and statements, `}`.
 #[cycle(statements)]
 #[derive(Drop)]
@@ -87,6 +95,16 @@ pub enum Statement {
         Boxed<Statement>,
     ),
     Return(Returned, usize),
+    /// `switch`: what it goes by, the groups between its braces, and the place of the word (C99 6.8.4.2).
+    Switch(Boxed<Expression>, Items<Group>, usize),
+}
+
+/// A label of a switch, and the statements behind it up to the next one; none where labels stand one behind the other.
+#[cycle(statements)]
+#[derive(Drop)]
+pub struct Group {
+    pub label: CaseLabel,
+    pub statements: Items<Statement>,
 }
 
 // A drop that is written here is proved here; a derived one is proved again in each crate that drops the type.
@@ -124,5 +142,14 @@ impl Drop for ForStart {
             ForStart::Declaration(_) => {}
             ForStart::Simple(_) => {}
         }
+    }
+}
+
+impl Drop for CaseLabel {
+    fn drop(self) {
+        let CaseLabel {
+            value: _,
+            offset: _,
+        } = self;
     }
 }
