@@ -1,5 +1,7 @@
 -- The readings of declarations at file scope and of a whole text read the grammar's rules.
-use Rattle.std.proofs.Common.{◌≡◌, ℕ, suc, ◌+◌, ◌<◌, List, [], ◌∷◌, Some, None, Bool, true, false, refl, arith}
+use Rattle.std.proofs.Common.{◌≡◌, ℕ, suc, ◌+◌, ◌<◌, ◌≤◌, List, [], ◌∷◌, Some, None, Bool, true, false, refl, sym, inr, arith}
+use Rattle.std.proofs.lemmas.List.{append-nil}
+use Rattle.grammar.specs.Sentences.{Spelled}
 use Rattle.std.specs.Prelude.{◌||◌, ◌&&◌}
 use Rattle.std.proofs.lemmas.Bool.{or_left, or_right}
 use Rattle.std.proofs.Math.Bool.{or-false}
@@ -14,9 +16,9 @@ use Rattle.c_tree.specs.declared.sign.Sign.{Sign}
 use Rattle.c_tree.specs.declared.sign.Sign.TheVariants.{Word, Mark, End}
 use Rattle.c_tree.specs.declared.expression.Name.{Name}
 use Rattle.c_tree.specs.declared.expression.Specifiers.{Specifiers}
-use Rattle.c_tree.specs.declared.expression.Expression.{Expression}
-use Rattle.c_tree.specs.declared.declaration.Initializer.{Initializer}
-use Rattle.c_tree.specs.declared.declaration.Initializer.TheVariants as initial_of
+use Rattle.c_tree.specs.declared.declaration.Initializer.TheVariants as initializer_of
+use Rattle.c_tree.specs.declared.declaration.Initial.{Initial}
+use Rattle.c_tree.specs.declared.declaration.Initial.TheVariants as initial_of
 use Rattle.c_tree.specs.declared.declaration.GlobalDeclarator.{GlobalDeclarator}
 use Rattle.c_tree.specs.declared.declaration.ExternalDeclaration.{ExternalDeclaration}
 use Rattle.c_tree.specs.declared.declaration.ExternalDeclaration.TheVariants as ext
@@ -26,19 +28,18 @@ use Rattle.c_tree.specs.Expressions as g
 use Rattle.c_tree.specs.Statements as h
 use Rattle.c_tree.specs.Declarations as c
 use Rattle.c_reading.specs.Tokens as r
-use Rattle.c_reading.specs.Expressions as e
 use Rattle.c_reading.specs.Declarations as q
 use Rattle.grammar.proofs.Lists.{or_cases}
-use Rattle.grammar.proofs.Good.{Reads}
-use Rattle.grammar.proofs.Parts.{nowhere, reads_by, resize, some_then, in_turn, both, ends}
+use Rattle.grammar.proofs.Good.{Reads, ◌∘>◌}
+use Rattle.grammar.proofs.Parts.{nowhere, reads_nothing, reads_by, resize, under, some_then, in_turn, both, ends}
 use Rattle.grammar.proofs.Choice.{StartsBy, DepartsBy, one_starts, begins_starts, begins_departs, optional_departs, either_in, may}
 use Rattle.grammar.proofs.Loops.{loop, loop_two, as_list}
-use Rattle.grammar.proofs.Nested.{within_in, one_flat}
-use Rattle.c_reading.proofs.TokenProofs.{token, sign_kind, sign_apart, sign_exactly, some_exactly, type_apart, name_then, sign_alone}
-use Rattle.c_reading.proofs.ExprShapes.{open_round, close_round, All}
+use Rattle.grammar.proofs.Nested.{within_in, at_any_depth, one_flat}
+use Rattle.c_reading.proofs.TokenProofs.{token, sign_kind, sign_apart, sign_exactly, some_exactly, type_apart, name_then, sign_alone, sign_then}
+use Rattle.c_reading.proofs.ExprShapes.{open_round, close_round, All, some_expr}
 use Rattle.c_reading.proofs.ExprProofs.{open_square, comma, after_expr, expr_ends, listed, specifiers, expr}
 use Rattle.c_reading.proofs.LevelProofs.{opens}
-use Rattle.c_reading.proofs.PlainProofs.{on, gives_value, semicolon, assign, ends_semicolon, ends_comma, optional_index}
+use Rattle.c_reading.proofs.PlainProofs.{on, gives_value, semicolon, assign, ends_semicolon, ends_comma, indices}
 use Rattle.c_reading.proofs.StatementProofs.{open_curly, close_curly, any_block}
 
 abbrev star_mark : Sign
@@ -47,6 +48,105 @@ star_mark = Mark p.Star
 ends_curly : (z : Token) → after_expr z ≡ true → is close_curly z ≡ true → ⊥
 unfolding opens same_punctuator
 ends_curly z l f = expr_ends close_curly refl (λ at. refl) (λ at. refl) z l f
+
+-- ---- values in braces, by those of fewer tokens
+
+abbrev two : List (Token → Bool)
+two = q.next_initial_ahead
+
+-- behind the values, with the place of the first brace
+abbrev Ending : ℕ → List Initial → Family Token (List Initial × ℕ)
+Ending at vs depth = optional (g.sign comma) >>= (λ u. g.sign close_curly >>= (λ w. pure (vs, at)))
+
+abbrev begins_ending : Token → Bool
+begins_ending z = is comma z || (true && is close_curly z)
+
+ends_ending : (z : Token) → after_expr z ≡ true → begins_ending z ≡ true → ⊥
+ends_ending z l f = or_cases (is comma z) (is close_curly z) f (λ a. ends_comma z l a) (λ a. ends_curly z l a)
+
+module _ {D : ℕ → Type 0} (n m : ℕ) (le : n ≤ suc m) (more : m ≤ n) (whole : 0 < n → (depth : ℕ) → D depth)
+    (good : Reads D m c.initial (λ room. q.read_initial (suc room)) r.begins_initial (λ v. after_expr) false) where
+  then_on : {B : Type 0} {Q : ℕ → Family Token B} {p : ℕ → ℕ → d.Reader Token B} {first' : ℕ → Token → Bool} {last' : B → Token → Bool} {null' : Bool}
+      (z : Sign) → ((a : ℕ) → Reads D m (Q a) (p a) (first' a) last' null') → Reads D m ((λ depth. g.sign z) ∘> Q) (λ room. d.reads_both (r.expect z) (λ a. p a room)) (is z) last' false
+  then_on z after = sign_then {n = m} {m = m} (omega arith) good.whole z after
+
+  next_initial : Reads D m (λ depth. g.sign comma >> c.initial depth) (λ room. r.read_next (q.read_initial (suc room))) (is comma) (λ v. after_expr) false
+  unfolding r.read_next
+  next_initial = then_on comma (λ u. good)
+
+  closing : (at : ℕ) (vs : List Initial) → Reads {T = Token} {A = List Initial × ℕ} D m (λ depth. g.sign close_curly >>= (λ w. pure (vs, at)))
+      (λ room. d.reads_both (r.expect close_curly) (λ w. d.reads_pure (vs, at))) (is close_curly) (λ v. nowhere) false
+  closing at vs = then_on close_curly (λ w. reads_nothing good.whole (vs, at))
+
+  optional_comma : Reads D m (λ depth. optional (g.sign comma)) (λ room. q.read_optional_comma) (is comma) (λ v. is comma) true
+  unfolding q.read_optional_comma
+  optional_comma = may (sign_alone good.whole comma) (λ o. is comma) (λ v z f. cc) (λ z f. f)
+
+  ending : (at : ℕ) (vs : List Initial) → Reads D m (Ending at vs) (λ room. d.reads_both q.read_optional_comma
+      (λ u. d.reads_both (r.expect close_curly) (λ w. d.reads_pure (vs, at)))) begins_ending (λ v. nowhere) false
+  unfolding same_punctuator
+  ending at vs = both optional_comma (λ u. closing at vs) (λ o z a b. sign_apart comma (is close_curly) (λ at. refl) z a b) (λ v. nowhere) (λ b z f. f) (λ a depth at b z j f l. cc)
+
+  item_starts : (depth at : ℕ) → D depth → (w : List (Placed Token)) (v : Initial) → (g.sign comma >> c.initial depth) at w v → StartsBy two (at + 0) w
+  item_starts depth at dd w v f =
+      let here : at ≡ at + 0 = omega arith in
+      one_starts (sign_at comma) (λ u. c.initial depth) (is comma) (r.begins_initial ∷ []) at (at + 0) w v (sign_exactly comma) here f
+      (begins_starts good r.begins_initial (λ z b. b) depth at (at + 0) dd f.2 v f.5)
+
+  ending_departs : (place : ℕ) (vs : List Initial) (depth at : ℕ) → D depth → (w : List (Placed Token)) (v : List Initial × ℕ) → Ending place vs depth at w v → DepartsBy two (at + 0) w
+  unfolding same_punctuator
+  ending_departs place vs depth at dd w v f =
+      let here : at ≡ at + 0 = omega arith in
+      optional_departs (sign_at comma) (λ u. g.sign close_curly >>= (λ w. pure (vs, place))) (is comma) (r.begins_initial ∷ []) at (at + 0) w v here f
+      (begins_departs (closing place vs) r.begins_initial [] (λ z a b. sign_apart close_curly r.begins_initial (λ at. refl) z a b) depth at (at + 0) dd f.2 v f.5)
+      (begins_departs (closing place vs) (is comma) (r.begins_initial ∷ []) (λ z a b. sign_apart close_curly (is comma) (λ at. refl) z a b) depth at (at + 0) dd f.2 v f.5)
+
+  more_initials : (at : ℕ) (first : Initial) → Reads D m (λ depth. many (g.sign comma >> c.initial depth) >>= (λ vs. Ending at (first ∷ vs) depth))
+      (λ room ts. d.and_then (q.read_initials (q.read_initial (suc room)) (suc room) first ts)
+      (λ vs. d.reads_both q.read_optional_comma (λ u. d.reads_both (r.expect close_curly) (λ w. d.reads_pure (vs, at)))))
+      (λ z. is comma z || begins_ending z) (λ v. nowhere) false
+  unfolding q.read_initials
+  more_initials at first =
+      as_list (Ending at) (first ∷ [])
+      (loop_two d.appended (is comma) r.begins_initial 0 next_initial (ending at) (λ v z l f. ends_comma z l f) (λ v z l f. ends_ending z l f)
+      (λ all depth at w v f. item_starts depth at (all depth) w v f) (λ all vs depth j w v f. ending_departs at vs depth j (all depth) w v f) (λ z f. f)
+      (λ z f. or_left (is comma z) (true && is close_curly z) f) (first ∷ []))
+
+  pub braces : Reads D n (λ depth. c.braces (g.expr depth) (c.initial depth)) (λ room. q.read_braces (q.read_initial room) room) (is open_curly) (λ v. nowhere) false
+  unfolding q.read_braces
+  braces =
+      within_in (λ room. d.reads_both (r.expect open_curly) (λ at. d.reads_both (q.read_initial room) (λ first. d.reads_both (q.read_initials (q.read_initial room) room first)
+      (λ vs. d.reads_both q.read_optional_comma (λ u. d.reads_both (r.expect close_curly) (λ w. d.reads_pure (vs, at)))))))
+      (sign_then le whole open_curly
+      (λ at. in_turn good (more_initials at) (λ v z l f. or_cases (is comma z) (begins_ending z) f (λ a. ends_comma z l a) (λ a. ends_ending z l a))))
+      (one_flat (sign_at open_curly) (λ at depth. c.initial depth >>= (λ first. many (g.sign comma >> c.initial depth) >>= (λ more. Ending at (first ∷ more) depth))))
+
+  braced : Reads D n (λ depth. c.braced (g.expr depth) (c.initial depth)) (λ room. q.read_braced (q.read_initial room) room) (is open_curly) (λ v. after_expr) false
+  unfolding q.read_braced
+  braced = ends braces (λ found. initial_of.List found.0 found.1) (λ v. after_expr) (λ a z f. cc)
+
+  single : Reads D n (λ depth. c.single (g.expr depth) (c.initial depth)) (λ room. q.read_single (suc room)) r.begins_cast (λ v. after_expr) false
+  unfolding q.read_single
+  single = ends (under (expr n) whole (λ depth. tt)) initial_of.Value (λ v. after_expr) (λ a z f. f)
+
+  any_initial : Reads D n (λ depth. c.any_initial (g.expr depth) (c.initial depth)) (λ room. q.read_any_initial (q.read_initial room) (suc room) room) r.begins_initial (λ v. after_expr) false
+  unfolding q.read_any_initial same_punctuator
+  any_initial = either_in braced single (λ z a b. sign_apart open_curly r.begins_cast (λ at. refl) z a b) (λ v. after_expr) (λ v z f. f) (λ v z f. f) (λ depth at v z a b f. cc)
+
+-- ---- at any depth
+
+some_initial : (at : ℕ) → (w : List (Placed Token)) × (v : Initial) × Spelled c.initial at w v
+some_initial at =
+    let k = some_expr at in
+    (k.0, initial_of.Value k.1, (suc k.2.0, inr (k.1, k.0, [], sym (append-nil k.0), k.2.1, (refl, refl))))
+
+initial_step : (D : ℕ → Type 0) (n m : ℕ) → n ≤ suc m → m ≤ n → (0 < n → (depth : ℕ) → D depth) → Reads D m c.initial (λ room. q.read_initial (suc room)) r.begins_initial (λ v. after_expr) false
+    → Reads D n (λ depth. c.initial (suc depth)) (λ room. q.read_initial (suc room)) r.begins_initial (λ v. after_expr) false
+unfolding q.read_initial
+initial_step D n m le more whole good = any_initial n m le more whole good
+
+initial : (n : ℕ) → Reads All n c.initial (λ room. q.read_initial (suc room)) r.begins_initial (λ v. after_expr) false
+initial n = at_any_depth c.initial (λ fuel room. q.read_initial (suc room)) (λ at w v f. f) (λ z at. cc) some_initial initial_step n
 
 module _ (n : ℕ) where
   whole : 0 < n → (depth : ℕ) → All depth
@@ -107,78 +207,25 @@ module _ (n : ℕ) where
 
   -- ---- values in braces
 
-  next_value : Reads All n (λ depth. g.sign comma >> g.expr depth) (λ room. r.read_next (e.read_expr (suc room))) (is comma) (λ v. after_expr) false
-  unfolding r.read_next
-  next_value = on n comma (λ u. expr n)
+  any_braces : Reads All n (λ depth. c.braces (g.expr depth) (c.initial depth)) (λ room. q.read_braces (q.read_initial room) room) (is open_curly) (λ v. nowhere) false
+  any_braces = braces n n (le-suc n) (omega arith) whole (initial n)
 
-  abbrev two : List (Token → Bool)
-  two = is comma ∷ r.begins_cast ∷ []
-
-  abbrev Ending : List Expression → Family Token Initializer
-  Ending vs depth = optional (g.sign comma) >>= (λ u. g.sign close_curly >>= (λ w. pure (initial_of.List vs)))
-
-  closing : (vs : List Expression) → Reads All n (λ depth. g.sign close_curly >>= (λ w. pure (initial_of.List vs)))
-      (λ room. d.reads_both (r.expect close_curly) (λ w. d.reads_pure (initial_of.List vs))) (is close_curly) (λ v. nowhere) false
-  closing vs = on n close_curly (λ w. gives_value n (initial_of.List vs))
-
-  optional_comma : Reads All n (λ depth. optional (g.sign comma)) (λ room. q.read_optional_comma) (is comma) (λ v. is comma) true
-  unfolding q.read_optional_comma
-  optional_comma = may (sign_alone whole comma) (λ o. is comma) (λ v z f. cc) (λ z f. f)
-
-  abbrev begins_ending : Token → Bool
-  begins_ending z = is comma z || (true && is close_curly z)
-
-  ending : (vs : List Expression) → Reads All n (Ending vs) (λ room. d.reads_both q.read_optional_comma
-      (λ u. d.reads_both (r.expect close_curly) (λ w. d.reads_pure (initial_of.List vs)))) begins_ending (λ v. nowhere) false
-  unfolding same_punctuator
-  ending vs = both optional_comma (λ u. closing vs) (λ o z a b. sign_apart comma (is close_curly) (λ at. refl) z a b) (λ v. nowhere) (λ b z f. f) (λ a depth at b z j f l. cc)
-
-  item_starts : (depth at : ℕ) (w : List (Placed Token)) (v : Expression) → (g.sign comma >> g.expr depth) at w v → StartsBy two (at + 0) w
-  item_starts depth at w v f =
-      let here : at ≡ at + 0 = omega arith in
-      one_starts (sign_at comma) (λ u. g.expr depth) (is comma) (r.begins_cast ∷ []) at (at + 0) w v (sign_exactly comma) here f
-      (begins_starts (expr n) r.begins_cast (λ z b. b) depth at (at + 0) tt f.2 v f.5)
-
-  ending_departs : (vs : List Expression) (depth at : ℕ) (w : List (Placed Token)) (v : Initializer) → Ending vs depth at w v → DepartsBy two (at + 0) w
-  unfolding same_punctuator
-  ending_departs vs depth at w v f =
-      let here : at ≡ at + 0 = omega arith in
-      optional_departs (sign_at comma) (λ u. g.sign close_curly >>= (λ w. pure (initial_of.List vs))) (is comma) (r.begins_cast ∷ []) at (at + 0) w v here f
-      (begins_departs (closing vs) r.begins_cast [] (λ z a b. sign_apart close_curly r.begins_cast (λ at. refl) z a b) depth at (at + 0) tt f.2 v f.5)
-      (begins_departs (closing vs) (is comma) (r.begins_cast ∷ []) (λ z a b. sign_apart close_curly (is comma) (λ at. refl) z a b) depth at (at + 0) tt f.2 v f.5)
-
-  ends_ending : (z : Token) → after_expr z ≡ true → begins_ending z ≡ true → ⊥
-  ends_ending z l f = or_cases (is comma z) (is close_curly z) f (λ a. ends_comma z l a) (λ a. ends_curly z l a)
-
-  more_values : (first : Expression) → Reads All n (λ depth. many (g.sign comma >> g.expr depth) >>= (λ vs. Ending (first ∷ vs) depth))
-      (λ room ts. d.and_then (q.read_values (suc room) first ts) (λ vs. d.reads_both q.read_optional_comma (λ u. d.reads_both (r.expect close_curly) (λ w. d.reads_pure (initial_of.List vs)))))
-      (λ z. is comma z || begins_ending z) (λ v. nowhere) false
-  unfolding q.read_values
-  more_values first =
-      as_list Ending (first ∷ [])
-      (loop_two d.appended (is comma) r.begins_cast 0 next_value ending (λ v z l f. ends_comma z l f) (λ v z l f. ends_ending z l f) (λ all depth at w v f. item_starts depth at w v f)
-      (λ all vs depth at w v f. ending_departs vs depth at w v f) (λ z f. f) (λ z f. or_left (is comma z) (true && is close_curly z) f) (first ∷ []))
-
-  values : Reads All n (λ depth. c.values (g.cast depth) (g.expr depth) (h.statement depth)) (λ room. q.read_list room) (is open_curly) (λ v. nowhere) false
+  values : Reads All n (λ depth. c.values (g.cast depth) (g.expr depth) (c.initial depth) (h.statement depth)) (λ room. q.read_list room) (is open_curly) (λ v. nowhere) false
   unfolding q.read_list
-  values =
-      within_in (λ room. d.reads_both (r.expect open_curly) (λ at. d.reads_both (e.read_expr room) (λ first. d.reads_both (q.read_values room first)
-      (λ vs. d.reads_both q.read_optional_comma (λ u. d.reads_both (r.expect close_curly) (λ w. d.reads_pure (initial_of.List vs)))))))
-      (on n open_curly (λ at. in_turn (expr n) more_values (λ v z l f. or_cases (is comma z) (begins_ending z) f (λ a. ends_comma z l a) (λ a. ends_ending z l a))))
-      (one_flat (sign_at open_curly) (λ at depth. g.expr depth >>= (λ first. many (g.sign comma >> g.expr depth) >>= (λ more. Ending (first ∷ more) depth))))
+  values = ends any_braces (λ found. initializer_of.List found.0 found.1) (λ v. nowhere) (λ a z f. f)
 
   -- ---- what an object begins with
 
-  mutex : Reads All n (λ depth. c.mutex (g.cast depth) (g.expr depth) (h.statement depth)) (λ room. q.read_mutex) (is (Word k.MutexInitializer)) (λ v. nowhere) false
+  mutex : Reads All n (λ depth. c.mutex (g.cast depth) (g.expr depth) (c.initial depth) (h.statement depth)) (λ room. q.read_mutex) (is (Word k.MutexInitializer)) (λ v. nowhere) false
   unfolding q.read_mutex
-  mutex = on n (Word k.MutexInitializer) (λ u. gives_value n initial_of.Mutex)
+  mutex = on n (Word k.MutexInitializer) (λ u. gives_value n initializer_of.Mutex)
 
-  value : Reads All n (λ depth. c.value (g.cast depth) (g.expr depth) (h.statement depth)) (λ room. q.read_initial_value (suc room) room) r.begins_cast (λ v. after_expr) false
-  unfolding q.read_initial_value
-  value = ends (expr n) initial_of.Value (λ v. after_expr) (λ a z f. f)
+  value : Reads All n (λ depth. c.value (g.cast depth) (g.expr depth) (c.initial depth) (h.statement depth)) (λ room. q.read_value (suc room) room) r.begins_cast (λ v. after_expr) false
+  unfolding q.read_value
+  value = ends (expr n) initializer_of.Value (λ v. after_expr) (λ a z f. f)
 
-  initializer : Reads All n (λ depth. c.initializer (g.cast depth) (g.expr depth) (h.statement depth)) (λ room. q.read_initializer (suc room) room) (is assign) (λ v. after_expr) false
-  unfolding q.read_initializer q.read_initial same_keyword same_punctuator
+  initializer : Reads All n (λ depth. c.initializer (g.cast depth) (g.expr depth) (c.initial depth) (h.statement depth)) (λ room. q.read_initializer (suc room) room) (is assign) (λ v. after_expr) false
+  unfolding q.read_initializer q.read_any_value same_keyword same_punctuator
   initializer =
       let rest = either_in mutex value (λ z a b. sign_apart (Word k.MutexInitializer) r.begins_cast (λ at. refl) z a b) (λ v. after_expr) (λ v z f. cc) (λ v z f. f) (λ depth at v z a b f. cc) in
       on n assign (λ u. either_in values rest (λ z a b. sign_apart open_curly (λ z. is (Word k.MutexInitializer) z || r.begins_cast z) (λ at. refl) z a b)
@@ -187,7 +234,7 @@ module _ (n : ℕ) where
   abbrev after_value : Token → Bool
   after_value z = is assign z || after_expr z
 
-  optional_initializer : Reads All n (λ depth. optional (c.initializer (g.cast depth) (g.expr depth) (h.statement depth))) (λ room. q.read_optional_initializer (suc room) room) (is assign)
+  optional_initializer : Reads All n (λ depth. optional (c.initializer (g.cast depth) (g.expr depth) (c.initial depth) (h.statement depth))) (λ room. q.read_optional_initializer (suc room) room) (is assign)
       (λ v. after_value) true
   unfolding q.read_optional_initializer
   optional_initializer = may initializer (λ o. after_value) (λ v z f. or_right (is assign z) (after_expr z) f) (λ z f. or_left (is assign z) (after_expr z) f)
@@ -200,14 +247,14 @@ module _ (n : ℕ) where
   abbrev begins_global : Token → Bool
   begins_global z = is open_square z || (true && is assign z)
 
-  global : (y : Name) → Reads All n (λ depth. c.global (g.cast depth) (g.expr depth) (h.statement depth) y) (λ room. q.read_global (suc room) room y) begins_global (λ v. after_global) true
+  global : (y : Name) → Reads All n (λ depth. c.global (g.cast depth) (g.expr depth) (c.initial depth) (h.statement depth) y) (λ room. q.read_global (suc room) room y) begins_global (λ v. after_global) true
   unfolding q.read_global same_punctuator
   global y =
-      both (optional_index n) (λ length. ends optional_initializer (λ i. record { name = y; length = length; initializer = i }) (λ v. after_value) (λ a z f. f))
+      both (indices n) (λ lengths. ends optional_initializer (λ i. record { name = y; lengths = lengths; initializer = i }) (λ v. after_value) (λ a z f. f))
       (λ o z l f. sign_apart open_square (is assign) (λ at. refl) z l f) (λ v. after_global) (λ b z f. or_right (is open_square z) (after_value z) f)
       (λ a depth at b z j f l. or_left (is open_square z) (after_value z) l)
 
-  next_global : Reads All n (λ depth. c.next_global (g.cast depth) (g.expr depth) (h.statement depth)) (λ room. q.read_next_global (suc room) room) (is comma) (λ v. after_global) false
+  next_global : Reads All n (λ depth. c.next_global (g.cast depth) (g.expr depth) (c.initial depth) (h.statement depth)) (λ room. q.read_next_global (suc room) room) (is comma) (λ v. after_global) false
   unfolding q.read_next_global
   next_global = on n comma (λ u. name_then {n = n} {m = n} (le-suc n) whole global)
 
@@ -230,7 +277,7 @@ module _ (n : ℕ) where
   objects_of words is_pointer all = ext.Objects (record { specifiers = words; is_pointer = is_pointer; declarators = all })
 
   more_globals : (words : Specifiers) (is_pointer : Bool) (first : GlobalDeclarator)
-      → Reads All n (λ depth. many (c.next_global (g.cast depth) (g.expr depth) (h.statement depth)) >>= (λ more. g.sign semicolon >>= (λ u. pure (objects_of words is_pointer (first ∷ more)))))
+      → Reads All n (λ depth. many (c.next_global (g.cast depth) (g.expr depth) (c.initial depth) (h.statement depth)) >>= (λ more. g.sign semicolon >>= (λ u. pure (objects_of words is_pointer (first ∷ more)))))
       (λ room ts. d.and_then (q.read_globals (suc room) room first ts) (λ all. d.reads_both (r.expect semicolon) (λ u. d.reads_pure (objects_of words is_pointer all))))
       (λ z. is comma z || is semicolon z) (λ v. nowhere) false
   unfolding q.read_globals same_punctuator
@@ -242,7 +289,7 @@ module _ (n : ℕ) where
   abbrev begins_objects : Token → Bool
   begins_objects z = begins_global z || (true && (is comma z || is semicolon z))
 
-  objects : (words : Specifiers) (is_pointer : Bool) (y : Name) → Reads All n (λ depth. c.objects (g.cast depth) (g.expr depth) (h.statement depth) words is_pointer y)
+  objects : (words : Specifiers) (is_pointer : Bool) (y : Name) → Reads All n (λ depth. c.objects (g.cast depth) (g.expr depth) (c.initial depth) (h.statement depth) words is_pointer y)
       (λ room. q.read_objects (suc room) room words is_pointer y) begins_objects (λ v. nowhere) false
   unfolding q.read_objects
   objects words is_pointer y =
@@ -251,20 +298,20 @@ module _ (n : ℕ) where
 
   -- ---- functions
 
-  defined : Reads All n (λ depth. c.defined (g.cast depth) (g.expr depth) (h.statement depth)) (λ room. q.read_defined (suc room) room) (is open_curly) (λ v. nowhere) false
+  defined : Reads All n (λ depth. c.defined (g.cast depth) (g.expr depth) (c.initial depth) (h.statement depth)) (λ room. q.read_defined (suc room) room) (is open_curly) (λ v. nowhere) false
   unfolding q.read_defined
   defined = ends (any_block n) (λ b. Some b) (λ v. nowhere) (λ a z f. f)
 
-  prototype : Reads All n (λ depth. c.prototype (g.cast depth) (g.expr depth) (h.statement depth)) (λ room. q.read_prototype (suc room) room) (is semicolon) (λ v. nowhere) false
+  prototype : Reads All n (λ depth. c.prototype (g.cast depth) (g.expr depth) (c.initial depth) (h.statement depth)) (λ room. q.read_prototype (suc room) room) (is semicolon) (λ v. nowhere) false
   unfolding q.read_prototype
   prototype = on n semicolon (λ u. gives_value n None)
 
-  body : Reads All n (λ depth. c.defined (g.cast depth) (g.expr depth) (h.statement depth) <|> c.prototype (g.cast depth) (g.expr depth) (h.statement depth)) (λ room. q.read_body (suc room) room)
+  body : Reads All n (λ depth. c.defined (g.cast depth) (g.expr depth) (c.initial depth) (h.statement depth) <|> c.prototype (g.cast depth) (g.expr depth) (c.initial depth) (h.statement depth)) (λ room. q.read_body (suc room) room)
       (λ z. is open_curly z || is semicolon z) (λ v. nowhere) false
   unfolding q.read_body same_punctuator
   body = either_in defined prototype (λ z a b. sign_apart open_curly (is semicolon) (λ at. refl) z a b) (λ v. nowhere) (λ v z f. f) (λ v z f. f) (λ depth at v z a b f. cc)
 
-  function : (words : Specifiers) (is_pointer : Bool) (y : Name) → Reads All n (λ depth. c.function (g.cast depth) (g.expr depth) (h.statement depth) words is_pointer y)
+  function : (words : Specifiers) (is_pointer : Bool) (y : Name) → Reads All n (λ depth. c.function (g.cast depth) (g.expr depth) (c.initial depth) (h.statement depth) words is_pointer y)
       (λ room. q.read_function (suc room) room words is_pointer y) (is open_round) (λ v. nowhere) false
   unfolding q.read_function
   function words is_pointer y =
@@ -274,7 +321,7 @@ module _ (n : ℕ) where
   -- ---- the text as a whole
 
   either_of : (words : Specifiers) (is_pointer : Bool) (y : Name)
-      → Reads All n (λ depth. c.function (g.cast depth) (g.expr depth) (h.statement depth) words is_pointer y <|> c.objects (g.cast depth) (g.expr depth) (h.statement depth) words is_pointer y)
+      → Reads All n (λ depth. c.function (g.cast depth) (g.expr depth) (c.initial depth) (h.statement depth) words is_pointer y <|> c.objects (g.cast depth) (g.expr depth) (c.initial depth) (h.statement depth) words is_pointer y)
       (λ room. d.reads_either (is open_round) (q.read_function (suc room) room words is_pointer y) (q.read_objects (suc room) room words is_pointer y))
       (λ z. is open_round z || begins_objects z) (λ v. nowhere) false
   unfolding same_punctuator
@@ -282,7 +329,7 @@ module _ (n : ℕ) where
       either_in (function words is_pointer y) (objects words is_pointer y) (λ z a b. sign_apart open_round begins_objects (λ at. refl) z a b) (λ v. nowhere) (λ v z f. f) (λ v z f. f)
       (λ depth at v z a b f. cc)
 
-  external : Reads All n (λ depth. c.external (g.cast depth) (g.expr depth) (h.statement depth)) (λ room. q.read_external (suc room) room) is_type_word (λ v. nowhere) false
+  external : Reads All n (λ depth. c.external (g.cast depth) (g.expr depth) (c.initial depth) (h.statement depth)) (λ room. q.read_external (suc room) room) is_type_word (λ v. nowhere) false
   unfolding q.read_external
   external =
       in_turn (specifiers whole)
@@ -294,7 +341,7 @@ module _ (n : ℕ) where
   unit_from all = record { declarations = all }
 
   more_externals : (first : ExternalDeclaration) → Reads All n (λ depth. many (c.external (g.cast depth) (g.expr depth)
-      (h.statement depth)) >>= (λ more. g.sign End >>= (λ u. pure (unit_from (first ∷ more)))))
+      (c.initial depth) (h.statement depth)) >>= (λ more. g.sign End >>= (λ u. pure (unit_from (first ∷ more)))))
       (λ room ts. d.and_then (q.read_externals (suc room) room first ts) (λ all. d.reads_both (r.expect End) (λ u. d.reads_pure (unit_from all)))) (λ z. is_type_word z || is End z)
       (λ v. nowhere) false
   unfolding q.read_externals

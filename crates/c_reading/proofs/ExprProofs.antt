@@ -9,7 +9,7 @@ use Rattle.c_token.specs.declared.punctuator.Punctuator.TheVariants as p
 use Rattle.c_token.specs.declared.constant.Constant.TheVariants.{TooLarge}
 use Rattle.c_token.specs.declared.token.Kind.TheVariants as kind
 use Rattle.c_token.specs.declared.token.Token.{Token}
-use Rattle.grammar.specs.Rules.{Placed, Family, pure, one, ◌>>=◌, ◌>>◌, ◌<|>◌, many, nested, optional}
+use Rattle.grammar.specs.Rules.{Placed, Family, pure, one, ◌>>=◌, ◌>>◌, ◌<|>◌, many, nested}
 use Rattle.grammar.specs.Sentences.{plain}
 use Rattle.grammar.specs.Readers as d
 use Rattle.c_tree.specs.declared.sign.Sign.{Sign}
@@ -37,13 +37,14 @@ use Rattle.grammar.proofs.Good.{Reads, ◌∘>◌, less}
 use Rattle.grammar.proofs.Parts.{gives, nowhere, reads_nothing, reads_by, resize, same_rule, one_then, some_then, in_turn, both, ends}
 use Rattle.grammar.proofs.Choice.{StartsPlain, StartsBy, DepartsBy, departs_not, either_in, ahead_in, ahead_two, partly, starts_both, departs_both}
 use Rattle.grammar.proofs.Choice.{one_starts, one_departs, first_departs, begins_departs, start_none, start_begun, start_one, start_both, shared}
-use Rattle.grammar.proofs.Choice.{swapped, may}
+use Rattle.grammar.proofs.Choice.{swapped}
 use Rattle.grammar.proofs.Loops.{loop, folded, as_list}
 use Rattle.grammar.proofs.Nested.{OpensBy, deeper_in, within_in, one_flat, one_opens}
 use Rattle.c_reading.proofs.TokenProofs.{token, sign_kind, sign_apart, sign_within, sign_exactly, some_exactly, placed_exactly, name_apart}
 use Rattle.c_reading.proofs.TokenProofs.{constant_apart, text_apart, type_apart, sign_then, name_then}
 use Rattle.c_reading.proofs.LevelProofs.{below, opens, goes, sign_ends, levels}
 use Rattle.c_reading.proofs.Pairs.{two_at_any_depth}
+use Rattle.c_reading.proofs.BoundedLists.{at_most}
 use Rattle.c_reading.proofs.ExprShapes.{open_round, close_round, All, cast_opens, expr_opens, expr_of, some_cast, some_expr}
 
 abbrev pub open_square : Sign
@@ -168,16 +169,16 @@ module _ {D : ℕ → Type 0} (n m : ℕ) (le : n ≤ suc m) (more : m ≤ n) (w
       (sign_then le whole open_square (λ at. in_turn expr (λ x. on close_square (λ u. gives_value x)) (λ v x l h. expr_ends close_square refl (λ at. refl) (λ at. refl) x l h)))
       (one_flat (sign_at open_square) (λ at depth. g.expr depth >>= (λ x. g.sign close_square >>= (λ u. pure x))))
 
-  pub optional_index : Reads D m (λ depth. optional (g.index (g.cast depth) (g.expr depth))) (λ room. e.read_optional_index (e.read_expr room) room) (is open_square) (λ v. is open_square) true
-  unfolding e.read_optional_index
-  optional_index = may (less index m more) (λ o. is open_square) (λ v x h. cc) (λ x h. h)
+  pub indices : Reads D m (λ depth. g.indices (g.cast depth) (g.expr depth)) (λ room. e.read_indices (e.read_expr room) room) (is open_square) (λ v. is open_square) true
+  unfolding e.read_indices
+  indices = at_most (less index m more) 2
 
   pub place : Reads D n (λ depth. g.place (g.cast depth) (g.expr depth)) (λ room. e.read_place (e.read_expr room) room) is_name (λ v. is open_square) false
   unfolding e.read_place
-  place = name_then le whole (λ x. ends optional_index (tree.place x) (λ v. is open_square) (λ o y h. h))
+  place = name_then le whole (λ x. ends indices (tree.place x) (λ v. is open_square) (λ o y h. h))
 
   place_flat : OpensBy D (λ x. false) (λ depth. g.place (g.cast depth) (g.expr depth))
-  place_flat = one_opens (λ x. false) name_at (λ x depth. optional (g.index (g.cast depth) (g.expr depth)) >>= (λ i. pure (tree.place x i))) (λ x h. refl)
+  place_flat = one_opens (λ x. false) name_at (λ x depth. g.indices (g.cast depth) (g.expr depth) >>= (λ i. pure (tree.place x i))) (λ x h. refl)
 
   target_none : (ts : List Token) → e.read_target 0 ts ≡ d.too_deep_or (λ x. false) is_name ts
   unfolding e.read_target
@@ -366,7 +367,7 @@ module _ {D : ℕ → Type 0} (n m : ℕ) (le : n ≤ suc m) (more : m ≤ n) (w
       (at + 1) w v a)
       (λ prim. ⊎_elim
       (λ named. ⊎_elim
-      (λ a. one_apart name_at (λ x depth. optional (g.index (g.cast depth) (g.expr depth)) >>= (λ i. pure (tree.expression x.offset (form.Place (tree.place x i))))) is_name
+      (λ a. one_apart name_at (λ x depth. g.indices (g.cast depth) (g.expr depth) >>= (λ i. pure (tree.expression x.offset (form.Place (tree.place x i))))) is_name
       (λ x. some_exactly (name_at x)) name_round (f ∷ fs) depth at (at + 1) w v a)
       (λ a. one_apart name_at (λ x depth. g.arguments (g.cast depth) (g.expr depth) >>= (λ found. pure (tree.expression x.offset (form.Call (tree.call x found))))) is_name
       (λ x. some_exactly (name_at x)) name_round (f ∷ fs) depth at (at + 1) w v a)
@@ -505,14 +506,14 @@ module _ {D : ℕ → Type 0} (n m : ℕ) (le : n ≤ suc m) (more : m ≤ n) (w
   -- ---- names
 
   abbrev PlaceRest : Name → Family Token Expression
-  PlaceRest x depth = optional (g.index (g.cast depth) (g.expr depth)) >>= (λ i. pure (tree.expression x.offset (form.Place (tree.place x i))))
+  PlaceRest x depth = g.indices (g.cast depth) (g.expr depth) >>= (λ i. pure (tree.expression x.offset (form.Place (tree.place x i))))
 
   abbrev CallRest : Name → Family Token Expression
   CallRest x depth = g.arguments (g.cast depth) (g.expr depth) >>= (λ found. pure (tree.expression x.offset (form.Call (tree.call x found))))
 
   place_rest : (x : Name) → Reads D m (PlaceRest x) (λ room. e.read_place_of (e.read_cast room) (e.read_expr room) (e.read_argument room) room x) (is open_square) (λ v. is open_square) true
   unfolding e.read_place_of
-  place_rest x = ends optional_index (λ i. tree.expression x.offset (form.Place (tree.place x i))) (λ v. is open_square) (λ o y h. h)
+  place_rest x = ends indices (λ i. tree.expression x.offset (form.Place (tree.place x i))) (λ v. is open_square) (λ o y h. h)
 
   call_rest : (x : Name) → Reads D m (CallRest x) (λ room. e.read_call_of (e.read_cast room) (e.read_expr room) (e.read_argument room) room x) (is open_round) (λ v. nowhere) false
   unfolding e.read_call_of

@@ -2,6 +2,7 @@ pub mod TokenProofs
 pub mod LevelProofs
 pub mod Pairs
 pub mod ExprShapes
+pub mod BoundedLists
 pub mod ExprProofs
 pub mod PlainProofs
 pub mod StatementProofs

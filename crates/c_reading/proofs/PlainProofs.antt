@@ -1,5 +1,5 @@
 -- The readings of what stands in statements, and of statements with no statement in them, read the grammar's rules.
-use Rattle.std.proofs.Common.{◌≡◌, ℕ, suc, ◌+◌, ◌<◌, List, [], ◌∷◌, ◌++◌, Option, Bool, true, false, refl, sym, subst}
+use Rattle.std.proofs.Common.{◌≡◌, ℕ, suc, ◌+◌, ◌<◌, List, [], ◌∷◌, ◌++◌, Option, Some, None, Bool, true, false, refl, sym, subst}
 use Rattle.std.proofs.Common.{inl, inr, ⊎_elim, arith}
 use Rattle.std.specs.Prelude.{◌||◌, ◌&&◌}
 use Rattle.std.proofs.lemmas.Bool.{or_left, or_right, both_ways}
@@ -51,6 +51,9 @@ semicolon = Mark p.Semicolon
 abbrev pub assign : Sign
 assign = Mark p.Assign
 
+abbrev colon : Sign
+colon = Mark p.Colon
+
 pub ends_semicolon : (y : Token) → after_expr y ≡ true → is semicolon y ≡ true → ⊥
 unfolding opens same_punctuator
 ends_semicolon y l h = expr_ends semicolon refl (λ at. refl) (λ at. refl) y l h
@@ -58,6 +61,10 @@ ends_semicolon y l h = expr_ends semicolon refl (λ at. refl) (λ at. refl) y l 
 pub ends_comma : (y : Token) → after_expr y ≡ true → is comma y ≡ true → ⊥
 unfolding opens same_punctuator
 ends_comma y l h = expr_ends comma refl (λ at. refl) (λ at. refl) y l h
+
+pub ends_colon : (y : Token) → after_expr y ≡ true → is colon y ≡ true → ⊥
+unfolding opens same_punctuator
+ends_colon y l h = expr_ends colon refl (λ at. refl) (λ at. refl) y l h
 
 pub ends_round : (y : Token) → after_expr y ≡ true → is close_round y ≡ true → ⊥
 unfolding opens same_punctuator
@@ -76,8 +83,8 @@ module _ (n : ℕ) where
 
   -- ---- what is read of expressions
 
-  pub optional_index : Reads All n (λ depth. optional (g.index (g.cast depth) (g.expr depth))) (λ room. e.read_optional_index (e.read_expr room) room) (is open_square) (λ v. is open_square) true
-  optional_index = x.optional_index n n (le-suc n) (omega arith) whole (cast n) (expr n)
+  pub indices : Reads All n (λ depth. g.indices (g.cast depth) (g.expr depth)) (λ room. e.read_indices (e.read_expr room) room) (is open_square) (λ v. is open_square) true
+  indices = x.indices n n (le-suc n) (omega arith) whole (cast n) (expr n)
 
   place : Reads All n (λ depth. g.place (g.cast depth) (g.expr depth)) (λ room. e.read_place (e.read_expr room) room) is_name (λ v. is open_square) false
   place = x.place n n (le-suc n) (omega arith) whole (cast n) (expr n)
@@ -96,41 +103,41 @@ module _ (n : ℕ) where
   abbrev is_assignment : Token → Bool
   is_assignment y = is_some (assignment_at y)
 
-  abbrev AssignRest : Name → Option Expression → Family Token SimpleStatement
+  abbrev AssignRest : Name → List Expression → Family Token SimpleStatement
   AssignRest y i depth = one assignment_at >>= (λ op. g.expr depth >>= (λ value. pure (record { form = simple_form.Assign (tree.place y i) op value; offset = y.offset })))
 
-  abbrev StepRest : Name → Option Expression → Family Token SimpleStatement
+  abbrev StepRest : Name → List Expression → Family Token SimpleStatement
   StepRest y i depth = one direction_of >>= (λ way. pure (record { form = simple_form.Step (tree.place y i) way; offset = y.offset }))
 
   abbrev CallRest : Name → Family Token SimpleStatement
   CallRest f depth = g.arguments (g.cast depth) (g.expr depth) >>= (λ found. pure (record { form = simple_form.Call (tree.call f found); offset = f.offset }))
 
-  abbrev Index : Family Token (Option Expression)
-  Index depth = optional (g.index (g.cast depth) (g.expr depth))
+  abbrev Indices : Family Token (List Expression)
+  Indices depth = g.indices (g.cast depth) (g.expr depth)
 
-  assign_rest : (y : Name) (i : Option Expression) → Reads All n (AssignRest y i) (λ room. s.read_assigned (suc room) room y i) is_assignment (λ v. after_expr) false
+  assign_rest : (y : Name) (i : List Expression) → Reads All n (AssignRest y i) (λ room. s.read_assigned (suc room) room y i) is_assignment (λ v. after_expr) false
   unfolding s.read_assigned r.read_assignment_operator
   assign_rest y i =
       one_then {n = n} {m = n} (le-suc n) whole is_assignment (λ z. some_exactly (assignment_at z)) (token (kind.Punctuator p.Assign) 0) Set refl
       (λ op. ends (expr n) (λ value. record { form = simple_form.Assign (tree.place y i) op value; offset = y.offset }) (λ v. after_expr) (λ a z h. h))
 
-  step_rest : (y : Name) (i : Option Expression) → Reads All n (StepRest y i) (λ room. s.read_step_behind (suc room) room y i) is_direction (λ v. nowhere) false
+  step_rest : (y : Name) (i : List Expression) → Reads All n (StepRest y i) (λ room. s.read_step_behind (suc room) room y i) is_direction (λ v. nowhere) false
   unfolding s.read_step_behind r.read_way
   step_rest y i =
       one_then {n = n} {m = n} (le-suc n) whole is_direction (λ z. some_exactly (direction_of z)) (token (kind.Punctuator p.PlusPlus) 0) Up refl
       (λ way. gives_value (record { form = simple_form.Step (tree.place y i) way; offset = y.offset }))
 
-  change_rest : (y : Name) (i : Option Expression) → Reads All n (λ depth. AssignRest y i depth <|> StepRest y i depth)
+  change_rest : (y : Name) (i : List Expression) → Reads All n (λ depth. AssignRest y i depth <|> StepRest y i depth)
       (λ room. d.reads_either is_direction (s.read_step_behind (suc room) room y i) (s.read_assigned (suc room) room y i)) (λ z. is_direction z || is_assignment z) (λ v. after_expr) false
   change_rest y i =
       swapped (either_in (step_rest y i) (assign_rest y i) (λ z a b. direction_apart is_assignment (λ at. refl) (λ at. refl) z a b) (λ v. after_expr) (λ v z h. cc) (λ v z h. h)
       (λ depth at v z c h l. cc))
 
-  changed : (y : Name) → Reads All n (λ depth. (Index depth >>= (λ i. AssignRest y i depth)) <|> (Index depth >>= (λ i. StepRest y i depth))) (λ room. s.read_changed (suc room) room y)
+  changed : (y : Name) → Reads All n (λ depth. (Indices depth >>= (λ i. AssignRest y i depth)) <|> (Indices depth >>= (λ i. StepRest y i depth))) (λ room. s.read_changed (suc room) room y)
       (λ z. is open_square z || (true && (is_direction z || is_assignment z))) (λ v. after_expr) false
   unfolding s.read_changed same_punctuator
   changed y =
-      shared (both optional_index (λ i. change_rest y i) (λ i z l h. sign_apart open_square (λ z. is_direction z || is_assignment z) (λ at. refl) z l h)
+      shared (both indices (λ i. change_rest y i) (λ i z l h. sign_apart open_square (λ z. is_direction z || is_assignment z) (λ at. refl) z l h)
       (λ v. after_expr) (λ b z h. h) (λ a depth at b z c h l. cc))
 
   called : (y : Name) → Reads All n (CallRest y) (λ room. s.read_called (suc room) room y) (is open_round) (λ v. nowhere) false
@@ -138,7 +145,7 @@ module _ (n : ℕ) where
   called y = ends arguments (λ found. record { form = simple_form.Call (tree.call y found); offset = y.offset }) (λ v. nowhere) (λ a z h. h)
 
   abbrev NameRest : Name → Family Token SimpleStatement
-  NameRest y depth = CallRest y depth <|> ((Index depth >>= (λ i. AssignRest y i depth)) <|> (Index depth >>= (λ i. StepRest y i depth)))
+  NameRest y depth = CallRest y depth <|> ((Indices depth >>= (λ i. AssignRest y i depth)) <|> (Indices depth >>= (λ i. StepRest y i depth)))
 
   on_name : Reads All n ((λ depth. g.name) ∘> NameRest) (λ room. s.read_on_name (suc room) room) is_name (λ v. after_expr) false
   unfolding s.read_on_name same_punctuator
@@ -165,9 +172,9 @@ module _ (n : ℕ) where
   by_rest depth at w v y front back cut named rest =
       ⊎_elim
       (λ (c : CallRest y depth at back v). inr (inr (y, front, back, cut, named, c)))
-      (λ (c : ((Index depth >>= (λ i. AssignRest y i depth)) <|> (Index depth >>= (λ i. StepRest y i depth))) at back v). ⊎_elim
-      (λ (f : (Index depth >>= (λ i. AssignRest y i depth)) at back v). inl (inl (y, front, back, cut, named, f)))
-      (λ (f : (Index depth >>= (λ i. StepRest y i depth)) at back v). inl (inr (y, front, back, cut, named, f)))
+      (λ (c : ((Indices depth >>= (λ i. AssignRest y i depth)) <|> (Indices depth >>= (λ i. StepRest y i depth))) at back v). ⊎_elim
+      (λ (f : (Indices depth >>= (λ i. AssignRest y i depth)) at back v). inl (inl (y, front, back, cut, named, f)))
+      (λ (f : (Indices depth >>= (λ i. StepRest y i depth)) at back v). inl (inr (y, front, back, cut, named, f)))
       c)
       rest
 
@@ -218,7 +225,7 @@ module _ (n : ℕ) where
   unfolding s.read_declarator same_punctuator
   declarator =
       name_then {n = n} {m = n} (le-suc n) whole
-      (λ y. both optional_index (λ length. ends optional_value (λ initial. record { name = y; length = length; initializer = initial }) (λ v. after_value) (λ a z h. h))
+      (λ y. both indices (λ lengths. ends optional_value (λ initial. record { name = y; lengths = lengths; initializer = initial }) (λ v. after_value) (λ a z h. h))
       (λ o z l h. sign_apart open_square (is assign) (λ at. refl) z l h) (λ v. after_declarator) (λ b z h. or_right (is open_square z) (after_value z) h)
       (λ a depth at b z c h l. or_left (is open_square z) (after_value z) l))
 
@@ -422,3 +429,18 @@ module _ (n : ℕ) where
       within_in (λ room. d.reads_both (r.expect open_round) (λ at. d.reads_both (s.read_for_start room (s.below room)) (λ first. s.read_for_condition room first)))
       (on open_round (λ at. in_turn for_start (λ first. condition_part first) (λ v z l h. cc)))
       (one_flat (sign_at open_round) (λ at depth. h.for_start (g.cast depth) (g.expr depth) >>= (λ first. optional (g.expr depth) >>= (λ c. g.sign semicolon >>= (λ u. StepPart first c depth)))))
+
+  -- ---- labels
+
+  case_label : Reads All n (λ depth. h.case_label (g.cast depth) (g.expr depth)) (λ room. s.read_case (suc room)) (is (Word k.Case)) (λ v. nowhere) false
+  unfolding s.read_case
+  case_label = on (Word k.Case) (λ at. in_turn (expr n) (λ y. on colon (λ u. gives_value (record { value = Some y; offset = at }))) (λ v z l h. ends_colon z l h))
+
+  default_label : Reads All n (λ depth. h.default_label (g.cast depth) (g.expr depth)) (λ room. s.read_default (suc room)) (is (Word k.Default)) (λ v. nowhere) false
+  unfolding s.read_default
+  default_label = on (Word k.Default) (λ at. on colon (λ u. gives_value (record { value = None; offset = at })))
+
+  pub label : Reads All n (λ depth. h.label (g.cast depth) (g.expr depth)) (λ room. s.read_label (suc room)) r.begins_label (λ v. nowhere) false
+  unfolding s.read_label same_keyword
+  label =
+      either_in case_label default_label (λ z a b. sign_apart (Word k.Case) (is (Word k.Default)) (λ at. refl) z a b) (λ v. nowhere) (λ v z h. h) (λ v z h. h) (λ depth at v z c h l. cc)

@@ -22,6 +22,7 @@ use Rattle.c_tree.specs.declared.statement.BlockItem.TheOpen.{Statement-F}
 use Rattle.c_tree.specs.declared.statement.BlockItem.TheFolds.{fold-roll-Statement}
 use Rattle.c_tree.specs.declared.statement.Statement.{Statement}
 use Rattle.c_tree.specs.declared.statement.Statement.TheVariants as st
+use Rattle.c_tree.specs.declared.statement.Group.{Group}
 use Rattle.c_tree.specs.Tokens.{same_keyword, same_punctuator, is, is_some, sign_at, name_at, direction_at, direction_of, word_type, is_type_word}
 use Rattle.c_tree.specs.Trees as tree
 use Rattle.c_tree.specs.Expressions as g
@@ -30,7 +31,7 @@ use Rattle.c_tree.specs.Statements.{closed, closed_step}
 use Rattle.c_reading.specs.Tokens as r
 use Rattle.c_reading.specs.Statements as s
 use Rattle.grammar.proofs.Lists.{or_cases}
-use Rattle.grammar.proofs.Good.{Reads, ◌∘>◌}
+use Rattle.grammar.proofs.Good.{Reads, ◌∘>◌, less}
 use Rattle.grammar.proofs.Parts.{gives, nowhere, reads_nothing, widen, under, same_reader, no_longer, reads_regrouped, some_then, in_turn, both, ends, then_ok, when_ok}
 use Rattle.grammar.proofs.Both.{both_in}
 use Rattle.grammar.proofs.Choice.{either_in, may}
@@ -38,7 +39,7 @@ use Rattle.grammar.proofs.Loops.{collected}
 use Rattle.grammar.proofs.Nested.{OpensBy, deeper_in, within_in, at_any_depth, one_flat, one_opens, group_opens, both_opens, either_opens, depth_opens}
 use Rattle.c_reading.proofs.TokenProofs.{token, sign_kind, sign_gives, sign_apart, sign_exactly, some_exactly, placed_exactly, name_apart, type_apart, direction_apart, sign_then}
 use Rattle.c_reading.proofs.ExprShapes.{open_round, All}
-use Rattle.c_reading.proofs.PlainProofs.{semicolon, plain_statement, declaration, condition, for_head}
+use Rattle.c_reading.proofs.PlainProofs.{semicolon, plain_statement, declaration, condition, for_head, label}
 
 abbrev pub open_curly : Sign
 open_curly = Mark p.OpenCurly
@@ -52,37 +53,41 @@ else_word = Word k.Else
 -- ---- which statements an else may stand behind
 
 closed_empty : closed st.Empty ≡ true
-closed_empty = ap closed (sym st.rolls-Empty) ∙ fold-roll-Statement Bool Bool Bool (λ i. true) closed_step (λ b. true) Statement-F.Empty
+closed_empty = ap closed (sym st.rolls-Empty) ∙ fold-roll-Statement Bool Bool Bool Bool (λ i. true) closed_step (λ b. true) (λ g. true) Statement-F.Empty
 
 closed_simple : (y : SimpleStatement) → closed (st.Simple y) ≡ true
-closed_simple y = ap closed (sym (st.rolls-Simple y)) ∙ fold-roll-Statement Bool Bool Bool (λ i. true) closed_step (λ b. true) (Statement-F.Simple y)
+closed_simple y = ap closed (sym (st.rolls-Simple y)) ∙ fold-roll-Statement Bool Bool Bool Bool (λ i. true) closed_step (λ b. true) (λ g. true) (Statement-F.Simple y)
 
 closed_break : (at : ℕ) → closed (st.Break at) ≡ true
-closed_break at = ap closed (sym (st.rolls-Break at)) ∙ fold-roll-Statement Bool Bool Bool (λ i. true) closed_step (λ b. true) (Statement-F.Break at)
+closed_break at = ap closed (sym (st.rolls-Break at)) ∙ fold-roll-Statement Bool Bool Bool Bool (λ i. true) closed_step (λ b. true) (λ g. true) (Statement-F.Break at)
 
 closed_continue : (at : ℕ) → closed (st.Continue at) ≡ true
-closed_continue at = ap closed (sym (st.rolls-Continue at)) ∙ fold-roll-Statement Bool Bool Bool (λ i. true) closed_step (λ b. true) (Statement-F.Continue at)
+closed_continue at = ap closed (sym (st.rolls-Continue at)) ∙ fold-roll-Statement Bool Bool Bool Bool (λ i. true) closed_step (λ b. true) (λ g. true) (Statement-F.Continue at)
 
 closed_return : (y : Returned) (at : ℕ) → closed (st.Return y at) ≡ true
-closed_return y at = ap closed (sym (st.rolls-Return y at)) ∙ fold-roll-Statement Bool Bool Bool (λ i. true) closed_step (λ b. true) (Statement-F.Return y at)
+closed_return y at = ap closed (sym (st.rolls-Return y at)) ∙ fold-roll-Statement Bool Bool Bool Bool (λ i. true) closed_step (λ b. true) (λ g. true) (Statement-F.Return y at)
 
 closed_block : (b : Block) → closed (st.Block b) ≡ true
-closed_block b = ap closed (sym (st.rolls-Block b)) ∙ fold-roll-Statement Bool Bool Bool (λ i. true) closed_step (λ b. true) (Statement-F.Block b)
+closed_block b = ap closed (sym (st.rolls-Block b)) ∙ fold-roll-Statement Bool Bool Bool Bool (λ i. true) closed_step (λ b. true) (λ g. true) (Statement-F.Block b)
 
 closed_do : (body : Statement) (c : Expression) → closed (st.DoWhile body c) ≡ true
-closed_do body c = ap closed (sym (st.rolls-DoWhile body c)) ∙ fold-roll-Statement Bool Bool Bool (λ i. true) closed_step (λ b. true) (Statement-F.DoWhile body c)
+closed_do body c = ap closed (sym (st.rolls-DoWhile body c)) ∙ fold-roll-Statement Bool Bool Bool Bool (λ i. true) closed_step (λ b. true) (λ g. true) (Statement-F.DoWhile body c)
 
 closed_open : (c : Expression) (body : Statement) → closed (st.If c body None) ≡ false
-closed_open c body = ap closed (sym (st.rolls-If c body None)) ∙ fold-roll-Statement Bool Bool Bool (λ i. true) closed_step (λ b. true) (Statement-F.If c body None)
+closed_open c body = ap closed (sym (st.rolls-If c body None)) ∙ fold-roll-Statement Bool Bool Bool Bool (λ i. true) closed_step (λ b. true) (λ g. true) (Statement-F.If c body None)
 
 closed_else : (c : Expression) (body other : Statement) → closed (st.If c body (Some other)) ≡ closed other
-closed_else c body other = ap closed (sym (st.rolls-If c body (Some other))) ∙ fold-roll-Statement Bool Bool Bool (λ i. true) closed_step (λ b. true) (Statement-F.If c body (Some other))
+closed_else c body other = ap closed (sym (st.rolls-If c body (Some other))) ∙ fold-roll-Statement Bool Bool Bool Bool (λ i. true) closed_step (λ b. true) (λ g. true) (Statement-F.If c body (Some other))
 
 closed_while : (c : Expression) (body : Statement) → closed (st.While c body) ≡ closed body
-closed_while c body = ap closed (sym (st.rolls-While c body)) ∙ fold-roll-Statement Bool Bool Bool (λ i. true) closed_step (λ b. true) (Statement-F.While c body)
+closed_while c body = ap closed (sym (st.rolls-While c body)) ∙ fold-roll-Statement Bool Bool Bool Bool (λ i. true) closed_step (λ b. true) (λ g. true) (Statement-F.While c body)
 
 closed_for : (first : ForStart) (c : Option Expression) (step : Option SimpleStatement) (body : Statement) → closed (st.For first c step body) ≡ closed body
-closed_for first c step body = ap closed (sym (st.rolls-For first c step body)) ∙ fold-roll-Statement Bool Bool Bool (λ i. true) closed_step (λ b. true) (Statement-F.For first c step body)
+closed_for first c step body = ap closed (sym (st.rolls-For first c step body)) ∙ fold-roll-Statement Bool Bool Bool Bool (λ i. true) closed_step (λ b. true) (λ g. true) (Statement-F.For first c step body)
+
+closed_switch : (c : Expression) (groups : List Group) (at : ℕ) → closed (st.Switch c groups at) ≡ true
+closed_switch c groups at =
+    ap closed (sym (st.rolls-Switch c groups at)) ∙ fold-roll-Statement Bool Bool Bool Bool (λ i. true) closed_step (λ b. true) (λ g. true) (Statement-F.Switch c groups at)
 
 -- what goes on after a statement
 abbrev pub After : Statement → Token → Bool
@@ -194,7 +199,8 @@ statement_opens_at =
     (either_opens (one_opens (is open_curly) (sign_at (Word k.If)) _ (not_curly (Word k.If) (λ at. refl)))
     (either_opens (one_opens (is open_curly) (sign_at (Word k.While)) _ (not_curly (Word k.While) (λ at. refl)))
     (either_opens (one_opens (is open_curly) (sign_at (Word k.Do)) _ (not_curly (Word k.Do) (λ at. refl)))
-    (one_opens (is open_curly) (sign_at (Word k.For)) _ (not_curly (Word k.For) (λ at. refl)))))))
+    (either_opens (one_opens (is open_curly) (sign_at (Word k.For)) _ (not_curly (Word k.For) (λ at. refl)))
+    (one_opens (is open_curly) (sign_at (Word k.Switch)) _ (not_curly (Word k.Switch) (λ at. refl))))))))
     (either_opens (one_opens (is open_curly) (sign_at semicolon) _ (not_curly semicolon (λ at. refl)))
     (either_opens (one_opens (is open_curly) (sign_at (Word k.Break)) _ (not_curly (Word k.Break) (λ at. refl)))
     (either_opens (one_opens (is open_curly) (sign_at (Word k.Continue)) _ (not_curly (Word k.Continue) (λ at. refl)))
@@ -291,6 +297,58 @@ module _ {D : ℕ → Type 0} (n m : ℕ) (le : n ≤ suc m) (more : m ≤ n) (w
   unfolding s.read_for
   for_loop = sign_then le whole (Word k.For) (λ u. some_then {n = m} {m = m} (omega arith) head for_rest (λ c z l f. cc) After (λ b z f. f) (λ c depth at b z f a l. cc))
 
+  -- ---- switches
+
+  a_label : Reads D m (λ depth. h.label (g.cast depth) (g.expr depth)) (λ room. s.read_label (suc room)) r.begins_label (λ v. nowhere) false
+  a_label = under (label m) good.whole (λ depth. tt)
+
+  else_statement : (z : Token) → is else_word z ≡ true → r.begins_statement z ≡ true → ⊥
+  unfolding same_keyword
+  else_statement z a b = sign_apart else_word r.begins_statement (λ at. refl) z a b
+
+  abbrev after_group : Token → Bool
+  after_group z = is else_word z || r.begins_statement z
+
+  statements : Reads D m (λ depth. many (h.statement depth)) (λ room. d.reads_many r.begins_statement (s.read_statement (suc room))) r.begins_statement (λ vs. after_group) true
+  statements = collected (widen good (λ v. is else_word) (λ v z f. after_else v z f)) else_statement
+
+  group : Reads D m (λ depth. h.group (g.cast depth) (g.expr depth) (h.statement depth)) (λ room. s.read_group (s.read_statement (suc room)) (suc room)) r.begins_label (λ v. after_group) false
+  unfolding s.read_group
+  group =
+      some_then {n = m} {m = m} (omega arith) a_label (λ x. ends statements (tree.group x) (λ v. after_group) (λ a z f. f)) (λ x z l f. cc) (λ v. after_group) (λ b z f. f)
+      (λ a depth at b z f c l. cc)
+
+  group_label : (z : Token) → after_group z ≡ true → r.begins_label z ≡ true → ⊥
+  unfolding same_keyword same_punctuator
+  group_label z a b =
+      or_cases (is (Word k.Case) z) (is (Word k.Default) z) b (λ c. sign_apart (Word k.Case) after_group (λ at. refl) z c a) (λ c. sign_apart (Word k.Default) after_group (λ at. refl) z c a)
+
+  abbrev GroupsRest : ℕ → Family Token (List Group)
+  GroupsRest u depth = many (h.group (g.cast depth) (g.expr depth) (h.statement depth)) >>= (λ found. g.sign close_curly >>= (λ close. pure found))
+
+  groups : Reads D n (λ depth. h.groups (g.cast depth) (g.expr depth) (h.statement depth)) (λ room. s.read_groups (s.read_statement room) room) (is open_curly) (λ v. nowhere) false
+  unfolding s.read_groups same_keyword same_punctuator
+  groups =
+      within_in (λ room. d.reads_both (r.expect open_curly) (λ u. d.reads_both (d.reads_many r.begins_label (s.read_group (s.read_statement room) room))
+      (λ found. d.reads_both (r.expect close_curly) (λ close. d.reads_pure found))))
+      (sign_then le whole open_curly (λ u. both (collected group group_label) (λ found. on close_curly (λ close. gives_value found))
+      (λ vs z a b. or_cases (after_group z) (r.begins_label z) a (λ c. sign_apart close_curly after_group (λ at. refl) z b c) (λ c. sign_apart close_curly r.begins_label (λ at. refl) z b c))
+      (λ v. nowhere) (λ b z c. c) (λ a depth at b z f c l. cc)))
+      (one_flat (sign_at open_curly) GroupsRest)
+
+  groups_open : OpensBy D (is open_curly) (λ depth. h.groups (g.cast depth) (g.expr depth) (h.statement depth))
+  groups_open = group_opens (is open_curly) (sign_at open_curly) GroupsRest (λ z a. sym (sign_exactly open_curly z) ∙ a)
+
+  switch_body : Reads D m (λ depth. nested (h.groups (g.cast depth) (g.expr depth) (h.statement depth))) s.read_switch_body (is open_curly) (λ v. nowhere) false
+  unfolding s.read_switch_body
+  switch_body = deeper_in (less groups m more) (is open_curly) groups_open (λ z f. f) s.read_switch_body (λ ts. refl) (λ room ts. refl)
+
+  switch : Reads D n (λ depth. h.switch (g.cast depth) (g.expr depth) (h.statement depth)) (λ room. s.read_switch (s.read_statement room) (s.read_switch_body room) room) (is (Word k.Switch)) After false
+  unfolding s.read_switch
+  switch =
+      let body = λ (at : ℕ) (x : Expression). ends switch_body (λ found. st.Switch x found at) After (λ a z f. cc) in
+      sign_then le whole (Word k.Switch) (λ at. some_then {n = m} {m = m} (omega arith) test (body at) (λ c z l f. cc) After (λ b z f. f) (λ c depth at b z f a l. cc))
+
   -- ---- if and else
 
   abbrev ElsePart : Bool → Family Token (Option Statement)
@@ -369,15 +427,18 @@ module _ {D : ℕ → Type 0} (n m : ℕ) (le : n ≤ suc m) (more : m ≤ n) (w
     unfolding s.read_branch
     branch = sign_then le whole (Word k.If) (λ u. some_then {n = m} {m = m} (omega arith) test tail (λ c z l f. cc) After (λ b z f. f) (λ c depth at b z f a l. cc))
 
-    compound : Reads D n (λ depth. h.compound (g.cast depth) (g.expr depth) (h.statement depth)) (λ room. s.read_compound (s.read_statement room) room) r.begins_compound After false
+    compound : Reads D n (λ depth. h.compound (g.cast depth) (g.expr depth) (h.statement depth)) (λ room. s.read_compound (s.read_statement room) (s.read_switch_body room) room) r.begins_compound After false
     unfolding s.read_compound same_keyword same_punctuator
     compound =
-        let last = either_in do_loop for_loop (λ z a b. sign_apart (Word k.Do) (is (Word k.For)) (λ at. refl) z a b) After (λ v z f. f) (λ v z f. f) (λ depth at v z a b c. cc) in
-        let third = either_in while_loop last (λ z a b. sign_apart (Word k.While) (λ z. is (Word k.Do) z || is (Word k.For) z) (λ at. refl) z a b) After (λ v z f. f) (λ v z f. f)
+        let last = either_in for_loop switch (λ z a b. sign_apart (Word k.For) (is (Word k.Switch)) (λ at. refl) z a b) After (λ v z f. f) (λ v z f. f) (λ depth at v z a b c. cc) in
+        let fourth = either_in do_loop last (λ z a b. sign_apart (Word k.Do) (λ z. is (Word k.For) z || is (Word k.Switch) z) (λ at. refl) z a b) After (λ v z f. f) (λ v z f. f)
         (λ depth at v z a b c. cc) in
-        let second = either_in branch third (λ z a b. sign_apart (Word k.If) (λ z. is (Word k.While) z || (is (Word k.Do) z || is (Word k.For) z)) (λ at. refl) z a b)
+        let third = either_in while_loop fourth (λ z a b. sign_apart (Word k.While) (λ z. is (Word k.Do) z || (is (Word k.For) z || is (Word k.Switch) z)) (λ at. refl) z a b)
         After (λ v z f. f) (λ v z f. f) (λ depth at v z a b c. cc) in
-        either_in block_statement second (λ z a b. sign_apart open_curly (λ z. is (Word k.If) z || (is (Word k.While) z || (is (Word k.Do) z || is (Word k.For) z))) (λ at. refl) z a b)
+        let second = either_in branch third (λ z a b. sign_apart (Word k.If) (λ z. is (Word k.While) z || (is (Word k.Do) z || (is (Word k.For) z || is (Word k.Switch) z))) (λ at. refl) z a b)
+        After (λ v z f. f) (λ v z f. f) (λ depth at v z a b c. cc) in
+        either_in block_statement second
+        (λ z a b. sign_apart open_curly (λ z. is (Word k.If) z || (is (Word k.While) z || (is (Word k.Do) z || (is (Word k.For) z || is (Word k.Switch) z)))) (λ at. refl) z a b)
         After (λ v z f. f) (λ v z f. f) (λ depth at v z a b c. cc)
 
     plain : Reads D n (λ depth. h.plain_statement (g.cast depth) (g.expr depth)) (λ room. s.read_plain (suc room) room) r.begins_plain (λ v. nowhere) false
@@ -389,10 +450,12 @@ module _ {D : ℕ → Type 0} (n m : ℕ) (le : n ≤ suc m) (more : m ≤ n) (w
         or_cases (is open_curly z) _ a (λ c. sign_apart open_curly r.begins_plain (λ at. refl) z c b)
         (λ a. or_cases (is (Word k.If) z) _ a (λ c. sign_apart (Word k.If) r.begins_plain (λ at. refl) z c b)
         (λ a. or_cases (is (Word k.While) z) _ a (λ c. sign_apart (Word k.While) r.begins_plain (λ at. refl) z c b)
-        (λ a. or_cases (is (Word k.Do) z) (is (Word k.For) z) a (λ c. sign_apart (Word k.Do) r.begins_plain (λ at. refl) z c b) (λ c. sign_apart (Word k.For) r.begins_plain (λ at. refl) z c b))))
+        (λ a. or_cases (is (Word k.Do) z) _ a (λ c. sign_apart (Word k.Do) r.begins_plain (λ at. refl) z c b)
+        (λ a. or_cases (is (Word k.For) z) (is (Word k.Switch) z) a (λ c. sign_apart (Word k.For) r.begins_plain (λ at. refl) z c b)
+        (λ c. sign_apart (Word k.Switch) r.begins_plain (λ at. refl) z c b)))))
 
     pub any_statement : Reads D n (λ depth. h.any_statement (g.cast depth) (g.expr depth) (h.statement depth))
-        (λ room. s.read_any_statement (s.read_statement room) (suc room) room) r.begins_statement After false
+        (λ room. s.read_any_statement (s.read_statement room) (s.read_switch_body room) (suc room) room) r.begins_statement After false
     unfolding s.read_any_statement
     any_statement = either_in compound plain compound_plain After (λ v z f. f) (λ v z f. cc) (λ depth at v z a b c. cc)
 
@@ -537,22 +600,33 @@ module _ (statement : r.Reads Statement) (room : ℕ) (inner_greedy : Greedy sta
       let end = value_of (st.If b.0.0 c.0.0 f.0.0) v f.0.1 rest f.2 in
       subst (λ l. d.sees (is else_word) l ≡ false) end.1 (greedy_other c.0.1 f.0.0 f.0.1 b.0.0 c.0.0 f.1 (ap closed end.0 ∙ o))
 
-  greedy_compound : Greedy (s.read_compound statement room)
-  unfolding s.read_compound
-  greedy_compound ts v rest e o =
-      ⊎_elim (λ a. greedy_block ts v rest a o)
-      (λ a. ⊎_elim (λ b. greedy_branch ts v rest b o)
-      (λ b. ⊎_elim (λ c. greedy_while ts v rest c o)
-      (λ c. ⊎_elim (λ f. greedy_do ts v rest f o) (λ f. greedy_for ts v rest f o) (when_ok _ _ (d.sees (is (Word k.Do)) ts) c))
-      (when_ok _ _ (d.sees (is (Word k.While)) ts) b))
-      (when_ok _ _ (d.sees (is (Word k.If)) ts) a))
-      (when_ok _ _ (d.sees (is open_curly) ts) e)
+  module _ (groups : r.Reads (List Group)) where
+    greedy_switch : Greedy (s.read_switch statement groups room)
+    unfolding s.read_switch
+    greedy_switch ts v rest e o =
+        let a = then_ok _ (r.expect (Word k.Switch) ts) e in
+        let b = then_ok _ (s.read_condition room a.0.1) a.2 in
+        let c = then_ok _ (groups b.0.1) b.2 in
+        open_or_closed v (st.Switch b.0.0 c.0.0 a.0.0) (value_of (st.Switch b.0.0 c.0.0 a.0.0) v c.0.1 rest c.2).0 (closed_switch b.0.0 c.0.0 a.0.0) o
+
+    greedy_compound : Greedy (s.read_compound statement groups room)
+    unfolding s.read_compound
+    greedy_compound ts v rest e o =
+        ⊎_elim (λ a. greedy_block ts v rest a o)
+        (λ a. ⊎_elim (λ b. greedy_branch ts v rest b o)
+        (λ b. ⊎_elim (λ c. greedy_while ts v rest c o)
+        (λ c. ⊎_elim (λ f. greedy_do ts v rest f o)
+        (λ f. ⊎_elim (λ j. greedy_for ts v rest j o) (λ j. greedy_switch ts v rest j o) (when_ok _ _ (d.sees (is (Word k.For)) ts) f))
+        (when_ok _ _ (d.sees (is (Word k.Do)) ts) c))
+        (when_ok _ _ (d.sees (is (Word k.While)) ts) b))
+        (when_ok _ _ (d.sees (is (Word k.If)) ts) a))
+        (when_ok _ _ (d.sees (is open_curly) ts) e)
 
 greedy : (room : ℕ) → Greedy (s.read_statement room)
 unfolding s.read_statement s.read_any_statement
 greedy zero ts v rest e o = deeper_fails (is open_curly) r.begins_statement ts (v, rest) e
 greedy (suc room) ts v rest e o =
-    ⊎_elim (λ a. greedy_compound (s.read_statement room) room (greedy room) ts v rest a o) (λ a. greedy_plain (suc room) room ts v rest a o) (when_ok _ _ (d.sees r.begins_compound ts) e)
+    ⊎_elim (λ a. greedy_compound (s.read_statement room) room (greedy room) (s.read_switch_body room) ts v rest a o) (λ a. greedy_plain (suc room) room ts v rest a o) (when_ok _ _ (d.sees r.begins_compound ts) e)
 
 -- ---- at any depth
 

@@ -1,24 +1,26 @@
 -- How declarations at file scope and a whole text are read. The number `level` is how many levels of nesting are left,
 -- that of the phrase among them, and `inside` how many are left inside of it.
-use Rattle.std.specs.Prelude.{ℕ, Bool, true, false, List, [], ◌∷◌, Option, Some, None, length}
+use Rattle.std.specs.Prelude.{ℕ, zero, suc, Bool, true, false, List, [], ◌∷◌, Option, Some, None, length}
 use Rattle.c_token.specs.declared.keyword.Keyword.TheVariants as k
 use Rattle.c_token.specs.declared.punctuator.Punctuator.TheVariants as p
-use Rattle.grammar.specs.Readers.{reads_pure, reads_while, reads_either, reads_optional, sees, sees_all, reads_within, appended, ◌>>=◌, ◌>>◌}
+use Rattle.c_token.specs.declared.token.Token.{Token}
+use Rattle.grammar.specs.Readers.{reads_pure, reads_while, reads_either, reads_optional, sees, sees_all, reads_within, too_deep_or, appended, ◌>>=◌, ◌>>◌}
 use Rattle.c_tree.specs.declared.sign.Sign.TheVariants.{Word, Mark, End}
 use Rattle.c_tree.specs.declared.expression.Name.{Name}
 use Rattle.c_tree.specs.declared.expression.Specifiers.{Specifiers}
-use Rattle.c_tree.specs.declared.expression.Expression.{Expression}
 use Rattle.c_tree.specs.declared.statement.Block.{Block}
 use Rattle.c_tree.specs.declared.declaration.Parameter.{Parameter}
+use Rattle.c_tree.specs.declared.declaration.Initial.{Initial}
+use Rattle.c_tree.specs.declared.declaration.Initial.TheVariants as initial_of
 use Rattle.c_tree.specs.declared.declaration.Initializer.{Initializer}
-use Rattle.c_tree.specs.declared.declaration.Initializer.TheVariants as initial
+use Rattle.c_tree.specs.declared.declaration.Initializer.TheVariants as initializer_of
 use Rattle.c_tree.specs.declared.declaration.GlobalDeclarator.{GlobalDeclarator}
 use Rattle.c_tree.specs.declared.declaration.ExternalDeclaration.{ExternalDeclaration}
 use Rattle.c_tree.specs.declared.declaration.ExternalDeclaration.TheVariants as ext
 use Rattle.c_tree.specs.declared.declaration.TranslationUnit.{TranslationUnit}
 use Rattle.c_tree.specs.Tokens.{is, is_name, is_type_word}
-use Rattle.c_reading.specs.Tokens.{Reads, expect, read_name, read_specifiers, read_next, read_any, begins_cast}
-use Rattle.c_reading.specs.Expressions.{read_expr, read_optional_index}
+use Rattle.c_reading.specs.Tokens.{Reads, expect, read_name, read_specifiers, read_next, read_any, begins_initial, opens_initial}
+use Rattle.c_reading.specs.Expressions.{read_expr, read_indices}
 use Rattle.c_reading.specs.Statements.{read_statement, read_block}
 
 -- ---- parameters
@@ -43,51 +45,82 @@ read_parameters room = reads_within (is (Mark p.OpenRound)) room (do
   expect (Mark p.CloseRound)
   reads_pure found)
 
--- ---- variables at file scope
+-- ---- values in braces
 
--- values with commas between them, behind the first; a comma behind the last one is left
-unfoldable pub read_values : ℕ → Expression → Reads (List Expression)
-read_values room first ts = reads_while (sees_all (is (Mark p.Comma) ∷ begins_cast ∷ [])) appended (read_next (read_expr room)) (length ts) (first ∷ []) ts
+-- a comma and one more
+abbrev pub next_initial_ahead : List (Token → Bool)
+next_initial_ahead = is (Mark p.Comma) ∷ begins_initial ∷ []
 
 unfoldable pub read_optional_comma : Reads (Option ℕ)
 read_optional_comma = reads_optional (is (Mark p.Comma)) (expect (Mark p.Comma))
 
+-- the reader of what stands in the braces, and how many levels are left for them
+module _ (initial : Reads Initial) (room : ℕ) where
+  -- with commas between them, behind the first; a comma behind the last one is left
+  unfoldable pub read_initials : Initial → Reads (List Initial)
+  read_initials first ts = reads_while (sees_all next_initial_ahead) appended (read_next initial) (length ts) (first ∷ []) ts
+
+  unfoldable pub read_braces : Reads (List Initial × ℕ)
+  read_braces = reads_within (is (Mark p.OpenCurly)) room (do
+    at ← expect (Mark p.OpenCurly)
+    first ← initial
+    found ← read_initials first
+    read_optional_comma
+    expect (Mark p.CloseCurly)
+    reads_pure (found, at))
+
+  unfoldable pub read_braced : Reads Initial
+  read_braced = do
+    found ← read_braces
+    reads_pure (initial_of.List found.0 found.1)
+
+unfoldable pub read_single : ℕ → Reads Initial
+read_single level = do
+  x ← read_expr level
+  reads_pure (initial_of.Value x)
+
+-- the reader is that of what stands inside of its braces
+unfoldable pub read_any_initial : Reads Initial → ℕ → ℕ → Reads Initial
+read_any_initial initial level inside = reads_either (is (Mark p.OpenCurly)) (read_braced initial inside) (read_single level)
+
+unfoldable pub read_initial : ℕ → Reads Initial
+read_initial zero = too_deep_or opens_initial begins_initial
+read_initial (suc room) = read_any_initial (read_initial room) (suc room) room
+
+-- ---- variables at file scope
+
 unfoldable pub read_list : ℕ → Reads Initializer
-read_list room = reads_within (is (Mark p.OpenCurly)) room (do
-  expect (Mark p.OpenCurly)
-  first ← read_expr room
-  values ← read_values room first
-  read_optional_comma
-  expect (Mark p.CloseCurly)
-  reads_pure (initial.List values))
+read_list room = do
+  found ← read_braces (read_initial room) room
+  reads_pure (initializer_of.List found.0 found.1)
 
 unfoldable pub read_mutex : Reads Initializer
 read_mutex = do
   expect (Word k.MutexInitializer)
-  reads_pure initial.Mutex
+  reads_pure initializer_of.Mutex
 
 module _ (level inside : ℕ) where
-  unfoldable pub read_initial_value : Reads Initializer
-  read_initial_value = do
+  unfoldable pub read_value : Reads Initializer
+  read_value = do
     x ← read_expr level
-    reads_pure (initial.Value x)
+    reads_pure (initializer_of.Value x)
 
-  unfoldable pub read_initial : Reads Initializer
-  read_initial = reads_either (is (Mark p.OpenCurly)) (read_list inside) (reads_either (is (Word k.MutexInitializer)) read_mutex read_initial_value)
+  unfoldable pub read_any_value : Reads Initializer
+  read_any_value = reads_either (is (Mark p.OpenCurly)) (read_list inside) (reads_either (is (Word k.MutexInitializer)) read_mutex read_value)
 
   unfoldable pub read_initializer : Reads Initializer
   read_initializer = do
     expect (Mark p.Assign)
-    read_initial
+    read_any_value
 
   unfoldable pub read_optional_initializer : Reads (Option Initializer)
   read_optional_initializer = reads_optional (is (Mark p.Assign)) read_initializer
 
   unfoldable pub read_global : Name → Reads GlobalDeclarator
   read_global x = do
-    length ← read_optional_index (read_expr inside) inside
+    lengths ← read_indices (read_expr inside) inside
     initial ← read_optional_initializer
-    reads_pure (record { name = x; length = length; initializer = initial })
+    reads_pure (record { name = x; lengths = lengths; initializer = initial })
 
   unfoldable pub read_next_global : Reads GlobalDeclarator
   read_next_global = do

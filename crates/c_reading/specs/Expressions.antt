@@ -1,9 +1,9 @@
 -- How expressions are read. The number `room` is how many levels of nesting are left inside of the phrase.
-use Rattle.std.specs.Prelude.{ℕ, zero, suc, ◌-◌, Bool, List, [], ◌∷◌, length, Option, reverse}
+use Rattle.std.specs.Prelude.{ℕ, zero, suc, ◌-◌, Bool, List, [], ◌∷◌, length, reverse}
 use Rattle.c_token.specs.declared.keyword.Keyword.TheVariants as k
 use Rattle.c_token.specs.declared.punctuator.Punctuator.TheVariants as p
 use Rattle.c_token.specs.declared.token.Token.{Token}
-use Rattle.grammar.specs.Readers.{reads_pure, reads_while, reads_many, reads_when, reads_either, reads_optional, sees, sees_all, too_deep}
+use Rattle.grammar.specs.Readers.{reads_pure, reads_while, reads_many, reads_when, reads_either, sees, sees_all, too_deep}
 use Rattle.grammar.specs.Readers.{too_deep_or, reads_within, appended, ◌>>=◌, ◌>>◌}
 use Rattle.c_tree.specs.declared.sign.Sign.TheVariants.{Word, Mark}
 use Rattle.c_tree.specs.declared.expression.Name.{Name}
@@ -18,7 +18,7 @@ use Rattle.c_tree.specs.declared.expression.Argument.TheVariants as argument_of
 use Rattle.c_tree.specs.declared.expression.Pointer.{Pointer}
 use Rattle.c_tree.specs.Tokens.{is, is_name, is_constant, is_text, is_type_word, is_unary, binds_at}
 use Rattle.c_tree.specs.Trees as tree
-use Rattle.c_reading.specs.Tokens.{Reads, expect, read_name, read_text, read_constant, read_unary_operator, read_operator, read_specifiers, read_any, begins_cast, begins_argument}
+use Rattle.c_reading.specs.Tokens.{Reads, expect, read_name, read_text, read_constant, read_unary_operator, read_operator, read_specifiers, read_any, read_at_most, begins_cast, begins_argument}
 
 -- ---- the levels of binary operators
 
@@ -52,14 +52,14 @@ module _ (expr : Reads Expression) (room : ℕ) where
     expect (Mark p.CloseSquare)
     reads_pure x)
 
-  unfoldable pub read_optional_index : Reads (Option Expression)
-  read_optional_index = reads_optional (is (Mark p.OpenSquare)) read_index
+  unfoldable pub read_indices : Reads (List Expression)
+  read_indices = read_at_most 3 (is (Mark p.OpenSquare)) read_index
 
   unfoldable pub read_place : Reads Place
   read_place = do
     x ← read_name
-    i ← read_optional_index
-    reads_pure (tree.place x i)
+    found ← read_indices
+    reads_pure (tree.place x found)
 
 unfoldable pub read_arguments : Reads Argument → ℕ → Reads (List Argument)
 read_arguments argument room = reads_within (is (Mark p.OpenRound)) room (do
@@ -147,8 +147,8 @@ module _ (cast expr : Reads Expression) (argument : Reads Argument) (room : ℕ)
 
   unfoldable pub read_place_of : Name → Reads Expression
   read_place_of x = do
-    i ← read_optional_index expr room
-    reads_pure (tree.expression x.offset (form.Place (tree.place x i)))
+    found ← read_indices expr room
+    reads_pure (tree.expression x.offset (form.Place (tree.place x found)))
 
   unfoldable pub read_named : Reads Expression
   read_named = do

@@ -1,6 +1,6 @@
 -- How statements are read. The number `level` is how many levels of nesting are left, that of the phrase among them, and
 -- `inside` how many are left inside of it.
-use Rattle.std.specs.Prelude.{ℕ, zero, suc, Option}
+use Rattle.std.specs.Prelude.{ℕ, zero, suc, List, Option, Some, None}
 use Rattle.c_token.specs.declared.keyword.Keyword.TheVariants as k
 use Rattle.c_token.specs.declared.punctuator.Punctuator.TheVariants as p
 use Rattle.grammar.specs.Readers.{reads_pure, reads_many, reads_when, reads_either, reads_optional, sees_all, too_deep_or, reads_within, ◌>>=◌, ◌>>◌}
@@ -18,13 +18,15 @@ use Rattle.c_tree.specs.declared.statement.BlockItem.{BlockItem}
 use Rattle.c_tree.specs.declared.statement.BlockItem.TheVariants as block_item
 use Rattle.c_tree.specs.declared.statement.Statement.{Statement}
 use Rattle.c_tree.specs.declared.statement.Statement.TheVariants as st
+use Rattle.c_tree.specs.declared.statement.CaseLabel.{CaseLabel}
+use Rattle.c_tree.specs.declared.statement.Group.{Group}
 use Rattle.c_tree.specs.declared.declaration.Declaration.{Declaration}
 use Rattle.c_tree.specs.declared.declaration.Declarator.{Declarator}
 use Rattle.c_tree.specs.Tokens.{is, is_type_word, is_direction}
 use Rattle.c_tree.specs.Trees as tree
 use Rattle.c_reading.specs.Tokens.{Reads, expect, read_name, read_specifiers, read_assignment_operator, read_direction, read_way, read_listed, begins_cast}
-use Rattle.c_reading.specs.Tokens.{begins_simple, begins_compound, begins_statement, begins_item}
-use Rattle.c_reading.specs.Expressions.{read_expr, read_cast, read_argument, read_arguments, read_place, read_optional_index, read_null, read_converted_pointer, conversion_to_pointer_ahead}
+use Rattle.c_reading.specs.Tokens.{begins_simple, begins_compound, begins_statement, begins_item, begins_label}
+use Rattle.c_reading.specs.Expressions.{read_expr, read_cast, read_argument, read_arguments, read_place, read_indices, read_null, read_converted_pointer, conversion_to_pointer_ahead}
 
 -- one level less
 abbrev pub below : ℕ → ℕ
@@ -45,21 +47,21 @@ module _ (level inside : ℕ) where
     found ← read_arguments (read_argument inside) inside
     reads_pure (record { form = simple_form.Call (tree.call f found); offset = f.offset })
 
-  unfoldable pub read_step_behind : Name → Option Expression → Reads SimpleStatement
-  read_step_behind x i = do
+  unfoldable pub read_step_behind : Name → List Expression → Reads SimpleStatement
+  read_step_behind x indices = do
     way ← read_way
-    reads_pure (record { form = simple_form.Step (tree.place x i) way; offset = x.offset })
+    reads_pure (record { form = simple_form.Step (tree.place x indices) way; offset = x.offset })
 
-  unfoldable pub read_assigned : Name → Option Expression → Reads SimpleStatement
-  read_assigned x i = do
+  unfoldable pub read_assigned : Name → List Expression → Reads SimpleStatement
+  read_assigned x indices = do
     op ← read_assignment_operator
     value ← read_expr level
-    reads_pure (record { form = simple_form.Assign (tree.place x i) op value; offset = x.offset })
+    reads_pure (record { form = simple_form.Assign (tree.place x indices) op value; offset = x.offset })
 
   unfoldable pub read_changed : Name → Reads SimpleStatement
   read_changed x = do
-    i ← read_optional_index (read_expr inside) inside
-    reads_either is_direction (read_step_behind x i) (read_assigned x i)
+    indices ← read_indices (read_expr inside) inside
+    reads_either is_direction (read_step_behind x indices) (read_assigned x indices)
 
   unfoldable pub read_on_name : Reads SimpleStatement
   read_on_name = do
@@ -83,9 +85,9 @@ module _ (level inside : ℕ) where
   unfoldable pub read_declarator : Reads Declarator
   read_declarator = do
     x ← read_name
-    length ← read_optional_index (read_expr inside) inside
+    lengths ← read_indices (read_expr inside) inside
     initial ← read_optional_value
-    reads_pure (record { name = x; length = length; initializer = initial })
+    reads_pure (record { name = x; lengths = lengths; initializer = initial })
 
   unfoldable pub read_declaration : Reads Declaration
   read_declaration = do
@@ -208,6 +210,25 @@ module _ (level : ℕ) where
     first ← read_for_start level (below level)
     read_for_condition first)
 
+-- ---- labels
+
+module _ (level : ℕ) where
+  unfoldable pub read_case : Reads CaseLabel
+  read_case = do
+    at ← expect (Word k.Case)
+    x ← read_expr level
+    expect (Mark p.Colon)
+    reads_pure (record { value = Some x; offset = at })
+
+  unfoldable pub read_default : Reads CaseLabel
+  read_default = do
+    at ← expect (Word k.Default)
+    expect (Mark p.Colon)
+    reads_pure (record { value = None; offset = at })
+
+  unfoldable pub read_label : Reads CaseLabel
+  read_label = reads_either (is (Word k.Case)) read_case read_default
+
 -- ---- statements with statements in them
 
 -- the reader of statements where so many levels are left, and the number
@@ -277,17 +298,45 @@ module _ (statement : Reads Statement) (level : ℕ) where
     x ← read_with_body head
     reads_pure (st.For x.0.0 x.0.1 x.0.2 x.1)
 
+  unfoldable pub read_group : Reads Group
+  read_group = do
+    x ← read_label level
+    statements ← reads_many begins_statement statement
+    reads_pure (tree.group x statements)
+
+  unfoldable pub read_groups : Reads (List Group)
+  read_groups = reads_within (is (Mark p.OpenCurly)) level (do
+    expect (Mark p.OpenCurly)
+    found ← reads_many begins_label read_group
+    expect (Mark p.CloseCurly)
+    reads_pure found)
+
+-- the readers of the statements inside and of the braces of a switch, where so many levels are left
+module _ (statement : Reads Statement) (groups : Reads (List Group)) (level : ℕ) where
+  unfoldable pub read_switch : Reads Statement
+  read_switch = do
+    at ← expect (Word k.Switch)
+    x ← read_condition level
+    found ← groups
+    reads_pure (st.Switch x found at)
+
   unfoldable pub read_compound : Reads Statement
   read_compound =
-      reads_either (is (Mark p.OpenCurly)) read_block_statement
-      (reads_either (is (Word k.If)) read_branch
-      (reads_either (is (Word k.While)) read_while
-      (reads_either (is (Word k.Do)) read_do read_for)))
+      reads_either (is (Mark p.OpenCurly)) (read_block_statement statement level)
+      (reads_either (is (Word k.If)) (read_branch statement level)
+      (reads_either (is (Word k.While)) (read_while statement level)
+      (reads_either (is (Word k.Do)) (read_do statement level)
+      (reads_either (is (Word k.For)) (read_for statement level) read_switch))))
 
--- the reader is that of the statements inside
-unfoldable pub read_any_statement : Reads Statement → ℕ → ℕ → Reads Statement
-read_any_statement statement level inside = reads_either begins_compound (read_compound statement inside) (read_plain level inside)
+unfoldable pub read_any_statement : Reads Statement → Reads (List Group) → ℕ → ℕ → Reads Statement
+read_any_statement statement groups level inside = reads_either begins_compound (read_compound statement groups inside) (read_plain level inside)
 
-unfoldable pub read_statement : ℕ → Reads Statement
-read_statement zero = too_deep_or (is (Mark p.OpenCurly)) begins_statement
-read_statement (suc room) = read_any_statement (read_statement room) (suc room) room
+unfoldable mutual
+  pub read_statement : ℕ → Reads Statement
+  read_statement zero = too_deep_or (is (Mark p.OpenCurly)) begins_statement
+  read_statement (suc room) = read_any_statement (read_statement room) (read_switch_body room) (suc room) room
+
+  -- the braces of a switch, which are the body of a control statement
+  pub read_switch_body : ℕ → Reads (List Group)
+  read_switch_body zero = too_deep_or (is (Mark p.OpenCurly)) (is (Mark p.OpenCurly))
+  read_switch_body (suc room) = read_groups (read_statement room) room

@@ -91,6 +91,10 @@ read_listed item = do
 unfoldable pub read_any : {A : Type 0} → (Token → Bool) → Reads A → Reads (List A)
 read_any begins item = reads_either begins (read_listed item) (reads_pure [])
 
+-- as long as the next token is of the set, and no more than the number
+unfoldable pub read_at_most : {A : Type 0} → ℕ → (Token → Bool) → Reads A → Reads (List A)
+read_at_most most begins item ts = reads_while (sees begins) appended item most [] ts
+
 -- ---- which tokens begin a phrase
 
 abbrev pub begins_primary : Token → Bool
@@ -99,6 +103,14 @@ begins_primary x = is_name x || (is_constant x || is (Mark p.OpenRound) x)
 abbrev pub begins_cast : Token → Bool
 begins_cast x = is_unary x || begins_primary x
 
+-- a value among those of an array, or several in braces
+abbrev pub begins_initial : Token → Bool
+begins_initial x = is (Mark p.OpenCurly) x || begins_cast x
+
+-- the first of those that stand one level deeper
+abbrev pub opens_initial : Token → Bool
+opens_initial x = is (Mark p.OpenCurly) x || is (Mark p.OpenRound) x
+
 abbrev pub begins_argument : Token → Bool
 begins_argument x = begins_cast x || (is_text x || (is (Mark p.And) x || is (Word k.Null) x))
 
@@ -106,7 +118,7 @@ abbrev pub begins_simple : Token → Bool
 begins_simple x = is_name x || is_direction x
 
 abbrev pub begins_compound : Token → Bool
-begins_compound x = is (Mark p.OpenCurly) x || (is (Word k.If) x || (is (Word k.While) x || (is (Word k.Do) x || is (Word k.For) x)))
+begins_compound x = is (Mark p.OpenCurly) x || (is (Word k.If) x || (is (Word k.While) x || (is (Word k.Do) x || (is (Word k.For) x || is (Word k.Switch) x))))
 
 abbrev pub begins_jump : Token → Bool
 begins_jump x = is (Word k.Break) x || (is (Word k.Continue) x || is (Word k.Return) x)
@@ -119,3 +131,6 @@ begins_statement x = begins_compound x || begins_plain x
 
 abbrev pub begins_item : Token → Bool
 begins_item x = is_type_word x || begins_statement x
+
+abbrev pub begins_label : Token → Bool
+begins_label x = is (Word k.Case) x || is (Word k.Default) x
