@@ -136,6 +136,30 @@ impl<'a> Cursor<'a> {
         }
     }
 
+    /// Whether the next token can begin a value of an initializer, or several in braces (C99 6.7.8).
+    pub fn begins_initial(&self) -> bool
+        ensures { result ≡ sees spec.begins_initial self.now }
+    {
+        match self.rest {
+            [token, ..] => tokens::begins_initial(token),
+            [] => false,
+        }
+    }
+
+    /// Whether a brace or a parenthesis opens next.
+    #[tactic(auto, unfolding(c_tree::specs::Tokens::same_punctuator))]
+    pub fn opens_initial(&self) -> bool
+        ensures { result ≡ sees spec.opens_initial self.now }
+    {
+        match self.rest {
+            [token, ..] => matches!(
+                &token.kind,
+                Kind::Punctuator(Punctuator::OpenCurly | Punctuator::OpenRound)
+            ),
+            [] => false,
+        }
+    }
+
     /// Whether the next token can begin an argument of a call.
     #[tactic(auto, unfolding(c_tree::specs::Tokens::same_keyword, c_tree::specs::Tokens::same_punctuator))]
     pub fn begins_argument(&self) -> bool
@@ -188,6 +212,17 @@ impl<'a> Cursor<'a> {
         }
     }
 
+    /// Whether `case` or `default` is next (C99 6.8.1).
+    #[tactic(auto, unfolding(c_tree::specs::Tokens::same_keyword))]
+    pub fn begins_label(&self) -> bool
+        ensures { result ≡ sees spec.begins_label self.now }
+    {
+        match self.rest {
+            [token, ..] => matches!(&token.kind, Kind::Keyword(Keyword::Case | Keyword::Default)),
+            [] => false,
+        }
+    }
+
     /// Whether the next token can begin an item of a block (C99 6.8.2).
     pub fn begins_item(&self) -> bool
         ensures { result ≡ sees spec.begins_item self.now }
@@ -228,13 +263,13 @@ impl<'a> Cursor<'a> {
         }
     }
 
-    /// A comma and a value.
-    pub fn begins_next_value(&self) -> bool
-        ensures { result ≡ sees_all (tokens_of.is (Sign.Mark Punctuator.Comma) ∷ spec.begins_cast ∷ []) self.now }
+    /// A comma, and a value of an initializer or several in braces.
+    pub fn begins_next_initial(&self) -> bool
+        ensures { result ≡ sees_all (tokens_of.is (Sign.Mark Punctuator.Comma) ∷ spec.begins_initial ∷ []) self.now }
     {
         match self.rest {
             [first, second, ..] => {
-                tokens::is(first, Sign::Mark(Punctuator::Comma)) && tokens::begins_cast(second)
+                tokens::is(first, Sign::Mark(Punctuator::Comma)) && tokens::begins_initial(second)
             }
             _ => false,
         }

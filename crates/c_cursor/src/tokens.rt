@@ -146,6 +146,17 @@ pub fn begins_cast(token: &Token) -> bool
     }
 }
 
+/// Whether the token begins a value of an initializer, or several in braces.
+#[tactic(auto, unfolding(c_tree::specs::Tokens::same_punctuator))]
+pub fn begins_initial(token: &Token) -> bool
+    ensures { result ≡ begins.begins_initial token.now }
+{
+    match &token.kind {
+        Kind::Punctuator(Punctuator::OpenCurly) => true,
+        _ => begins_cast(token),
+    }
+}
+
 /// Whether the token begins a block or a control statement.
 #[tactic(auto, unfolding(c_tree::specs::Tokens::same_keyword, c_tree::specs::Tokens::same_punctuator))]
 pub fn begins_compound(token: &Token) -> bool
@@ -153,7 +164,9 @@ pub fn begins_compound(token: &Token) -> bool
 {
     match &token.kind {
         Kind::Punctuator(Punctuator::OpenCurly) => true,
-        Kind::Keyword(Keyword::If | Keyword::While | Keyword::Do | Keyword::For) => true,
+        Kind::Keyword(
+            Keyword::If | Keyword::While | Keyword::Do | Keyword::For | Keyword::Switch,
+        ) => true,
         _ => false,
     }
 }
