@@ -22,6 +22,9 @@ use std::alloc::{AllocError, Global};
 /// How many levels of binary operators there are.
 const LEVELS: usize = 10;
 
+/// How many dimensions an array has at most.
+const DIMENSIONS: usize = 3;
+
 /// Which of the two rules that refer to themselves.
 #[derive(Clone, Copy)]
 pub enum Part {
@@ -111,37 +114,46 @@ impl<F: Fn(Global, &mut Cursor<'_>, usize, Part) -> Result<Boxed<Expression>, Fa
         (self.read)(self.alloc, cursor, room, part)
     }
 
-    /// What stands between brackets, if there are any.
-    #[tactic(auto, unfolding(c_reading::specs::Expressions::read_optional_index, c_reading::specs::Expressions::read_index))]
-    pub fn optional_index(
-        &self,
-        cursor: &mut Cursor<'_>,
-        room: usize,
-    ) -> Result<Option<Boxed<Expression>>, Fault>
+    /// What stands between brackets.
+    #[tactic(auto, unfolding(c_reading::specs::Expressions::read_index))]
+    fn index(&self, cursor: &mut Cursor<'_>, room: usize) -> Result<Boxed<Expression>, Fault>
         requires { Nests room (F.pre self.now.read) (F.post self.now.read) }
-        ensures { Steps (spec.read_optional_index (spec.read_expr room) room cursor.old) result cursor.new }
+        ensures { Steps (spec.read_index (spec.read_expr room) room cursor.old) result cursor.new }
     {
-        if !cursor.sees(Sign::Mark(Punctuator::OpenSquare)) {
-            return Ok(None);
-        }
         if room == 0 {
             return Err(too_deep(cursor.sees(Sign::Mark(Punctuator::OpenSquare)), false));
         }
         cursor.mark(Punctuator::OpenSquare)?;
         let index = self.inside(cursor, room, Part::Whole)?;
         cursor.mark(Punctuator::CloseSquare)?;
-        Ok(Some(index))
+        Ok(index)
     }
 
-    /// Reads a name, with its index where one stands behind it.
+    /// The indices of an element (C99 6.5.2.1) or the lengths of an array (C99 6.7.5.2), each in brackets: none, or up to
+    /// three.
+    pub fn indices(&self, cursor: &mut Cursor<'_>, room: usize) -> Result<Items<Expression>, Fault>
+        requires { Nests room (F.pre self.now.read) (F.post self.now.read) }
+        ensures { Steps (spec.read_indices (spec.read_expr room) room cursor.old) result cursor.new }
+    {
+        let mut found = Items::new(self.alloc);
+        for _turn in 0..DIMENSIONS {
+            if !cursor.sees(Sign::Mark(Punctuator::OpenSquare)) {
+                return Ok(found);
+            }
+            found.push(self.index(cursor, room)?.into_inner())?;
+        }
+        Ok(found)
+    }
+
+    /// Reads a name, with the indices that stand behind it.
     #[tactic(auto, unfolding(c_reading::specs::Expressions::read_place))]
     pub fn place(&self, cursor: &mut Cursor<'_>, room: usize) -> Result<Place, Fault>
         requires { Nests room (F.pre self.now.read) (F.post self.now.read) }
         ensures { Steps (spec.read_place (spec.read_expr room) room cursor.old) result cursor.new }
     {
         let name = cursor.name(self.alloc)?;
-        let index = self.optional_index(cursor, room)?;
-        Ok(Place { name, index })
+        let indices = self.indices(cursor, room)?;
+        Ok(Place { name, indices })
     }
 
     /// Reads `(void *)` and its operand.
@@ -262,8 +274,8 @@ impl<F: Fn(Global, &mut Cursor<'_>, usize, Part) -> Result<Boxed<Expression>, Fa
             let form = Form::Call(call);
             return boxed(self.alloc, Expression { offset, form });
         }
-        let index = self.optional_index(cursor, room)?;
-        let place = Place { name, index };
+        let indices = self.indices(cursor, room)?;
+        let place = Place { name, indices };
         let form = Form::Place(place);
         boxed(self.alloc, Expression { offset, form })
     }
