@@ -13,8 +13,8 @@ use c_cursor::Cursor;
 use c_expression_parser::expressions::{Part, Rules, expression, null, specifiers};
 use c_token::{Keyword, Punctuator};
 use c_tree::{
-    Call, Declaration, Declarator, Expression, ForStart, Name, Place, Returned, Sign, SimpleForm,
-    SimpleStatement, Statement,
+    Call, CaseLabel, Declaration, Declarator, Expression, ForStart, Name, Place, Returned, Sign,
+    SimpleForm, SimpleStatement, Statement,
 };
 use grammar::{Fault, too_deep};
 use sqlite_items::{Boxed, Items};
@@ -29,7 +29,7 @@ pub fn inside(room: usize) -> usize
 }
 
 /// The value in a box of its own.
-pub(crate) fn boxed<T: Drop>(alloc: Global, value: T) -> Result<Boxed<T>, Fault>
+pub fn boxed<T: Drop>(alloc: Global, value: T) -> Result<Boxed<T>, Fault>
     ensures { (ts : List Token) → Steps (reads_pure value ts) result ts }
 {
     Ok(Boxed::new(alloc, value)?)
@@ -47,19 +47,19 @@ pub fn value(
     expression(alloc, cursor, room, Part::Whole)
 }
 
-/// What stands between brackets, if there are any.
-pub fn optional_index(
+/// Indices or lengths, each in brackets: none, or up to three.
+pub fn indices(
     alloc: Global,
     cursor: &mut Cursor<'_>,
     room: usize,
-) -> Result<Option<Boxed<Expression>>, Fault>
-    ensures { Steps (expressions_of.read_optional_index (expressions_of.read_expr room) room cursor.old) result cursor.new }
+) -> Result<Items<Expression>, Fault>
+    ensures { Steps (expressions_of.read_indices (expressions_of.read_expr room) room cursor.old) result cursor.new }
 {
     let rules = Rules {
         alloc,
         read: expression,
     };
-    rules.optional_index(cursor, room)
+    rules.indices(cursor, room)
 }
 
 // ---- simple statements
@@ -95,8 +95,8 @@ fn changed(
     ensures { Steps (spec.read_changed room (spec.below room) name cursor.old) result cursor.new }
 {
     let offset = name.offset;
-    let index = optional_index(alloc, cursor, inside(room))?;
-    let place = Place { name, index };
+    let indices = indices(alloc, cursor, inside(room))?;
+    let place = Place { name, indices };
     if cursor.sees_direction() {
         let form = SimpleForm::Step(place, cursor.way()?);
         return boxed(alloc, SimpleStatement { form, offset });
@@ -161,11 +161,11 @@ fn declarator(
     ensures { Steps (spec.read_declarator room (spec.below room) cursor.old) result cursor.new }
 {
     let name = cursor.name(alloc)?;
-    let length = optional_index(alloc, cursor, inside(room))?;
+    let lengths = indices(alloc, cursor, inside(room))?;
     let initializer = optional_value(alloc, cursor, room)?;
     let declarator = Declarator {
         name,
-        length,
+        lengths,
         initializer,
     };
     boxed(alloc, declarator)
@@ -370,4 +370,28 @@ pub fn for_head(
     let step = optional_simple(alloc, cursor, room)?;
     cursor.mark(Punctuator::CloseRound)?;
     Ok((start, condition, step))
+}
+
+// ---- labels
+
+/// Reads the label of a switch, its colon included (C99 6.8.1).
+#[tactic(auto, unfolding(c_reading::specs::Statements::read_label, c_reading::specs::Statements::read_case, c_reading::specs::Statements::read_default))]
+pub fn label(alloc: Global, cursor: &mut Cursor<'_>, room: usize) -> Result<CaseLabel, Fault>
+    ensures { Steps (spec.read_label room cursor.old) result cursor.new }
+{
+    if cursor.sees(Sign::Word(Keyword::Case)) {
+        let offset = cursor.word(Keyword::Case)?;
+        let value = value(alloc, cursor, room)?;
+        cursor.mark(Punctuator::Colon)?;
+        return Ok(CaseLabel {
+            value: Some(value),
+            offset,
+        });
+    }
+    let offset = cursor.word(Keyword::Default)?;
+    cursor.mark(Punctuator::Colon)?;
+    Ok(CaseLabel {
+        value: None,
+        offset,
+    })
 }

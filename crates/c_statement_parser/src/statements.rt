@@ -8,10 +8,10 @@ ghost use Rattle.c_reading.specs.Tokens as tokens_of;
 ghost use Rattle.c_reading.specs.Statements as spec;
 ghost use Rattle.c_statement_parser.specs.NestsStatements.{NestsStatements};
 
-use crate::plain::{boxed, condition, declaration, for_head, plain_statement};
+use crate::plain::{boxed, condition, declaration, for_head, label, plain_statement};
 use c_cursor::Cursor;
 use c_token::{Keyword, Punctuator};
-use c_tree::{Block, BlockItem, Sign, Statement};
+use c_tree::{Block, BlockItem, Group, Sign, Statement};
 use grammar::{Fault, too_deep};
 use sqlite_items::{Boxed, Items};
 use std::alloc::Global;
@@ -128,11 +128,89 @@ impl<F: Fn(Global, &mut Cursor<'_>, usize) -> Result<Boxed<Statement>, Fault>> B
         boxed(self.alloc, Statement::For(start, condition, step, body))
     }
 
+    /// The statements behind a label.
+    fn statements(&self, cursor: &mut Cursor<'_>, room: usize) -> Result<Items<Statement>, Fault>
+        requires { NestsStatements room (F.pre self.now.read) (F.post self.now.read) }
+        ensures { Steps (reads_many tokens_of.begins_statement (spec.read_statement room) cursor.old) result cursor.new }
+    {
+        let mut found = Items::new(self.alloc);
+        for _turn in 0..cursor.left() {
+            if !cursor.begins_statement() {
+                return Ok(found);
+            }
+            found.push(self.body(cursor, room)?.into_inner())?;
+        }
+        Ok(found)
+    }
+
+    /// A label and the statements behind it.
+    #[tactic(auto, unfolding(c_reading::specs::Statements::read_group))]
+    fn group(&self, cursor: &mut Cursor<'_>, room: usize) -> Result<Boxed<Group>, Fault>
+        requires { NestsStatements room (F.pre self.now.read) (F.post self.now.read) }
+        ensures { Steps (spec.read_group (spec.read_statement room) room cursor.old) result cursor.new }
+    {
+        let label = label(self.alloc, cursor, room)?;
+        let statements = self.statements(cursor, room)?;
+        boxed(self.alloc, Group { label, statements })
+    }
+
+    fn groups(&self, cursor: &mut Cursor<'_>, room: usize) -> Result<Items<Group>, Fault>
+        requires { NestsStatements room (F.pre self.now.read) (F.post self.now.read) }
+        ensures { Steps (reads_many tokens_of.begins_label (spec.read_group (spec.read_statement room) room) cursor.old) result cursor.new }
+    {
+        let mut found = Items::new(self.alloc);
+        for _turn in 0..cursor.left() {
+            if !cursor.begins_label() {
+                return Ok(found);
+            }
+            found.push(self.group(cursor, room)?.into_inner())?;
+        }
+        Ok(found)
+    }
+
+    /// The groups of a switch, with their braces.
+    #[tactic(auto, unfolding(c_reading::specs::Statements::read_groups))]
+    fn braced_groups(&self, cursor: &mut Cursor<'_>, room: usize) -> Result<Items<Group>, Fault>
+        requires { NestsStatements room (F.pre self.now.read) (F.post self.now.read) }
+        ensures { Steps (spec.read_groups (spec.read_statement room) room cursor.old) result cursor.new }
+    {
+        if room == 0 {
+            return Err(too_deep(cursor.sees(Sign::Mark(Punctuator::OpenCurly)), false));
+        }
+        cursor.mark(Punctuator::OpenCurly)?;
+        let groups = self.groups(cursor, room)?;
+        cursor.mark(Punctuator::CloseCurly)?;
+        Ok(groups)
+    }
+
+    /// The same one level deeper, as the body of a control statement.
+    fn switch_body(&self, cursor: &mut Cursor<'_>, room: usize) -> Result<Items<Group>, Fault>
+        requires { NestsStatements room (F.pre self.now.read) (F.post self.now.read) }
+        ensures { Steps (spec.read_switch_body room cursor.old) result cursor.new }
+    {
+        if room == 0 {
+            let opens = cursor.sees(Sign::Mark(Punctuator::OpenCurly));
+            return Err(too_deep(opens, opens));
+        }
+        self.braced_groups(cursor, room - 1)
+    }
+
+    #[tactic(auto, unfolding(c_reading::specs::Statements::read_switch))]
+    fn switch(&self, cursor: &mut Cursor<'_>, room: usize) -> Result<Boxed<Statement>, Fault>
+        requires { NestsStatements room (F.pre self.now.read) (F.post self.now.read) }
+        ensures { Steps (spec.read_switch (spec.read_statement room) (spec.read_switch_body room) room cursor.old) result cursor.new }
+    {
+        let offset = cursor.word(Keyword::Switch)?;
+        let chosen = condition(self.alloc, cursor, room)?;
+        let groups = self.switch_body(cursor, room)?;
+        boxed(self.alloc, Statement::Switch(chosen, groups, offset))
+    }
+
     /// A block or a control statement.
     #[tactic(auto, unfolding(c_reading::specs::Statements::read_compound, c_reading::specs::Statements::read_block_statement))]
     fn compound(&self, cursor: &mut Cursor<'_>, room: usize) -> Result<Boxed<Statement>, Fault>
         requires { NestsStatements room (F.pre self.now.read) (F.post self.now.read) }
-        ensures { Steps (spec.read_compound (spec.read_statement room) room cursor.old) result cursor.new }
+        ensures { Steps (spec.read_compound (spec.read_statement room) (spec.read_switch_body room) room cursor.old) result cursor.new }
     {
         if cursor.sees(Sign::Mark(Punctuator::OpenCurly)) {
             let block = self.block(cursor, room)?;
@@ -143,8 +221,10 @@ impl<F: Fn(Global, &mut Cursor<'_>, usize) -> Result<Boxed<Statement>, Fault>> B
             self.while_loop(cursor, room)
         } else if cursor.sees(Sign::Word(Keyword::Do)) {
             self.do_loop(cursor, room)
-        } else {
+        } else if cursor.sees(Sign::Word(Keyword::For)) {
             self.for_loop(cursor, room)
+        } else {
+            self.switch(cursor, room)
         }
     }
 }
