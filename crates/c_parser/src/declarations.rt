@@ -10,11 +10,11 @@ ghost use Rattle.c_reading.specs.Declarations as spec;
 
 use c_cursor::Cursor;
 use c_expression_parser::expressions::specifiers;
-use c_statement_parser::plain::{inside, optional_index, value};
+use c_statement_parser::plain::{boxed, indices, inside, value};
 use c_statement_parser::statements::{Bodies, statement};
 use c_token::{Keyword, Punctuator};
 use c_tree::{
-    Block, Expression, ExternalDeclaration, Function, GlobalDeclaration, GlobalDeclarator,
+    Block, ExternalDeclaration, Function, GlobalDeclaration, GlobalDeclarator, Initial,
     Initializer, Name, Parameter, Sign, TranslationUnit,
 };
 use grammar::{Fault, too_deep};
@@ -93,28 +93,7 @@ fn parameters(
     Ok(found)
 }
 
-// ---- variables at file scope
-
-/// The values behind the first one. A comma behind the last one is left.
-fn values(
-    alloc: Global,
-    cursor: &mut Cursor<'_>,
-    room: usize,
-    first: Boxed<Expression>,
-) -> Result<Items<Expression>, Fault>
-    ensures { Steps (spec.read_values room first cursor.old) result cursor.new }
-{
-    let mut found = Items::new(alloc);
-    found.push(first.into_inner())?;
-    for _turn in 0..cursor.left() {
-        if !cursor.begins_next_value() {
-            return Ok(found);
-        }
-        cursor.mark(Punctuator::Comma)?;
-        found.push(value(alloc, cursor, room)?.into_inner())?;
-    }
-    Ok(found)
-}
+// ---- values in braces
 
 #[tactic(auto, unfolding(c_reading::specs::Declarations::read_optional_comma))]
 fn optional_comma(cursor: &mut Cursor<'_>) -> Result<Option<usize>, Fault>
@@ -126,24 +105,70 @@ fn optional_comma(cursor: &mut Cursor<'_>) -> Result<Option<usize>, Fault>
     Ok(Some(cursor.mark(Punctuator::Comma)?))
 }
 
-/// Values in braces.
-#[tactic(auto, unfolding(c_reading::specs::Declarations::read_list))]
-fn list(alloc: Global, cursor: &mut Cursor<'_>, room: usize) -> Result<Initializer, Fault>
-    ensures { Steps (spec.read_list room cursor.old) result cursor.new }
+/// A value, or several in braces.
+#[cycle(initials)]
+fn initial(alloc: Global, cursor: &mut Cursor<'_>, room: usize) -> Result<Boxed<Initial>, Fault>
+    ensures { Steps (spec.read_initial room cursor.old) result cursor.new }
+{
+    if room == 0 {
+        return Err(too_deep(cursor.begins_initial(), cursor.opens_initial()));
+    }
+    if cursor.sees(Sign::Mark(Punctuator::OpenCurly)) {
+        let (found, offset) = braces(alloc, cursor, room - 1)?;
+        boxed(alloc, Initial::List(found, offset))
+    } else {
+        let value = value(alloc, cursor, room)?;
+        boxed(alloc, Initial::Value(value))
+    }
+}
+
+/// What stands behind the first one. A comma behind the last one is left.
+#[cycle(initials)]
+fn initials(
+    alloc: Global,
+    cursor: &mut Cursor<'_>,
+    room: usize,
+    first: Boxed<Initial>,
+) -> Result<Items<Initial>, Fault>
+    ensures { Steps (spec.read_initials (spec.read_initial room) room first cursor.old) result cursor.new }
+{
+    let mut found = Items::new(alloc);
+    found.push(first.into_inner())?;
+    for _turn in 0..cursor.left() {
+        if !cursor.begins_next_initial() {
+            return Ok(found);
+        }
+        cursor.mark(Punctuator::Comma)?;
+        found.push(initial(alloc, cursor, room)?.into_inner())?;
+    }
+    Ok(found)
+}
+
+/// Values in braces, and the place of the first brace.
+#[cycle(initials)]
+#[tactic(auto, unfolding(c_reading::specs::Declarations::read_braces))]
+fn braces(
+    alloc: Global,
+    cursor: &mut Cursor<'_>,
+    room: usize,
+) -> Result<(Items<Initial>, usize), Fault>
+    ensures { Steps (spec.read_braces (spec.read_initial room) room cursor.old) result cursor.new }
 {
     if room == 0 {
         return Err(too_deep(cursor.sees(Sign::Mark(Punctuator::OpenCurly)), false));
     }
-    cursor.mark(Punctuator::OpenCurly)?;
-    let first = value(alloc, cursor, room)?;
-    let values = values(alloc, cursor, room, first)?;
+    let offset = cursor.mark(Punctuator::OpenCurly)?;
+    let first = initial(alloc, cursor, room)?;
+    let found = initials(alloc, cursor, room, first)?;
     optional_comma(cursor)?;
     cursor.mark(Punctuator::CloseCurly)?;
-    Ok(Initializer::List(values))
+    Ok((found, offset))
 }
 
+// ---- variables at file scope
+
 /// `=` and what an object begins with, if there is one.
-#[tactic(auto, unfolding(c_reading::specs::Declarations::read_optional_initializer, c_reading::specs::Declarations::read_initializer, c_reading::specs::Declarations::read_initial, c_reading::specs::Declarations::read_mutex, c_reading::specs::Declarations::read_initial_value))]
+#[tactic(auto, unfolding(c_reading::specs::Declarations::read_optional_initializer, c_reading::specs::Declarations::read_initializer, c_reading::specs::Declarations::read_any_value, c_reading::specs::Declarations::read_list, c_reading::specs::Declarations::read_mutex, c_reading::specs::Declarations::read_value))]
 fn optional_initializer(
     alloc: Global,
     cursor: &mut Cursor<'_>,
@@ -156,7 +181,8 @@ fn optional_initializer(
     }
     cursor.mark(Punctuator::Assign)?;
     if cursor.sees(Sign::Mark(Punctuator::OpenCurly)) {
-        Ok(Some(list(alloc, cursor, inside(room))?))
+        let (found, offset) = braces(alloc, cursor, inside(room))?;
+        Ok(Some(Initializer::List(found, offset)))
     } else if cursor.sees(Sign::Word(Keyword::MutexInitializer)) {
         cursor.word(Keyword::MutexInitializer)?;
         Ok(Some(Initializer::Mutex))
@@ -175,11 +201,11 @@ fn global(
 ) -> Result<GlobalDeclarator, Fault>
     ensures { Steps (spec.read_global room (below room) name cursor.old) result cursor.new }
 {
-    let length = optional_index(alloc, cursor, inside(room))?;
+    let lengths = indices(alloc, cursor, inside(room))?;
     let initializer = optional_initializer(alloc, cursor, room)?;
     Ok(GlobalDeclarator {
         name,
-        length,
+        lengths,
         initializer,
     })
 }
