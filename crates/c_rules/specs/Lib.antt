@@ -5,5 +5,7 @@ pub mod Specifiers
 pub mod Levels
 pub mod Names
 pub mod Walks
+pub mod Cases
 pub mod Constants
+pub mod Dimensions
 pub mod Library

@@ -74,6 +74,7 @@ empty_scope = record {
   locals = [];
   local_names = [];
   loops = 0;
+  exits = 0;
   kept_from = 0;
 }
 

@@ -4,6 +4,7 @@ ghost use Rattle.std.specs.Prelude.{◌≡◌, ◌||◌, is_some, OnOk};
 ghost use Rattle.c_rules.specs.Levels.{named_in};
 ghost use Rattle.c_rules.specs.Names as spec;
 
+use crate::dimensions::Dimensions;
 use crate::level::{Definitions, Level, LocalNames};
 use crate::library::LibraryFunction;
 use crate::specifiers::{BaseType, BasicType};
@@ -12,13 +13,13 @@ use sqlite_items::Items;
 use std::alloc::{AllocError, Global};
 use std::mem;
 
-/// An integer object: its number among those of its storage, and its length where it is an array.
+/// An integer object: its number among those of its storage, and its dimensions.
 #[derive(Clone, Copy)]
 pub struct Variable {
     pub storage: Storage,
     pub number: u32,
     pub ty: BasicType,
-    pub length: Option<u64>,
+    pub dimensions: Dimensions,
     pub is_const: bool,
 }
 
@@ -187,6 +188,8 @@ pub struct Scope<'t> {
     pub local_names: LocalNames<'t>,
     /// How many loops of the function the place stands in.
     pub loops: usize,
+    /// How many loops and switches.
+    pub exits: usize,
     /// The number of the first local of the function behind those that it declares; from there on locals keep values.
     pub kept_from: u32,
 }
@@ -206,6 +209,7 @@ impl<'t> Scope<'t> {
             locals: Items::new(alloc),
             local_names: LocalNames::new(alloc),
             loops: 0,
+            exits: 0,
             kept_from: 0,
         }
     }
@@ -306,6 +310,7 @@ impl Drop for Scope<'_> {
             locals: _,
             local_names: _,
             loops: _,
+            exits: _,
             kept_from: _,
         } = self;
     }
