@@ -1,1 +1,3 @@
-pub mod ConditionLemmas
+pub mod BinaryForms
+pub mod PlaceForms
+pub mod SequenceLemmas

@@ -1,3 +1,8 @@
 pub mod Callees
+pub mod Chosen
+pub mod Cuts
 pub mod Expressions
+pub mod Joined
+pub mod Lists
+pub mod Sequences
 pub mod Targets

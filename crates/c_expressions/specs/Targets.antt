@@ -1,5 +1,5 @@
 -- What is assigned to, and the rules on it (C99 6.5.16).
-use Rattle.std.specs.Prelude.{ℕ, Bool, true, false, ◌||◌, not, is_some, if◌then◌else◌, Option, Some, None}
+use Rattle.std.specs.Prelude.{ℕ, ◌&&◌, not, nat_eq, if◌then◌else◌, Option, Some, None, length}
 use Rattle.hls_ints.specs.Types.{int_type}
 use Rattle.c_tree.specs.declared.expression.Place.{Place as PlaceTree, out-Place}
 use Rattle.c_program.specs.declared.tree.Storage.TheVariants.{Automatic}
@@ -11,36 +11,35 @@ use Rattle.c_rules.specs.declared.names.Meaning.TheVariants as meaning
 use Rattle.c_rules.specs.declared.names.Known.{Known}
 use Rattle.c_rules.specs.declared.names.Known.TheVariants as known
 use Rattle.c_rules.specs.declared.names.Scope.{Scope}
+use Rattle.c_rules.specs.Dimensions.{count, elements}
 use Rattle.c_rules.specs.Names.{look_up}
 use Rattle.c_rules.specs.Specifiers.{c_type}
 use Rattle.c_rules.specs.Walks.{Finds, pure, finds_any, ◌>>=◌, ◌>>◌}
-use Rattle.c_expressions.specs.Expressions.{index, variable_of}
+use Rattle.c_expressions.specs.Cuts.{Cuts, Cut, cut}
+use Rattle.c_expressions.specs.Expressions.{place_number, dimensions_of, variable_named}
 
--- whether one of two holds and the other does not
-abbrev pub differ : Bool → Bool → Bool
-differ true other = not other
-differ false other = other
+-- a variable may be assigned to unless it is const, with as many indices as it has dimensions
+abbrev pub variable_fault : Variable → ℕ → Option Rule
+variable_fault v indices = if not v.is_const && nat_eq (count v.dimensions) indices then None else Some rule.Kind
 
--- a variable may be assigned to unless it is const, a scalar without an index, and an array with one
-abbrev pub variable_fault : Variable → Bool → Option Rule
-variable_fault v indexed = if v.is_const || differ (is_some v.length) indexed then Some rule.Kind else None
+abbrev pub target_fault : Known → ℕ → Option Rule
+target_fault (known.Declared (meaning.Variable v)) indices = variable_fault v indices
+target_fault (known.Declared meaning.Unusable) indices = None
+target_fault known.Unknown indices = Some rule.Unknown
+target_fault other indices = Some rule.Kind
 
-abbrev pub target_fault : Known → Bool → Option Rule
-target_fault (known.Declared (meaning.Variable v)) indexed = variable_fault v indexed
-target_fault (known.Declared meaning.Unusable) indexed = None
-target_fault known.Unknown indexed = Some rule.Unknown
-target_fault other indexed = Some rule.Kind
-
-abbrev pub variable_place : Variable → Option ℕ → Option Expression → Place
-variable_place v (Some length) (Some index) = Place.Element v.storage v.number length (c_type v.ty) index
-variable_place v length index = Place.Scalar v.storage v.number (c_type v.ty)
+-- a scalar, or the element of that number
+abbrev pub variable_place : Variable → Option Expression → Place
+variable_place v None = Place.Scalar v.storage v.number (c_type v.ty)
+variable_place v (Some number) = Place.Element v.storage v.number (elements v.dimensions) (c_type v.ty) number
 
 abbrev pub named_place : Option Variable → Option Expression → Place
-named_place (Some v) index = variable_place v v.length index
-named_place None index = Place.Scalar Automatic 0 int_type
+named_place None number = Place.Scalar Automatic 0 int_type
+named_place (Some v) number = variable_place v number
 
-unfoldable pub target : Scope → PlaceTree → Finds Place
-target s p = do
-  i ← index s p
-  finds_any (target_fault (look_up s (out-Place p).name.bytes) (is_some i)) (out-Place p).name.offset
-  pure (named_place (variable_of (look_up s (out-Place p).name.bytes)) i)
+-- a place of the step at the place of the text, with the cuts of its indices behind those before it
+unfoldable pub target : Scope → PlaceTree → ℕ → Cuts → Finds (Cut Place)
+target s p at cuts = do
+  number ← place_number s (dimensions_of (variable_named s (out-Place p).name)) p at cuts
+  finds_any (target_fault (look_up s (out-Place p).name.bytes) (length (out-Place p).indices)) (out-Place p).name.offset
+  pure (cut number.cuts (named_place (variable_named s (out-Place p).name) number.rest))

@@ -1,6 +1,6 @@
 // The rules on the name that is called, by where the call stands.
 
-ghost use Rattle.std.specs.Prelude.{◌≡◌};
+ghost use Rattle.std.specs.Prelude.{◌≡◌, slice_get};
 ghost use Rattle.c_rules.specs.Walks.{Outcome, Walks};
 ghost use Rattle.c_expressions.specs.Callees as spec;
 
@@ -8,7 +8,8 @@ use c_rules::fault::Rule;
 use c_rules::findings::Findings;
 use c_rules::library::LibraryFunction;
 use c_rules::names::{Known, Meaning, Scope};
-use c_tree::Name;
+use c_rules::specifiers::BaseType;
+use hls_ints::CType;
 use std::alloc::AllocError;
 
 /// The rules on a function of the text, called with so many arguments at the offset. Notes the call, and gives the number of its definition.
@@ -24,6 +25,7 @@ pub fn function_name(
     ensures { Walks (λ d. d) (spec.function_name scope.now number count is_value offset found.old) result found.new }
 {
     let Some(header) = scope.headers.get(number) else {
+        found.add(Rule::Unknown, offset);
         return Ok(None);
     };
     found.add_if(header.definition.is_none(), Rule::Unknown, offset);
@@ -62,36 +64,65 @@ pub fn library_name(
     }
 }
 
-/// A call where none may stand.
-#[tactic(auto, unfolding(crate::specs::Callees::misplaced, crate::specs::Callees::misplaced_name))]
-pub fn misplaced(
-    scope: &Scope<'_>,
-    found: &mut Findings,
-    name: &Name,
-    count: usize,
-) -> Result<(), AllocError>
-    ensures { Walks (λ x. x) (spec.misplaced scope.now name.now count found.old) result found.new }
+/// Whether a name is not declared (C99 6.2.1).
+pub fn is_unknown(known: Known) -> bool
+    ensures { result ≡ spec.is_unknown known }
 {
-    let offset = name.offset;
-    found.add(Rule::Place, offset);
-    let known = scope.look_up(name.bytes.as_slice());
+    matches!(known, Known::Unknown)
+}
+
+/// Whether a name stands for something that can be used.
+pub fn is_usable(known: Known) -> bool
+    ensures { result ≡ spec.is_usable known }
+{
+    match known {
+        Known::Unknown | Known::Declared(Meaning::Unusable) => false,
+        _ => true,
+    }
+}
+
+/// A called name that stands for no function.
+#[tactic(auto, unfolding(crate::specs::Callees::no_function))]
+pub fn no_function(found: &mut Findings, known: Known, offset: usize)
+    ensures { spec.no_function known offset found.old ≡ Outcome.Gives tt found.new }
+{
+    found.add_if(is_unknown(known), Rule::Unknown, offset);
+    found.add_if(is_usable(known), Rule::Kind, offset);
+}
+
+/// A call, as a value, of what is no function of the text.
+#[tactic(auto, unfolding(crate::specs::Callees::misplaced, crate::specs::Callees::library_value))]
+pub fn misplaced(scope: &Scope<'_>, found: &mut Findings, known: Known, count: usize, offset: usize)
+    ensures { spec.misplaced scope.now known count offset found.old ≡ Outcome.Gives tt found.new }
+{
     match known {
         Known::Library(function) => {
+            found.add(Rule::Place, offset);
             library_name(scope, found, function, count, offset);
-            Ok(())
         }
-        Known::Declared(Meaning::Function(number)) => {
-            function_name(scope, found, number, count, true, offset)?;
-            Ok(())
-        }
-        Known::Declared(Meaning::Unusable) => Ok(()),
-        Known::Declared(_) => {
-            found.add(Rule::Kind, offset);
-            Ok(())
-        }
-        Known::Unknown => {
-            found.add(Rule::Unknown, offset);
-            Ok(())
-        }
+        _ => no_function(found, known, offset),
+    }
+}
+
+/// The number of the header of the function that a name stands for.
+pub fn number_of(known: Known) -> Option<usize>
+    ensures { result ≡ spec.number_of known }
+{
+    match known {
+        Known::Declared(Meaning::Function(number)) => Some(number),
+        _ => None,
+    }
+}
+
+/// The type of the value of the function whose header has the number.
+pub fn value_type(scope: &Scope<'_>, number: usize) -> CType
+    ensures { result ≡ spec.value_type (slice_get scope.now.headers number) }
+{
+    match scope.headers.get(number) {
+        Some(header) => match header.returns.base {
+            BaseType::Integer(ty) => ty.c_type(),
+            _ => CType::INT,
+        },
+        None => CType::INT,
     }
 }

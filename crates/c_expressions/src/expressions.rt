@@ -1,263 +1,106 @@
-// Expressions and conditions (C99 6.5).
+// Expressions and conditions (C99 6.5, 6.8.4). What is evaluated before a step is added to its cuts; the step itself stands at the place `at`.
 
-ghost use Rattle.std.specs.Prelude.{◌≡◌, map, option_map, IfOk};
-ghost use Rattle.c_program.specs.Plain.{expression_of};
-ghost use Rattle.c_program.specs.Types.{working_type as working_type_of};
-ghost use Rattle.c_rules.specs.Walks.{Outcome, Walks};
+ghost use Rattle.std.specs.Prelude.{◌≡◌, map, option_map, box_value, IfOk};
+ghost use Rattle.c_program.specs.Plain.{boxed_statement_of, expression_of, expressions_of};
+ghost use Rattle.c_program.specs.Tree.{Expression as ResolvedExpression};
+ghost use Rattle.c_rules.specs.Walks.{Walks};
+ghost use Rattle.c_expressions.specs.Chosen.{chosen_of};
+ghost use Rattle.c_expressions.specs.Cuts.{cut, cuts_of};
 ghost use Rattle.c_expressions.specs.Expressions as spec;
 
-use crate::callees::misplaced;
+use crate::callees::{function_name, misplaced, number_of, value_type};
+use crate::choices::{Chosen, are_short_circuits, conditional, joined, test};
+use crate::cuts::Cuts;
+use crate::objects::{dimensions_of, is_argument, misuse, named_value, variable_of};
+use crate::operators::{constant, converted, is_long, nothing, operated, unary};
 use c_program::tree as resolved;
-use c_program::types::expression_type;
-use c_rules::constants::constant_value;
+use c_rules::dimensions::Dimensions;
 use c_rules::fault::Rule;
 use c_rules::findings::{Findings, place};
-use c_rules::names::{Known, Meaning, Scope, Variable};
-use c_rules::specifiers::{BasicType, plain_integer};
-use c_token::Constant;
-use c_tree::{
-    Argument, BinaryOperator, Choice, Expression, Form, Name, Place, Term, UnaryOperator,
-};
-use hls_ints::{CType, promote, usual};
+use c_rules::names::Scope;
+use c_rules::specifiers::plain_integer;
+use c_tree::{Argument, Call, Choice, Expression, Form, Term, UnaryOperator};
+use hls_ints::CType;
 use std::alloc::{AllocError, Global};
 
-/// What stands for an expression that breaks a rule.
-pub fn nothing() -> resolved::Expression
-    ensures { expression_of result ≡ spec.nothing }
-{
-    resolved::Expression::Constant(CType::INT, 0)
-}
-
-/// A rule is broken at the place; what stands for the expression.
-fn refused(found: &mut Findings, rule: Rule, offset: usize) -> resolved::Expression
-    ensures { spec.refused rule offset found.old ≡ Outcome.Gives (expression_of result) found.new }
-{
-    found.add(rule, offset);
-    nothing()
-}
-
-#[tactic(auto, unfolding(crate::specs::Expressions::constant))]
-fn constant(found: &mut Findings, constant: Constant, offset: usize) -> resolved::Expression
-    ensures { spec.constant constant offset found.old ≡ Outcome.Gives (expression_of result) found.new }
-{
-    match constant_value(constant) {
-        Some(value) => resolved::Expression::Constant(value.ty, value.number),
-        None => refused(found, Rule::Constant, offset),
-    }
-}
-
-/// The value of a variable or of an element of one.
-#[tactic(auto, unfolding(crate::specs::Expressions::object_value))]
-fn object_value(
-    alloc: Global,
-    found: &mut Findings,
-    offset: usize,
-    variable: Variable,
-    index: Option<resolved::Expression>,
-) -> Result<resolved::Expression, AllocError>
-    ensures { Walks expression_of (spec.object_value offset variable variable.length (option_map expression_of index) found.old) result found.new }
-{
-    let ty = variable.ty.c_type();
-    match (variable.length, index) {
-        (None, None) => Ok(resolved::Expression::Variable(variable.storage, variable.number, ty)),
-        (Some(length), Some(index)) => {
-            let index = Box::new(alloc, index)?;
-            Ok(resolved::Expression::Element(variable.storage, variable.number, length, ty, index))
-        }
-        (None, Some(_)) | (Some(_), None) => Ok(refused(found, Rule::Kind, offset)),
-    }
-}
-
-/// The rule that is broken where a name that stands for no variable is used as a value.
-fn misuse(known: Known, has_index: bool) -> Option<Rule>
-    ensures { result ≡ spec.misuse known has_index }
-{
-    match known {
-        Known::Unknown => Some(Rule::Unknown),
-        Known::Declared(Meaning::Argument) if !has_index => Some(Rule::Threads),
-        Known::Declared(Meaning::Unusable) => None,
-        _ => Some(Rule::Kind),
-    }
-}
-
-/// The integer object that a name stands for, if it is one.
-pub fn variable_of(known: Known) -> Option<Variable>
-    ensures { result ≡ spec.variable_of known }
-{
-    match known {
-        Known::Declared(Meaning::Variable(variable)) => Some(variable),
-        _ => None,
-    }
-}
-
-/// The index of a place, if it has one.
+/// An operand of a conditional, which keeps values in the locals from the slot on.
 #[cycle(expressions)]
-pub fn index(
+fn operand(
     alloc: Global,
     scope: &Scope<'_>,
     found: &mut Findings,
-    place: &Place,
-) -> Result<Option<resolved::Expression>, AllocError>
-    ensures { Walks (option_map expression_of) (spec.index scope.now place.now found.old) result found.new }
+    slot: u32,
+    e: &Expression,
+) -> Result<Chosen, AllocError>
+    ensures { Walks chosen_of (spec.operand_value slot (spec.meant scope.now e.now) found.old) result found.new }
 {
-    match &place.index {
-        Some(index) => Ok(Some(expression(alloc, scope, found, index.get())?)),
-        None => Ok(None),
-    }
+    let offset = place(e.offset);
+    let mut cuts = Cuts::free_from(alloc, slot);
+    let rest = value(alloc, scope, found, &mut cuts, offset, &e.form)?;
+    Chosen::new(alloc, offset, cuts, rest)
 }
 
-/// The value of what a name stands for, with its index.
-#[tactic(auto, unfolding(crate::specs::Expressions::named_value, crate::specs::Expressions::misused))]
-fn place_value(
+/// The number of an element of an array of several dimensions: of a row, and in the row (C99 6.5.2.1).
+fn row(
     alloc: Global,
-    scope: &Scope<'_>,
-    found: &mut Findings,
-    name: &Name,
-    index: Option<resolved::Expression>,
+    outer: resolved::Expression,
+    outer_length: u64,
+    inner: resolved::Expression,
+    inner_length: u64,
 ) -> Result<resolved::Expression, AllocError>
-    ensures { Walks expression_of (spec.name_value scope.now name.now (option_map expression_of index) found.old) result found.new }
+    ensures { IfOk result (λ e. expression_of e ≡ ResolvedExpression.Row (expression_of outer) outer_length (expression_of inner) inner_length) }
 {
-    let known = scope.look_up(name.bytes.as_slice());
-    match variable_of(known) {
-        Some(variable) => object_value(alloc, found, name.offset, variable, index),
-        None => {
-            found.add_any(misuse(known, index.is_some()), name.offset);
-            Ok(nothing())
-        }
-    }
+    let outer = Box::new(alloc, outer)?;
+    let inner = Box::new(alloc, inner)?;
+    Ok(resolved::Expression::Row(outer, outer_length, inner, inner_length))
 }
 
-/// Whether the expression is the parameter of the start routine at hand.
-fn is_argument(scope: &Scope<'_>, expression: &Expression) -> bool
-    ensures { result ≡ spec.is_argument_name scope.now (spec.meant scope.now expression.now).name }
-{
-    match &expression.form {
-        Form::Place(place) if place.index.is_none() => {
-            scope.look_up(place.name.bytes.as_slice()).is_argument()
-        }
-        _ => false,
-    }
-}
-
-/// Whether the type is `long`.
-fn is_long(ty: Option<BasicType>) -> bool
-    ensures { result ≡ spec.is_long ty }
-{
-    matches!(ty, Some(BasicType::Long))
-}
-
-/// A value converted to a type.
-#[tactic(auto, unfolding(crate::specs::Expressions::converted))]
-fn converted(
-    alloc: Global,
-    found: &mut Findings,
-    offset: usize,
-    ty: Option<BasicType>,
-    value: resolved::Expression,
-) -> Result<resolved::Expression, AllocError>
-    ensures { Walks expression_of (spec.converted offset ty (expression_of value) found.old) result found.new }
-{
-    match ty {
-        Some(ty) => Ok(resolved::Expression::Cast(ty.c_type(), Box::new(alloc, value)?)),
-        None => Ok(refused(found, Rule::Kind, offset)),
-    }
-}
-
-/// The operand of a cast to the type. The parameter of a start routine may be read as a long where it is cast to one.
+/// The number of an element of an object of the dimensions, in row order (C99 6.5.2.1); none where there are not as many indices, and none of a scalar.
 #[cycle(expressions)]
-fn cast_operand(
+#[tactic(auto, unfolding(crate::specs::Expressions::element_number, crate::specs::Expressions::no_number))]
+pub fn element_number(
     alloc: Global,
     scope: &Scope<'_>,
     found: &mut Findings,
-    operand: &Expression,
-    ty: Option<BasicType>,
-) -> Result<resolved::Expression, AllocError>
-    ensures { Walks expression_of (spec.cast_operand scope.now ty (spec.meant scope.now operand.now) found.old) result found.new }
+    cuts: &mut Cuts,
+    at: u32,
+    dimensions: Dimensions,
+    indices: &[Expression],
+) -> Result<Option<Box<resolved::Expression>>, AllocError>
+    ensures { Walks (λ n. cut (cuts_of cuts.new) (option_map (λ e. expression_of (box_value e)) n))
+        (spec.element_number dimensions (map (spec.meant scope.now) indices.now) at (cuts_of cuts.old) found.old) result found.new }
 {
-    if is_long(ty) && is_argument(scope, operand) {
-        Ok(resolved::Expression::Variable(resolved::Storage::Automatic, 0, CType::LONG))
-    } else {
-        expression(alloc, scope, found, operand)
+    match dimensions {
+        Dimensions::Scalar => {}
+        Dimensions::One(_) => {
+            if let [i] = indices {
+                let i = value(alloc, scope, found, cuts, at, &i.form)?;
+                return Ok(Some(Box::new(alloc, i)?));
+            }
+        }
+        Dimensions::Two(rows, columns) => {
+            if let [i, j] = indices {
+                let i = value(alloc, scope, found, cuts, at, &i.form)?;
+                let j = value(alloc, scope, found, cuts, at, &j.form)?;
+                let number = row(alloc, i, rows, j, columns)?;
+                return Ok(Some(Box::new(alloc, number)?));
+            }
+        }
+        Dimensions::Three(planes, rows, columns) => {
+            if let [i, j, k] = indices {
+                let i = value(alloc, scope, found, cuts, at, &i.form)?;
+                let j = value(alloc, scope, found, cuts, at, &j.form)?;
+                let outer = row(alloc, i, planes, j, rows)?;
+                let k = value(alloc, scope, found, cuts, at, &k.form)?;
+                let number = row(alloc, outer, planes.saturating_mul(rows), k, columns)?;
+                return Ok(Some(Box::new(alloc, number)?));
+            }
+        }
     }
-}
-
-fn unary_operator(operator: UnaryOperator) -> resolved::UnaryOperator
-    ensures { result ≡ spec.unary_operator operator }
-{
-    match operator {
-        UnaryOperator::Plus => resolved::UnaryOperator::Plus,
-        UnaryOperator::Minus => resolved::UnaryOperator::Minus,
-        UnaryOperator::Complement => resolved::UnaryOperator::Complement,
-        UnaryOperator::Not => resolved::UnaryOperator::Not,
+    for index in indices {
+        operand(alloc, scope, found, 0, index)?;
     }
-}
-
-fn unary(
-    alloc: Global,
-    operator: UnaryOperator,
-    operand: resolved::Expression,
-) -> Result<resolved::Expression, AllocError>
-    ensures { IfOk result (λ e. expression_of e ≡ spec.unary operator (expression_of operand)) }
-{
-    let ty = promote(expression_type(&operand));
-    let operand = Box::new(alloc, operand)?;
-    Ok(resolved::Expression::Unary(unary_operator(operator), ty, operand))
-}
-
-/// The operator without a short circuit, if it is one.
-pub fn binary_operator(operator: BinaryOperator) -> Option<resolved::BinaryOperator>
-    ensures { result ≡ spec.binary_operator operator }
-{
-    match operator {
-        BinaryOperator::LogicalOr | BinaryOperator::LogicalAnd => None,
-        BinaryOperator::BitOr => Some(resolved::BinaryOperator::InclusiveOr),
-        BinaryOperator::BitXor => Some(resolved::BinaryOperator::ExclusiveOr),
-        BinaryOperator::BitAnd => Some(resolved::BinaryOperator::And),
-        BinaryOperator::Equal => Some(resolved::BinaryOperator::Equal),
-        BinaryOperator::NotEqual => Some(resolved::BinaryOperator::NotEqual),
-        BinaryOperator::Less => Some(resolved::BinaryOperator::Less),
-        BinaryOperator::Greater => Some(resolved::BinaryOperator::Greater),
-        BinaryOperator::LessEqual => Some(resolved::BinaryOperator::LessEqual),
-        BinaryOperator::GreaterEqual => Some(resolved::BinaryOperator::GreaterEqual),
-        BinaryOperator::ShiftLeft => Some(resolved::BinaryOperator::ShiftLeft),
-        BinaryOperator::ShiftRight => Some(resolved::BinaryOperator::ShiftRight),
-        BinaryOperator::Add => Some(resolved::BinaryOperator::Add),
-        BinaryOperator::Subtract => Some(resolved::BinaryOperator::Subtract),
-        BinaryOperator::Multiply => Some(resolved::BinaryOperator::Multiply),
-        BinaryOperator::Divide => Some(resolved::BinaryOperator::Divide),
-        BinaryOperator::Remainder => Some(resolved::BinaryOperator::Remainder),
-    }
-}
-
-/// The type in which an operator works on operands of the two types (C99 6.3.1.8, 6.5.7).
-pub fn working_type(operator: resolved::BinaryOperator, left: CType, right: CType) -> CType
-    ensures { result ≡ working_type_of operator left right }
-{
-    match operator {
-        resolved::BinaryOperator::ShiftLeft | resolved::BinaryOperator::ShiftRight => promote(left),
-        _ => usual(left, right),
-    }
-}
-
-/// An operator between two values; a short circuit is out of place.
-#[tactic(auto, unfolding(crate::specs::Expressions::operated))]
-fn operated(
-    alloc: Global,
-    found: &mut Findings,
-    operator: BinaryOperator,
-    offset: usize,
-    left: resolved::Expression,
-    right: resolved::Expression,
-) -> Result<resolved::Expression, AllocError>
-    ensures { Walks expression_of (spec.operated operator offset (expression_of left) (expression_of right) found.old) result found.new }
-{
-    let Some(operator) = binary_operator(operator) else {
-        return Ok(refused(found, Rule::Place, offset));
-    };
-    let ty = working_type(operator, expression_type(&left), expression_type(&right));
-    let left = Box::new(alloc, left)?;
-    let right = Box::new(alloc, right)?;
-    Ok(resolved::Expression::Binary(operator, ty, left, right))
+    Ok(None)
 }
 
 /// Operators and their right operands behind a value.
@@ -267,70 +110,54 @@ fn terms(
     alloc: Global,
     scope: &Scope<'_>,
     found: &mut Findings,
+    cuts: &mut Cuts,
+    at: u32,
     terms: &[Term],
     first: resolved::Expression,
 ) -> Result<resolved::Expression, AllocError>
-    ensures { Walks expression_of (spec.terms_value scope.now (expression_of first) (map (spec.term scope.now) terms.now) found.old) result found.new }
+    ensures { Walks (λ e. cut (cuts_of cuts.new) (expression_of e))
+        (spec.terms_value scope.now at (cut (cuts_of cuts.old) (expression_of first)) (map (spec.term scope.now) terms.now) found.old) result found.new }
 {
-    let mut value = first;
+    let mut left = first;
     for term in terms {
-        let right = expression(alloc, scope, found, &term.operand)?;
-        value = operated(alloc, found, term.operator, term.offset, value, right)?;
+        let right = value(alloc, scope, found, cuts, at, &term.operand.form)?;
+        left = operated(alloc, term.operator, left, right)?;
     }
-    Ok(value)
+    Ok(left)
 }
 
-/// Choices, which are out of place.
+/// Looks at an argument of a call for the faults in it.
 #[cycle(expressions)]
-#[tactic(auto, unfolding(crate::specs::Expressions::choices_value))]
-fn choices(
-    alloc: Global,
-    scope: &Scope<'_>,
-    found: &mut Findings,
-    choices: &[Choice],
-) -> Result<(), AllocError>
-    ensures { Walks (λ x. x) (spec.choices_value scope.now (map (spec.choice scope.now) choices.now) found.old) result found.new }
-{
-    for choice in choices {
-        found.add(Rule::Place, choice.offset);
-        expression(alloc, scope, found, &choice.condition)?;
-        expression(alloc, scope, found, &choice.otherwise)?;
-    }
-    Ok(())
-}
-
-/// Looks through an argument that no form is asked of.
-#[cycle(expressions)]
-pub fn argument(
+pub fn look_at_argument(
     alloc: Global,
     scope: &Scope<'_>,
     found: &mut Findings,
     argument: &Argument,
 ) -> Result<(), AllocError>
-    ensures { Walks (λ x. x) (spec.argument scope.now argument.now found.old) result found.new }
+    ensures { Walks (λ x. x) (spec.looked_argument scope.now argument.now found.old) result found.new }
 {
     match argument {
-        Argument::Value(value) => {
-            expression(alloc, scope, found, value.get())?;
-            Ok(())
+        Argument::Value(e) => {
+            operand(alloc, scope, found, 0, e.get())?;
         }
-        Argument::Text(_, _) => Ok(()),
+        Argument::Text(_, _) => {}
         Argument::Address(place, _) => {
-            index(alloc, scope, found, place)?;
-            Ok(())
+            for index in place.indices.as_slice() {
+                operand(alloc, scope, found, 0, index)?;
+            }
         }
         Argument::Pointer(pointer) => {
-            if let Some(operand) = &pointer.operand {
-                expression(alloc, scope, found, operand.get())?;
+            if let Some(e) = &pointer.operand {
+                operand(alloc, scope, found, 0, e.get())?;
             }
-            Ok(())
         }
     }
+    Ok(())
 }
 
-/// Looks at each argument of a call for the faults in it.
+/// Looks at the arguments of a call for the faults in them.
 #[cycle(expressions)]
-pub fn arguments(
+pub fn look_at_arguments(
     alloc: Global,
     scope: &Scope<'_>,
     found: &mut Findings,
@@ -338,51 +165,256 @@ pub fn arguments(
 ) -> Result<(), AllocError>
     ensures { Walks (λ x. x) (spec.arguments scope.now arguments.now found.old) result found.new }
 {
-    for next in arguments {
-        argument(alloc, scope, found, next)?;
+    for argument in arguments {
+        look_at_argument(alloc, scope, found, argument)?;
     }
     Ok(())
 }
 
-/// The value of an expression in which no call and no short circuit may stand.
+/// The place of an argument's first byte.
+pub fn argument_offset(argument: &Argument) -> usize
+    ensures { result ≡ spec.argument_offset argument.now }
+{
+    match argument {
+        Argument::Value(value) => value.get().offset,
+        Argument::Text(_, offset) => *offset,
+        Argument::Address(_, offset) => *offset,
+        Argument::Pointer(pointer) => pointer.offset,
+    }
+}
+
+/// The values of the arguments of a call of a function of the text, each an integer.
 #[cycle(expressions)]
-#[tactic(auto, unfolding(crate::specs::Expressions::place_value, crate::specs::Expressions::cast, crate::specs::Expressions::call_value))]
+#[tactic(auto, unfolding(crate::specs::Expressions::all_values, crate::specs::Expressions::refused_value))]
+pub fn argument_values(
+    alloc: Global,
+    scope: &Scope<'_>,
+    found: &mut Findings,
+    cuts: &mut Cuts,
+    at: u32,
+    arguments: &[Argument],
+) -> Result<Vec<resolved::Expression>, AllocError>
+    ensures { Walks (λ v. cut (cuts_of cuts.new) (expressions_of v.items)) (spec.all_passed scope.now arguments.now at (cuts_of cuts.old) found.old) result found.new }
+{
+    let mut values = Vec::new(alloc);
+    for argument in arguments {
+        match argument {
+            Argument::Value(e) => {
+                let passed = value(alloc, scope, found, cuts, at, &e.get().form)?;
+                values.push(passed)?;
+            }
+            Argument::Text(_, _) | Argument::Address(_, _) | Argument::Pointer(_) => {
+                found.add(Rule::Kind, argument_offset(argument));
+                look_at_argument(alloc, scope, found, argument)?;
+                values.push(nothing())?;
+            }
+        }
+    }
+    Ok(values)
+}
+
+/// The value of a call, whose function is entered at the place.
+#[cycle(expressions)]
+#[tactic(auto, unfolding(crate::specs::Expressions::function_value, crate::specs::Expressions::no_value))]
+fn call(
+    alloc: Global,
+    scope: &Scope<'_>,
+    found: &mut Findings,
+    cuts: &mut Cuts,
+    at: u32,
+    call: &Call,
+) -> Result<resolved::Expression, AllocError>
+    ensures { Walks (λ e. cut (cuts_of cuts.new) (expression_of e)) (spec.call_value scope.now (spec.called scope.now call.now) at (cuts_of cuts.old) found.old) result found.new }
+{
+    let known = scope.look_up(call.name.bytes.as_slice());
+    let offset = call.name.offset;
+    let arguments = call.arguments.as_slice();
+    let Some(number) = number_of(known) else {
+        misplaced(scope, found, known, arguments.len(), offset);
+        look_at_arguments(alloc, scope, found, arguments)?;
+        return Ok(nothing());
+    };
+    let definition = function_name(scope, found, number, arguments.len(), true, offset)?;
+    let slot = cuts.next;
+    let values = argument_values(alloc, scope, found, cuts, at, arguments)?;
+    let Some(function) = definition else {
+        return Ok(nothing());
+    };
+    let entered = resolved::Statement::Call(at, Some(slot), function, values).boxed(alloc)?;
+    cuts.keep(slot, entered)?;
+    Ok(resolved::Expression::Kept(slot, value_type(scope, number)))
+}
+
+/// Conditionals with the first operand of the innermost one.
+#[cycle(expressions)]
+#[tactic(auto, unfolding(crate::specs::Expressions::further_choices))]
+fn choices(
+    alloc: Global,
+    scope: &Scope<'_>,
+    found: &mut Findings,
+    slot: u32,
+    choices: &[Choice],
+    first: Chosen,
+) -> Result<Chosen, AllocError>
+    ensures { Walks chosen_of (spec.further_choices scope.now slot (chosen_of first) (map (spec.choice scope.now) choices.now) found.old) result found.new }
+{
+    let mut chosen = first;
+    for choice in choices {
+        let test = condition(alloc, scope, found, slot, &choice.condition)?;
+        let other = operand(alloc, scope, found, slot, &choice.otherwise)?;
+        let offset = place(choice.condition.offset);
+        chosen = conditional(alloc, slot, offset, test, chosen, other)?;
+    }
+    Ok(chosen)
+}
+
+/// Short circuits and their right operands behind a condition.
+#[cycle(expressions)]
+#[tactic(auto, unfolding(crate::specs::Expressions::terms_condition))]
+fn short_circuits(
+    alloc: Global,
+    scope: &Scope<'_>,
+    found: &mut Findings,
+    slot: u32,
+    terms: &[Term],
+    first: Box<resolved::Statement>,
+) -> Result<Box<resolved::Statement>, AllocError>
+    ensures { Walks boxed_statement_of (spec.terms_condition scope.now slot (boxed_statement_of first) (map (spec.term scope.now) terms.now) found.old) result found.new }
+{
+    let mut whole = first;
+    for term in terms {
+        let second = condition(alloc, scope, found, slot, &term.operand)?;
+        whole = joined(alloc, term.operator, whole, second)?;
+    }
+    Ok(whole)
+}
+
+/// What an expression is as a condition, which keeps values in the locals from the slot on.
+#[cycle(expressions)]
+pub fn condition(
+    alloc: Global,
+    scope: &Scope<'_>,
+    found: &mut Findings,
+    slot: u32,
+    e: &Expression,
+) -> Result<Box<resolved::Statement>, AllocError>
+    ensures { Walks boxed_statement_of (spec.condition scope.now e.now slot found.old) result found.new }
+{
+    let offset = place(e.offset);
+    let mut cuts = Cuts::free_from(alloc, slot);
+    match &e.form {
+        Form::Unary(operator, inner) => {
+            if matches!(operator, UnaryOperator::Not) {
+                let inner = condition(alloc, scope, found, slot, inner.get())?;
+                return resolved::Statement::Opposite(inner).boxed(alloc);
+            }
+            let rest = value(alloc, scope, found, &mut cuts, offset, &e.form)?;
+            test(alloc, offset, cuts, rest)
+        }
+        Form::Binary(first, more) => {
+            let more = more.as_slice();
+            if are_short_circuits(more) {
+                let first = condition(alloc, scope, found, slot, first.get())?;
+                return short_circuits(alloc, scope, found, slot, more, first);
+            }
+            let rest = value(alloc, scope, found, &mut cuts, offset, &e.form)?;
+            test(alloc, offset, cuts, rest)
+        }
+        Form::Constant(_, _)
+        | Form::Place(_)
+        | Form::Call(_)
+        | Form::Cast(_, _)
+        | Form::Conditional(_, _) => {
+            let rest = value(alloc, scope, found, &mut cuts, offset, &e.form)?;
+            test(alloc, offset, cuts, rest)
+        }
+    }
+}
+
+/// The value of an expression of that form, in the step at the place.
+#[cycle(expressions)]
+#[tactic(auto, unfolding(crate::specs::Expressions::place_value, crate::specs::Expressions::cast))]
+fn value(
+    alloc: Global,
+    scope: &Scope<'_>,
+    found: &mut Findings,
+    cuts: &mut Cuts,
+    at: u32,
+    form: &Form,
+) -> Result<resolved::Expression, AllocError>
+    ensures { Walks (λ x. cut (cuts_of cuts.new) (expression_of x)) ((spec.formed scope.now form.now).value at (cuts_of cuts.old) found.old) result found.new }
+{
+    match form {
+        Form::Constant(value, offset) => Ok(constant(found, *value, *offset)),
+        Form::Place(place) => {
+            let known = scope.look_up(place.name.bytes.as_slice());
+            let indices = place.indices.as_slice();
+            let variable = variable_of(known);
+            let dimensions = dimensions_of(variable);
+            let number = element_number(alloc, scope, found, cuts, at, dimensions, indices)?;
+            found.add_any(misuse(known, indices.len()), place.name.offset);
+            Ok(named_value(variable, number))
+        }
+        Form::Call(inner) => call(alloc, scope, found, cuts, at, inner),
+        Form::Unary(operator, inner) => {
+            let operand = value(alloc, scope, found, cuts, at, &inner.get().form)?;
+            unary(alloc, *operator, operand)
+        }
+        Form::Cast(specifiers, inner) => {
+            let ty = plain_integer(specifiers);
+            let inner = inner.get();
+            let operand = if is_long(ty) && is_argument(scope, inner) {
+                resolved::Expression::Variable(resolved::Storage::Automatic, 0, CType::LONG)
+            } else {
+                value(alloc, scope, found, cuts, at, &inner.form)?
+            };
+            converted(alloc, found, specifiers.offset, ty, operand)
+        }
+        Form::Binary(first, more) => {
+            let more = more.as_slice();
+            let slot = cuts.next;
+            if are_short_circuits(more) {
+                let first = condition(alloc, scope, found, slot, first.get())?;
+                let whole = short_circuits(alloc, scope, found, slot, more, first)?;
+                cuts.keep(slot, resolved::Statement::Truth(slot, whole).boxed(alloc)?)?;
+                return Ok(resolved::Expression::Kept(slot, CType::INT));
+            }
+            let first = value(alloc, scope, found, cuts, at, &first.get().form)?;
+            terms(alloc, scope, found, cuts, at, more, first)
+        }
+        Form::Conditional(first, outer) => {
+            let slot = cuts.next;
+            let first = operand(alloc, scope, found, slot, first.get())?;
+            let chosen = choices(alloc, scope, found, slot, outer.as_slice(), first)?;
+            cuts.keep_all(slot, chosen.before)?;
+            Ok(Box::into_inner(chosen.rest))
+        }
+    }
+}
+
+/// The value of an expression of the step at the place.
 pub fn expression(
     alloc: Global,
     scope: &Scope<'_>,
     found: &mut Findings,
+    cuts: &mut Cuts,
+    at: u32,
     e: &Expression,
 ) -> Result<resolved::Expression, AllocError>
-    ensures { Walks expression_of (spec.value scope.now e.now found.old) result found.new }
+    ensures { Walks (λ x. cut (cuts_of cuts.new) (expression_of x)) (spec.value scope.now e.now at (cuts_of cuts.old) found.old) result found.new }
 {
-    match &e.form {
-        Form::Constant(value, offset) => Ok(constant(found, *value, *offset)),
-        Form::Place(place) => {
-            let index = index(alloc, scope, found, place)?;
-            place_value(alloc, scope, found, &place.name, index)
-        }
-        Form::Call(call) => {
-            misplaced(scope, found, &call.name, call.arguments.len())?;
-            arguments(alloc, scope, found, call.arguments.as_slice())?;
-            Ok(nothing())
-        }
-        Form::Unary(operator, operand) => {
-            let operand = expression(alloc, scope, found, operand.get())?;
-            unary(alloc, *operator, operand)
-        }
-        Form::Cast(specifiers, operand) => {
-            let ty = plain_integer(specifiers);
-            let value = cast_operand(alloc, scope, found, operand.get(), ty)?;
-            converted(alloc, found, specifiers.offset, ty, value)
-        }
-        Form::Binary(first, more) => {
-            let first = expression(alloc, scope, found, first.get())?;
-            terms(alloc, scope, found, more.as_slice(), first)
-        }
-        Form::Conditional(first, outer) => {
-            expression(alloc, scope, found, first.get())?;
-            choices(alloc, scope, found, outer.as_slice())?;
-            Ok(nothing())
-        }
-    }
+    value(alloc, scope, found, cuts, at, &e.form)
+}
+
+/// Looks at an expression for the faults in it.
+pub fn look_through(
+    alloc: Global,
+    scope: &Scope<'_>,
+    found: &mut Findings,
+    e: &Expression,
+) -> Result<(), AllocError>
+    ensures { Walks (λ x. x) (spec.looked scope.now e.now found.old) result found.new }
+{
+    operand(alloc, scope, found, 0, e)?;
+    Ok(())
 }

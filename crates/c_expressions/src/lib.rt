@@ -3,6 +3,10 @@
 #![tactic(auto)]
 
 pub mod callees;
-pub mod conditions;
+mod choices;
+pub mod cuts;
 pub mod expressions;
+mod objects;
+pub mod operators;
+pub mod sequences;
 pub mod targets;

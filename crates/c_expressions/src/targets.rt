@@ -1,11 +1,14 @@
 // What is assigned to (C99 6.5.16).
 
-ghost use Rattle.std.specs.Prelude.{◌≡◌, box_value, option_map, IfOk};
+ghost use Rattle.std.specs.Prelude.{◌≡◌, box_value, option_map};
 ghost use Rattle.c_program.specs.Plain.{expression_of, place_of};
 ghost use Rattle.c_rules.specs.Walks.{Walks};
+ghost use Rattle.c_expressions.specs.Cuts.{cut, cuts_of};
 ghost use Rattle.c_expressions.specs.Targets as spec;
 
-use crate::expressions::{index, variable_of};
+use crate::cuts::Cuts;
+use crate::expressions::element_number;
+use crate::objects::{dimensions_of, variable_of};
 use c_program::tree as resolved;
 use c_rules::fault::Rule;
 use c_rules::findings::Findings;
@@ -14,16 +17,16 @@ use c_tree::Place;
 use hls_ints::CType;
 use std::alloc::{AllocError, Global};
 
-/// The rule that is broken where a name may not be assigned to, or has the wrong number of indices.
-fn target_fault(known: Known, has_index: bool) -> Option<Rule>
-    ensures { result ≡ spec.target_fault known has_index }
+/// The rule that is broken where a name with so many indices may not be assigned to.
+fn target_fault(known: Known, indices: usize) -> Option<Rule>
+    ensures { result ≡ spec.target_fault known indices }
 {
     match known {
         Known::Declared(Meaning::Variable(variable)) => {
-            if variable.is_const || variable.length.is_some() != has_index {
-                Some(Rule::Kind)
-            } else {
+            if !variable.is_const && variable.dimensions.count() == indices {
                 None
+            } else {
+                Some(Rule::Kind)
             }
         }
         Known::Declared(Meaning::Unusable) => None,
@@ -32,51 +35,43 @@ fn target_fault(known: Known, has_index: bool) -> Option<Rule>
     }
 }
 
-fn variable_place(
-    alloc: Global,
-    variable: Variable,
-    index: Option<resolved::Expression>,
-) -> Result<Box<resolved::Place>, AllocError>
-    ensures { IfOk result (λ p. place_of (box_value p) ≡ spec.variable_place variable variable.length (option_map expression_of index)) }
+/// A scalar, or the element of the number.
+fn named_place(
+    variable: Option<Variable>,
+    number: Option<Box<resolved::Expression>>,
+) -> resolved::Place
+    ensures { place_of result ≡ spec.named_place variable (option_map (λ n. expression_of (box_value n)) number) }
 {
+    let Some(variable) = variable else {
+        return resolved::Place::Scalar(resolved::Storage::Automatic, 0, CType::INT);
+    };
     let ty = variable.ty.c_type();
-    match (variable.length, index) {
-        (Some(length), Some(index)) => {
-            let index = Box::new(alloc, index)?;
-            let place = resolved::Place::Element(
-                variable.storage,
-                variable.number,
-                length,
-                ty,
-                index,
-            );
-            Ok(Box::new(alloc, place)?)
+    match number {
+        None => resolved::Place::Scalar(variable.storage, variable.number, ty),
+        Some(number) => {
+            let length = variable.dimensions.elements();
+            resolved::Place::Element(variable.storage, variable.number, length, ty, number)
         }
-        _ => Ok(Box::new(
-            alloc,
-            resolved::Place::Scalar(variable.storage, variable.number, ty),
-        )?),
     }
 }
 
-/// A place that is assigned to.
+/// A place that is assigned to by the step at the place of the text; the cuts of its indices go behind the others.
 #[tactic(auto, unfolding(crate::specs::Targets::target))]
 pub fn target(
     alloc: Global,
     scope: &Scope<'_>,
     found: &mut Findings,
+    cuts: &mut Cuts,
+    at: u32,
     place: &Place,
 ) -> Result<Box<resolved::Place>, AllocError>
-    ensures { Walks (λ p. place_of (box_value p)) (spec.target scope.now place.now found.old) result found.new }
+    ensures { Walks (λ p. cut (cuts_of cuts.new) (place_of (box_value p))) (spec.target scope.now place.now at (cuts_of cuts.old) found.old) result found.new }
 {
-    let index = index(alloc, scope, found, place)?;
     let known = scope.look_up(place.name.bytes.as_slice());
-    found.add_any(target_fault(known, index.is_some()), place.name.offset);
-    match variable_of(known) {
-        Some(variable) => variable_place(alloc, variable, index),
-        None => {
-            let nothing = resolved::Place::Scalar(resolved::Storage::Automatic, 0, CType::INT);
-            Ok(Box::new(alloc, nothing)?)
-        }
-    }
+    let indices = place.indices.as_slice();
+    let variable = variable_of(known);
+    let dimensions = dimensions_of(variable);
+    let number = element_number(alloc, scope, found, cuts, at, dimensions, indices)?;
+    found.add_any(target_fault(known, indices.len()), place.name.offset);
+    Ok(Box::new(alloc, named_place(variable, number))?)
 }
