@@ -1,5 +1,6 @@
 pub mod Arguments
 pub mod Calls
-pub mod Cuts
+pub use Rattle.c_expressions.specs.Cuts
 pub use Rattle.c_expressions.specs.Expressions
+pub use Rattle.c_expressions.specs.Sequences
 pub use Rattle.c_expressions.specs.Targets

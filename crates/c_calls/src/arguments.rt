@@ -1,17 +1,21 @@
 // Arguments by the form that a call has at their place (C99 6.5.2.2, POSIX pthread.h).
 
-ghost use Rattle.std.specs.Prelude.{◌≡◌, option_map};
+ghost use Rattle.std.specs.Prelude.{◌≡◌, box_value, option_map};
 ghost use Rattle.std.specs.Option.{option_copied};
-ghost use Rattle.c_program.specs.Plain.{expression_of, expressions_of, object_place_of};
-ghost use Rattle.c_rules.specs.Walks.{Walks};
+ghost use Rattle.c_program.specs.Plain.{expression_of, object_place_of};
+ghost use Rattle.c_rules.specs.Walks.{Outcome, Walks};
+ghost use Rattle.c_expressions.specs.Cuts.{cut, cuts_of};
 ghost use Rattle.c_calls.specs.Arguments as spec;
 
-use c_expressions::expressions::{argument as look_through, expression, index};
+use c_expressions::callees::{is_unknown, is_usable};
+use c_expressions::cuts::Cuts;
+use c_expressions::expressions::{argument_offset, element_number, expression, look_at_argument};
 use c_program::tree as resolved;
+use c_rules::dimensions::Dimensions;
 use c_rules::fault::Rule;
 use c_rules::findings::Findings;
 use c_rules::names::{Header, Known, Meaning, Object, ObjectKind, Scope};
-use c_tree::{Argument, Form, Place, Pointer};
+use c_tree::{Argument, Form, Name, Place, Pointer};
 use hls_ints::CType;
 use std::alloc::{AllocError, Global};
 
@@ -20,18 +24,6 @@ pub fn null() -> resolved::Expression
     ensures { expression_of result ≡ spec.null }
 {
     resolved::Expression::Constant(CType::LONG, 0)
-}
-
-/// The place of an argument's first byte.
-pub fn argument_offset(argument: &Argument) -> usize
-    ensures { result ≡ spec.argument_offset argument.now }
-{
-    match argument {
-        Argument::Value(value) => value.get().offset,
-        Argument::Text(_, offset) => *offset,
-        Argument::Address(_, offset) => *offset,
-        Argument::Pointer(pointer) => pointer.offset,
-    }
 }
 
 /// An argument of another form than the call has.
@@ -45,7 +37,7 @@ fn refuse(
     ensures { Walks (λ x. x) (spec.refused scope.now argument.now found.old) result found.new }
 {
     found.add(Rule::Kind, argument_offset(argument));
-    look_through(alloc, scope, found, argument)
+    look_at_argument(alloc, scope, found, argument)
 }
 
 /// An argument that is no start routine, and is of another form than the call has, or not.
@@ -60,7 +52,7 @@ fn refused_routine(
     ensures { Walks (λ r. r) (spec.refused_routine scope.now is_other argument.now found.old) result found.new }
 {
     found.add_if(is_other, Rule::Kind, argument_offset(argument));
-    look_through(alloc, scope, found, argument)?;
+    look_at_argument(alloc, scope, found, argument)?;
     Ok(None)
 }
 
@@ -70,35 +62,19 @@ pub fn value_argument(
     alloc: Global,
     scope: &Scope<'_>,
     found: &mut Findings,
+    cuts: &mut Cuts,
+    at: u32,
     argument: &Argument,
 ) -> Result<resolved::Expression, AllocError>
-    ensures { Walks expression_of (spec.value_argument scope.now argument.now found.old) result found.new }
+    ensures { Walks (λ e. cut (cuts_of cuts.new) (expression_of e)) (spec.value_argument scope.now argument.now at (cuts_of cuts.old) found.old) result found.new }
 {
     match argument {
-        Argument::Value(value) => expression(alloc, scope, found, value.get()),
+        Argument::Value(value) => expression(alloc, scope, found, cuts, at, value.get()),
         _ => {
             refuse(alloc, scope, found, argument)?;
             Ok(null())
         }
     }
-}
-
-/// The values of a call of a function of the text, each an integer.
-#[tactic(auto, unfolding(crate::specs::Arguments::value_arguments))]
-pub fn value_arguments(
-    alloc: Global,
-    scope: &Scope<'_>,
-    found: &mut Findings,
-    arguments: &[Argument],
-) -> Result<Vec<resolved::Expression>, AllocError>
-    ensures { Walks (λ v. expressions_of v.items) (spec.value_arguments scope.now arguments.now found.old) result found.new }
-{
-    let mut values = Vec::new(alloc);
-    for argument in arguments {
-        let value = value_argument(alloc, scope, found, argument)?;
-        values.push(value)?;
-    }
-    Ok(values)
 }
 
 /// `NULL`.
@@ -123,12 +99,14 @@ pub fn pointer_value(
     alloc: Global,
     scope: &Scope<'_>,
     found: &mut Findings,
+    cuts: &mut Cuts,
+    at: u32,
     pointer: &Pointer,
 ) -> Result<resolved::Expression, AllocError>
-    ensures { Walks expression_of (spec.pointer_value scope.now pointer.now found.old) result found.new }
+    ensures { Walks (λ e. cut (cuts_of cuts.new) (expression_of e)) (spec.pointer_value scope.now pointer.now at (cuts_of cuts.old) found.old) result found.new }
 {
     match &pointer.operand {
-        Some(operand) => expression(alloc, scope, found, operand.get()),
+        Some(operand) => expression(alloc, scope, found, cuts, at, operand.get()),
         None => Ok(null()),
     }
 }
@@ -139,12 +117,14 @@ pub fn pointer_argument(
     alloc: Global,
     scope: &Scope<'_>,
     found: &mut Findings,
+    cuts: &mut Cuts,
+    at: u32,
     argument: &Argument,
 ) -> Result<resolved::Expression, AllocError>
-    ensures { Walks expression_of (spec.pointer_argument scope.now argument.now found.old) result found.new }
+    ensures { Walks (λ e. cut (cuts_of cuts.new) (expression_of e)) (spec.pointer_argument scope.now argument.now at (cuts_of cuts.old) found.old) result found.new }
 {
     match argument {
-        Argument::Pointer(pointer) => pointer_value(alloc, scope, found, pointer),
+        Argument::Pointer(pointer) => pointer_value(alloc, scope, found, cuts, at, pointer),
         _ => {
             refuse(alloc, scope, found, argument)?;
             Ok(null())
@@ -168,53 +148,73 @@ fn object_of(kind: ObjectKind, known: Known) -> Option<Object>
     }
 }
 
-/// Whether a name is not declared (C99 6.2.1).
-pub fn is_unknown(known: Known) -> bool
-    ensures { result ≡ spec.is_unknown known }
+/// The dimensions of an object: an array of objects has one.
+fn object_dimensions(object: Option<Object>) -> Dimensions
+    ensures { result ≡ spec.object_dimensions object }
 {
-    matches!(known, Known::Unknown)
-}
-
-/// Whether a name stands for something that can be used.
-pub fn is_usable(known: Known) -> bool
-    ensures { result ≡ spec.is_usable known }
-{
-    match known {
-        Known::Unknown | Known::Declared(Meaning::Unusable) => false,
-        _ => true,
+    match object {
+        Some(
+            Object {
+                length: Some(length),
+                ..
+            },
+        ) => Dimensions::One(length),
+        _ => Dimensions::Scalar,
     }
 }
 
+/// An object, or the element of the number.
+fn placed(object: Object, number: Option<Box<resolved::Expression>>) -> resolved::ObjectPlace
+    ensures { object_place_of result ≡ spec.placed object object.length (option_map (λ e. expression_of (box_value e)) number) }
+{
+    match (object.length, number) {
+        (Some(length), Some(number)) => {
+            resolved::ObjectPlace::Element(object.number, length, number)
+        }
+        _ => resolved::ObjectPlace::Single(object.number),
+    }
+}
+
+/// What a name of no object of the kind breaks; the argument's first byte is at the offset.
+#[tactic(auto, unfolding(crate::specs::Arguments::misused_object))]
+fn misused_object(
+    found: &mut Findings,
+    known: Known,
+    name: &Name,
+    offset: usize,
+) -> resolved::ObjectPlace
+    ensures { spec.misused_object known name.now.offset offset found.old ≡ Outcome.Gives (object_place_of result) found.new }
+{
+    found.add_if(is_unknown(known), Rule::Unknown, name.offset);
+    found.add_if(is_usable(known), Rule::Kind, offset);
+    resolved::ObjectPlace::Single(u32::MAX)
+}
+
 /// A place of an object of the kind; the argument's first byte is at the offset.
-#[tactic(auto, unfolding(crate::specs::Arguments::object_place, crate::specs::Arguments::object_named, crate::specs::Arguments::misused_object, crate::specs::Arguments::object_at))]
+#[tactic(auto, unfolding(crate::specs::Arguments::object_place, crate::specs::Arguments::object_named, crate::specs::Arguments::object_at))]
 fn object_place(
     alloc: Global,
     scope: &Scope<'_>,
     found: &mut Findings,
+    cuts: &mut Cuts,
+    at: u32,
     kind: ObjectKind,
     place: &Place,
     offset: usize,
 ) -> Result<resolved::ObjectPlace, AllocError>
-    ensures { Walks object_place_of (spec.object_place scope.now kind place.now offset found.old) result found.new }
+    ensures { Walks (λ p. cut (cuts_of cuts.new) (object_place_of p)) (spec.object_place scope.now kind place.now offset at (cuts_of cuts.old) found.old) result found.new }
 {
-    let index = index(alloc, scope, found, place)?;
     let known = scope.look_up(place.name.bytes.as_slice());
-    let Some(object) = object_of(kind, known) else {
-        found.add_if(is_unknown(known), Rule::Unknown, place.name.offset);
-        found.add_if(is_usable(known), Rule::Kind, offset);
-        return Ok(resolved::ObjectPlace::Single(u32::MAX));
+    let object = object_of(kind, known);
+    let dimensions = object_dimensions(object);
+    let indices = place.indices.as_slice();
+    let number = element_number(alloc, scope, found, cuts, at, dimensions, indices)?;
+    let Some(object) = object else {
+        return Ok(misused_object(found, known, &place.name, offset));
     };
-    match (object.length, index) {
-        (None, None) => Ok(resolved::ObjectPlace::Single(object.number)),
-        (Some(length), Some(index)) => {
-            let index = Box::new(alloc, index)?;
-            Ok(resolved::ObjectPlace::Element(object.number, length, index))
-        }
-        (None, Some(_)) | (Some(_), None) => {
-            found.add(Rule::Kind, place.name.offset);
-            Ok(resolved::ObjectPlace::Single(object.number))
-        }
-    }
+    let is_other = dimensions.count() != indices.len();
+    found.add_if(is_other, Rule::Kind, place.name.offset);
+    Ok(placed(object, number))
 }
 
 /// `&` and an object of the kind.
@@ -223,13 +223,17 @@ pub fn address_argument(
     alloc: Global,
     scope: &Scope<'_>,
     found: &mut Findings,
+    cuts: &mut Cuts,
+    at: u32,
     kind: ObjectKind,
     argument: &Argument,
 ) -> Result<resolved::ObjectPlace, AllocError>
-    ensures { Walks object_place_of (spec.address_argument scope.now kind argument.now found.old) result found.new }
+    ensures { Walks (λ p. cut (cuts_of cuts.new) (object_place_of p)) (spec.address_argument scope.now kind argument.now at (cuts_of cuts.old) found.old) result found.new }
 {
     match argument {
-        Argument::Address(place, offset) => object_place(alloc, scope, found, kind, place, *offset),
+        Argument::Address(place, offset) => {
+            object_place(alloc, scope, found, cuts, at, kind, place, *offset)
+        }
         _ => {
             refuse(alloc, scope, found, argument)?;
             Ok(resolved::ObjectPlace::Single(u32::MAX))
@@ -257,13 +261,24 @@ pub fn thread_argument(
     alloc: Global,
     scope: &Scope<'_>,
     found: &mut Findings,
+    cuts: &mut Cuts,
+    at: u32,
     argument: &Argument,
 ) -> Result<resolved::ObjectPlace, AllocError>
-    ensures { Walks object_place_of (spec.thread_argument scope.now argument.now found.old) result found.new }
+    ensures { Walks (λ p. cut (cuts_of cuts.new) (object_place_of p)) (spec.thread_argument scope.now argument.now at (cuts_of cuts.old) found.old) result found.new }
 {
     match place_in(argument) {
         Some((place, offset)) => {
-            object_place(alloc, scope, found, ObjectKind::Thread, place, offset)
+            object_place(
+                alloc,
+                scope,
+                found,
+                cuts,
+                at,
+                ObjectKind::Thread,
+                place,
+                offset,
+            )
         }
         None => {
             refuse(alloc, scope, found, argument)?;
@@ -276,7 +291,7 @@ pub fn thread_argument(
 fn header_at<'s>(scope: &'s Scope<'_>, place: &Place) -> Option<&'s Header>
     ensures { option_copied result ≡ spec.header_at scope.now place.now }
 {
-    if place.index.is_some() {
+    if place.indices.len() != 0 {
         return None;
     }
     match scope.look_up(place.name.bytes.as_slice()) {
@@ -299,7 +314,7 @@ pub fn routine_argument(
         return refused_routine(alloc, scope, found, true, argument);
     };
     let Some(header) = header_at(scope, place) else {
-        let is_unnamed = place.index.is_none()
+        let is_unnamed = place.indices.len() == 0
             && is_unknown(scope.look_up(place.name.bytes.as_slice()));
         return refused_routine(alloc, scope, found, !is_unnamed, argument);
     };

@@ -1,31 +1,29 @@
-// Calls of functions of the text, of printf and of POSIX threads, as statements and as values (C99 6.5.2.2).
+// Calls of functions of the text, of printf and of POSIX threads, as statements (C99 6.5.2.2). The cuts of their arguments stand before them.
 
-ghost use Rattle.std.specs.Prelude.{◌≡◌, option_map, slice_get, IfOk};
-ghost use Rattle.c_program.specs.Plain.{expression_of, expressions_of, object_place_of, pieces_of, boxed_statement_of, thread_call_of};
-ghost use Rattle.c_program.specs.Tree.{Statement};
+ghost use Rattle.std.specs.Prelude.{◌≡◌, option_map, IfOk};
+ghost use Rattle.c_program.specs.Plain.{object_place_of, pieces_of, boxed_statement_of, thread_call_of};
 ghost use Rattle.c_program.specs.Resolved.{object_of};
 ghost use Rattle.c_rules.specs.Walks.{Walks};
-ghost use Rattle.c_calls.specs.Cuts.{cut_of};
-ghost use Rattle.c_calls.specs.Cuts as cuts;
+ghost use Rattle.c_expressions.specs.Cuts.{cuts_of};
 ghost use Rattle.c_calls.specs.Calls as spec;
 
 use crate::arguments::{
-    address_argument, argument_offset, is_unknown, is_usable, null, null_argument,
-    pointer_argument, routine_argument, thread_argument, value_argument, value_arguments,
+    address_argument, null_argument, pointer_argument, routine_argument, thread_argument,
+    value_argument,
 };
-use c_expressions::callees::{function_name, library_name};
+use c_expressions::callees::{function_name, library_name, no_function};
+use c_expressions::cuts::Cuts;
 use c_expressions::expressions::{
-    argument as look_through, arguments as look_through_all, expression,
+    argument_offset, argument_values, look_at_argument, look_at_arguments,
 };
+use c_expressions::sequences::behind_cuts;
 use c_program::tree as resolved;
 use c_rules::fault::Rule;
 use c_rules::findings::Findings;
 use c_rules::format::{conversions, pieces};
 use c_rules::library::LibraryFunction;
 use c_rules::names::{Known, Meaning, ObjectKind, Scope};
-use c_rules::specifiers::BaseType;
-use c_tree::{Argument, Call, Expression, Form};
-use hls_ints::CType;
+use c_tree::{Argument, Call};
 use std::alloc::{AllocError, Global};
 
 /// The kind of object that a call with one object has.
@@ -81,16 +79,24 @@ fn takes(format: &Option<Vec<resolved::Piece>>, values: usize) -> bool
     }
 }
 
-/// A pthread call as a statement.
+/// A pthread call as a statement, behind the cuts of its arguments.
 fn thread_statement(
     alloc: Global,
     at: u32,
+    cuts: Cuts,
     call: resolved::ThreadCall,
 ) -> Result<Box<resolved::Statement>, AllocError>
-    ensures { IfOk result (λ s. boxed_statement_of s ≡ Statement.Thread at (thread_call_of call)) }
+    ensures { IfOk result (λ s. boxed_statement_of s ≡ spec.thread_call at (cuts_of cuts) (thread_call_of call)) }
 {
     let call = Box::new(alloc, call)?;
-    resolved::Statement::Thread(at, call).boxed(alloc)
+    behind_cuts(alloc, cuts.before, resolved::Statement::Thread(at, call))
+}
+
+/// No cut of a statement yet.
+fn no_cuts(alloc: Global, scope: &Scope<'_>) -> Cuts
+    ensures { cuts_of result ≡ spec.no_cuts scope.now }
+{
+    Cuts::free_from(alloc, scope.kept_from)
 }
 
 /// A call with the wrong number of arguments.
@@ -103,7 +109,7 @@ fn looked_call(
 ) -> Result<Box<resolved::Statement>, AllocError>
     ensures { Walks boxed_statement_of (spec.looked_call scope.now arguments.now found.old) result found.new }
 {
-    look_through_all(alloc, scope, found, arguments)?;
+    look_at_arguments(alloc, scope, found, arguments)?;
     resolved::Statement::Empty.boxed(alloc)
 }
 
@@ -121,10 +127,20 @@ fn create_call(
     let [thread, attributes, routine, value] = arguments else {
         return looked_call(alloc, scope, found, arguments);
     };
-    let thread = address_argument(alloc, scope, found, ObjectKind::Thread, thread)?;
+    let mut cuts = no_cuts(alloc, scope);
+    let thread = address_argument(
+        alloc,
+        scope,
+        found,
+        &mut cuts,
+        at,
+        ObjectKind::Thread,
+        thread,
+    )?;
     null_argument(alloc, scope, found, attributes)?;
     let routine = routine_argument(alloc, scope, found, routine)?;
-    let value = Box::new(alloc, pointer_argument(alloc, scope, found, value)?)?;
+    let value = pointer_argument(alloc, scope, found, &mut cuts, at, value)?;
+    let value = Box::new(alloc, value)?;
     let Some((number, offset)) = routine else {
         return resolved::Statement::Empty.boxed(alloc);
     };
@@ -132,6 +148,7 @@ fn create_call(
     thread_statement(
         alloc,
         at,
+        cuts,
         resolved::ThreadCall::Create(thread, number, value),
     )
 }
@@ -150,9 +167,10 @@ fn join_call(
     let [thread, outcome] = arguments else {
         return looked_call(alloc, scope, found, arguments);
     };
-    let thread = thread_argument(alloc, scope, found, thread)?;
+    let mut cuts = no_cuts(alloc, scope);
+    let thread = thread_argument(alloc, scope, found, &mut cuts, at, thread)?;
     null_argument(alloc, scope, found, outcome)?;
-    thread_statement(alloc, at, resolved::ThreadCall::Join(thread))
+    thread_statement(alloc, at, cuts, resolved::ThreadCall::Join(thread))
 }
 
 /// `pthread_exit`, which is a return
@@ -169,8 +187,14 @@ fn exit_call(
     let [value] = arguments else {
         return looked_call(alloc, scope, found, arguments);
     };
-    let value = Box::new(alloc, pointer_argument(alloc, scope, found, value)?)?;
-    resolved::Statement::Return(at, Some(value)).boxed(alloc)
+    let mut cuts = no_cuts(alloc, scope);
+    let value = pointer_argument(alloc, scope, found, &mut cuts, at, value)?;
+    let value = Box::new(alloc, value)?;
+    behind_cuts(
+        alloc,
+        cuts.before,
+        resolved::Statement::Return(at, Some(value)),
+    )
 }
 
 /// `pthread_mutex_init`
@@ -187,9 +211,10 @@ fn mutex_init_call(
     let [mutex, attributes] = arguments else {
         return looked_call(alloc, scope, found, arguments);
     };
-    let mutex = address_argument(alloc, scope, found, ObjectKind::Mutex, mutex)?;
+    let mut cuts = no_cuts(alloc, scope);
+    let mutex = address_argument(alloc, scope, found, &mut cuts, at, ObjectKind::Mutex, mutex)?;
     null_argument(alloc, scope, found, attributes)?;
-    thread_statement(alloc, at, resolved::ThreadCall::MutexInit(mutex))
+    thread_statement(alloc, at, cuts, resolved::ThreadCall::MutexInit(mutex))
 }
 
 /// `pthread_barrier_init`
@@ -206,10 +231,25 @@ fn barrier_init_call(
     let [barrier, attributes, count] = arguments else {
         return looked_call(alloc, scope, found, arguments);
     };
-    let barrier = address_argument(alloc, scope, found, ObjectKind::Barrier, barrier)?;
+    let mut cuts = no_cuts(alloc, scope);
+    let barrier = address_argument(
+        alloc,
+        scope,
+        found,
+        &mut cuts,
+        at,
+        ObjectKind::Barrier,
+        barrier,
+    )?;
     null_argument(alloc, scope, found, attributes)?;
-    let count = Box::new(alloc, value_argument(alloc, scope, found, count)?)?;
-    thread_statement(alloc, at, resolved::ThreadCall::BarrierInit(barrier, count))
+    let count = value_argument(alloc, scope, found, &mut cuts, at, count)?;
+    let count = Box::new(alloc, count)?;
+    thread_statement(
+        alloc,
+        at,
+        cuts,
+        resolved::ThreadCall::BarrierInit(barrier, count),
+    )
 }
 
 /// A call with one object.
@@ -227,8 +267,10 @@ fn object_call(
     let [object] = arguments else {
         return looked_call(alloc, scope, found, arguments);
     };
-    let place = address_argument(alloc, scope, found, object_kind(function), object)?;
-    thread_statement(alloc, at, on_object(function, place))
+    let mut cuts = no_cuts(alloc, scope);
+    let kind = object_kind(function);
+    let place = address_argument(alloc, scope, found, &mut cuts, at, kind, object)?;
+    thread_statement(alloc, at, cuts, on_object(function, place))
 }
 
 /// A printf whose name stands at the offset.
@@ -243,17 +285,21 @@ fn print_call(
 ) -> Result<Box<resolved::Statement>, AllocError>
     ensures { Walks boxed_statement_of (spec.print_call scope.now at offset arguments.now found.old) result found.new }
 {
-    let [first, values @ ..] = arguments else {
+    let [first, converted @ ..] = arguments else {
         found.add(Rule::Format, offset);
         return resolved::Statement::Empty.boxed(alloc);
     };
     let format = format(alloc, first)?;
-    let is_taken = takes(&format, values.len());
+    let is_taken = takes(&format, converted.len());
     found.add_if(!is_taken, Rule::Format, argument_offset(first));
-    look_through(alloc, scope, found, first)?;
-    let values = value_arguments(alloc, scope, found, values)?;
+    look_at_argument(alloc, scope, found, first)?;
+    let mut cuts = no_cuts(alloc, scope);
+    let values = argument_values(alloc, scope, found, &mut cuts, at, converted)?;
     match format {
-        Some(pieces) => resolved::Statement::Print(at, pieces, values).boxed(alloc),
+        Some(pieces) => {
+            let print = resolved::Statement::Print(at, pieces, values);
+            behind_cuts(alloc, cuts.before, print)
+        }
         None => resolved::Statement::Empty.boxed(alloc),
     }
 }
@@ -289,26 +335,33 @@ fn library_call(
     }
 }
 
-/// A call of a function of the text: the number of its definition, and the arguments.
-#[tactic(auto, unfolding(crate::specs::Calls::function_call))]
+/// A call of a function of the text by the number of its header, whose value, if it has one, is not used.
+#[tactic(auto, unfolding(crate::specs::Calls::function_statement))]
 fn function_call(
     alloc: Global,
     scope: &Scope<'_>,
     found: &mut Findings,
     number: usize,
-    is_value: bool,
+    at: u32,
     offset: usize,
     arguments: &[Argument],
-) -> Result<(Option<u32>, Vec<resolved::Expression>), AllocError>
-    ensures { Walks (λ r. (r.0, expressions_of r.1.items)) (spec.function_call scope.now number is_value offset arguments.now found.old) result found.new }
+) -> Result<Box<resolved::Statement>, AllocError>
+    ensures { Walks boxed_statement_of (spec.function_statement scope.now number at offset arguments.now found.old) result found.new }
 {
-    let definition = function_name(scope, found, number, arguments.len(), is_value, offset)?;
-    let values = value_arguments(alloc, scope, found, arguments)?;
-    Ok((definition, values))
+    let definition = function_name(scope, found, number, arguments.len(), false, offset)?;
+    let mut cuts = no_cuts(alloc, scope);
+    let values = argument_values(alloc, scope, found, &mut cuts, at, arguments)?;
+    match definition {
+        Some(function) => {
+            let call = resolved::Statement::Call(at, None, function, values);
+            behind_cuts(alloc, cuts.before, call)
+        }
+        None => resolved::Statement::Empty.boxed(alloc),
+    }
 }
 
 /// A call as a statement at the place.
-#[tactic(auto, unfolding(crate::specs::Calls::call, crate::specs::Calls::call_of, crate::specs::Calls::no_function, crate::specs::Calls::function_statement))]
+#[tactic(auto, unfolding(crate::specs::Calls::call, crate::specs::Calls::call_of, crate::specs::Calls::other_call))]
 pub fn call(
     alloc: Global,
     scope: &Scope<'_>,
@@ -326,129 +379,11 @@ pub fn call(
             library_call(alloc, scope, found, function, at, offset, arguments)
         }
         Known::Declared(Meaning::Function(number)) => {
-            let (definition, values) = function_call(
-                alloc, scope, found, number, false, offset, arguments,
-            )?;
-            match definition {
-                Some(function) => {
-                    resolved::Statement::Call(at, None, function, values).boxed(alloc)
-                }
-                None => resolved::Statement::Empty.boxed(alloc),
-            }
+            function_call(alloc, scope, found, number, at, offset, arguments)
         }
         _ => {
-            found.add_if(is_unknown(known), Rule::Unknown, offset);
-            found.add_if(is_usable(known), Rule::Kind, offset);
+            no_function(found, known, offset);
             looked_call(alloc, scope, found, arguments)
-        }
-    }
-}
-
-/// The call of a function of the text that an expression is, by the number of the function's header.
-fn function_called<'e>(scope: &Scope<'_>, e: &'e Expression) -> Option<(usize, &'e Call)>
-    ensures { option_map (λ r. (r.0, r.1.now)) result ≡ spec.function_called scope.now e.now }
-{
-    let Form::Call(call) = &e.form else {
-        return None;
-    };
-    match scope.look_up(call.name.bytes.as_slice()) {
-        Known::Declared(Meaning::Function(number)) => Some((number, call)),
-        _ => None,
-    }
-}
-
-/// A value with its cuts.
-#[derive(Drop)]
-pub struct Cut {
-    /// What is evaluated before the value, in order; a local keeps the value of each.
-    pub before: Vec<Box<resolved::Statement>>,
-    /// What is left of the value.
-    pub rest: Box<resolved::Expression>,
-}
-
-/// A value without cuts.
-fn uncut(alloc: Global, value: resolved::Expression) -> Result<Cut, AllocError>
-    ensures { IfOk result (λ c. cut_of c ≡ cuts.uncut (expression_of value)) }
-{
-    let rest = Box::new(alloc, value)?;
-    Ok(Cut {
-        before: Vec::new(alloc),
-        rest,
-    })
-}
-
-/// The value of a call at the place, which the local keeps.
-fn kept_call(
-    alloc: Global,
-    at: u32,
-    slot: u32,
-    function: u32,
-    values: Vec<resolved::Expression>,
-    ty: CType,
-) -> Result<Cut, AllocError>
-    ensures { IfOk result (λ c. cut_of c ≡ cuts.kept_call at slot function (expressions_of values.items) ty) }
-{
-    let call = resolved::Statement::Call(at, Some(slot), function, values).boxed(alloc)?;
-    let mut before = Vec::new(alloc);
-    before.push(call)?;
-    let rest = Box::new(alloc, resolved::Expression::Kept(slot, ty))?;
-    Ok(Cut { before, rest })
-}
-
-/// The type of the value of the function whose header has the number.
-fn value_type(scope: &Scope<'_>, number: usize) -> CType
-    ensures { result ≡ spec.value_type (slice_get scope.now.headers number) }
-{
-    match scope.headers.get(number) {
-        Some(header) => match header.returns.base {
-            BaseType::Integer(ty) => ty.c_type(),
-            _ => CType::INT,
-        },
-        None => CType::INT,
-    }
-}
-
-/// The value of a call of a function of the text, by the number of its header: the function is entered at the place, and the
-/// local keeps what it returns.
-#[tactic(auto, unfolding(crate::specs::Calls::right_call))]
-fn right_call(
-    alloc: Global,
-    scope: &Scope<'_>,
-    found: &mut Findings,
-    at: u32,
-    slot: u32,
-    number: usize,
-    call: &Call,
-) -> Result<Cut, AllocError>
-    ensures { Walks cut_of (spec.right_call scope.now at slot number call.now found.old) result found.new }
-{
-    let offset = call.name.offset;
-    let arguments = call.arguments.as_slice();
-    let (definition, values) = function_call(alloc, scope, found, number, true, offset, arguments)?;
-    match definition {
-        Some(function) => kept_call(alloc, at, slot, function, values, value_type(scope, number)),
-        None => uncut(alloc, null()),
-    }
-}
-
-/// A value that may be the value of a call: the right side of an assignment, an initialiser or the operand of a return. The
-/// call is entered at the place of the step to which the value belongs, and the local keeps what it returns.
-#[tactic(auto, unfolding(crate::specs::Calls::right_side, crate::specs::Calls::right_value))]
-pub fn right_side(
-    alloc: Global,
-    scope: &Scope<'_>,
-    found: &mut Findings,
-    at: u32,
-    slot: u32,
-    e: &Expression,
-) -> Result<Cut, AllocError>
-    ensures { Walks cut_of (spec.right_side scope.now at slot e.now found.old) result found.new }
-{
-    match function_called(scope, e) {
-        Some((number, call)) => right_call(alloc, scope, found, at, slot, number, call),
-        None => {
-            let value = expression(alloc, scope, found, e)?;
-            uncut(alloc, value)
         }
     }
 }
