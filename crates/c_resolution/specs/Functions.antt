@@ -19,6 +19,7 @@ use Rattle.c_rules.specs.declared.specifiers.BasicType.TheVariants.{Long}
 use Rattle.c_rules.specs.declared.specifiers.BaseType.{BaseType}
 use Rattle.c_rules.specs.declared.specifiers.BaseType.TheVariants as base
 use Rattle.c_rules.specs.declared.specifiers.Spelled.{Spelled}
+use Rattle.c_rules.specs.declared.dimensions.Dimensions.TheVariants.{Scalar}
 use Rattle.c_rules.specs.declared.names.DeclaredType.{DeclaredType}
 use Rattle.c_rules.specs.declared.names.Header.{Header}
 use Rattle.c_rules.specs.declared.names.Gives.{Gives}
@@ -155,11 +156,11 @@ declare_function h name second s =
 abbrev pub pointer_parameter : Spelled → Bool → ℕ → Goes Meaning
 pointer_parameter words routine at = do
   finding (λ s. finds_if (not routine) rule.Kind at)
-  new_local words None Long
+  new_local words Scalar Long
   pure meaning.Argument
 
 abbrev pub parameter_of : Spelled → ℕ → Option BasicType → Goes Meaning
-parameter_of words at (Some ty) = new_local words None ty
+parameter_of words at (Some ty) = new_local words Scalar ty
 parameter_of words at None = finding (λ s. refused_local words at)
 
 -- what a parameter stands for in the body
@@ -198,7 +199,7 @@ kept_from count body = plus (place_in_tree count) (block_declarators body)
 
 -- the body is that of the function of that number, and locals from there on keep values
 abbrev pub entered : ℕ → ℕ → Scope → Scope
-entered number from s = record s { function = Some number; loops = 0; kept_from = from }
+entered number from s = record s { function = Some number; loops = 0; exits = 0; kept_from = from }
 
 abbrev pub left : Scope → Scope
 left s = record s { function = None }

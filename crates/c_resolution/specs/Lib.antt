@@ -7,9 +7,9 @@ pub mod Globals
 pub mod Locals
 pub mod Resolving
 pub mod Routines
-pub mod Sequences
 pub mod Simple
 pub mod Slots
 pub mod States
 pub mod Statements
 pub mod Texts
+pub use Rattle.c_calls.specs.Sequences

@@ -1,12 +1,12 @@
 -- Declarations in blocks (C99 6.7).
-use Rattle.std.specs.Prelude.{ℕ, zero, suc, Bool, true, false, min, if◌then◌else◌, List, [], ◌∷◌, ◌++◌, length, Option, Some, None, unwrap_or, pos, negsuc, ℤ}
+use Rattle.std.specs.Prelude.{ℕ, zero, suc, Bool, true, false, min, if◌then◌else◌, List, [], ◌∷◌, ◌++◌, length, fold, Option, Some, None, pos, negsuc, ℤ}
 use Rattle.c_tree.specs.declared.expression.Name.{Name}
 use Rattle.c_tree.specs.declared.expression.Expression.{Expression as ExpressionTree, out-Expression}
 use Rattle.c_tree.specs.declared.declaration.Declaration.{Declaration}
 use Rattle.c_tree.specs.declared.declaration.Declarator.{Declarator}
 use Rattle.c_program.specs.declared.tree.Storage.TheVariants.{Automatic}
 use Rattle.c_program.specs.declared.tree.LocalVariable.{LocalVariable}
-use Rattle.c_program.specs.Tree.{Place, Statement}
+use Rattle.c_program.specs.Tree.{Expression, Place, Statement}
 use Rattle.c_rules.specs.declared.fault.Rule.TheVariants as rule
 use Rattle.c_rules.specs.declared.specifiers.BasicType.{BasicType}
 use Rattle.c_rules.specs.declared.specifiers.BaseType.{BaseType}
@@ -18,17 +18,19 @@ use Rattle.c_rules.specs.declared.names.Variable.{Variable}
 use Rattle.c_rules.specs.declared.names.Meaning.{Meaning}
 use Rattle.c_rules.specs.declared.names.Meaning.TheVariants as meaning
 use Rattle.c_rules.specs.declared.names.Scope.{Scope}
-use Rattle.c_rules.specs.Constants.{constancy, operator_count}
+use Rattle.c_rules.specs.declared.dimensions.Dimensions.{Dimensions}
+use Rattle.c_rules.specs.declared.dimensions.Dimensions.TheVariants.{Scalar}
+use Rattle.c_rules.specs.Constants.{constancy, operator_count, plus}
+use Rattle.c_rules.specs.Dimensions.{elements, is_scalar, with_length}
 use Rattle.c_rules.specs.Names.{is_taken, declaring}
 use Rattle.c_rules.specs.Specifiers.{c_type, plain, spelled_by}
 use Rattle.c_rules.specs.Walks.{Finds, pure, finds, finds_if, through, place_in_tree, ◌>>=◌, ◌>>◌}
-use Rattle.c_calls.specs.Expressions.{value}
-use Rattle.c_calls.specs.Cuts.{Cut}
-use Rattle.c_calls.specs.Calls.{right_side}
-use Rattle.c_resolution.specs.Sequences.{behind_cuts}
+use Rattle.c_calls.specs.Expressions.{value, looked}
+use Rattle.c_calls.specs.Cuts.{Cut, free_from}
+use Rattle.c_calls.specs.Sequences.{behind_cuts}
 use Rattle.c_resolution.specs.States.{Goes, finding, scoping}
 
--- ---- lengths of arrays (6.7.5.2): constant expressions of at least 1
+-- ---- lengths of arrays (6.7.5.2): constant expressions of at least 1, one for each dimension
 
 -- a positive number, as far as a length goes
 abbrev pub positive : ℤ → Option ℕ
@@ -49,14 +51,17 @@ length_from is.NotConstant at = length_of_number None at
 
 unfoldable pub array_length : ExpressionTree → Scope → Finds ℕ
 array_length e s = do
-  value s e
+  looked s e
   length_from (constancy e) (out-Expression e).offset
 
-abbrev pub optional_length : Option ExpressionTree → Scope → Finds (Option ℕ)
-optional_length None s = pure None
-optional_length (Some e) s = do
+-- one more length
+abbrev pub next_length : Scope → Dimensions → ExpressionTree → Finds Dimensions
+next_length s dimensions e = do
   n ← array_length e s
-  pure (Some n)
+  pure (with_length dimensions n)
+
+unfoldable pub dimensions : List ExpressionTree → Scope → Finds Dimensions
+dimensions lengths s = through (next_length s) Scalar lengths
 
 -- ---- what a name is declared as
 
@@ -65,14 +70,14 @@ abbrev pub with_local : LocalVariable → Scope → Scope
 with_local l s = record s { locals = s.locals ++ l ∷ [] }
 
 -- a local of the type that is numbered next
-abbrev pub local_variable : Spelled → Option ℕ → BasicType → ℕ → Variable
-local_variable words length ty number =
-    record { storage = Automatic; number = number; ty = ty; length = length; is_const = words.is_const }
+abbrev pub local_variable : Spelled → Dimensions → BasicType → ℕ → Variable
+local_variable words dimensions ty number =
+    record { storage = Automatic; number = number; ty = ty; dimensions = dimensions; is_const = words.is_const }
 
-unfoldable pub new_local : Spelled → Option ℕ → BasicType → Goes Meaning
-new_local words size ty s = (do
-  scoping (with_local (record { ty = c_type ty; length = unwrap_or size 1 }))
-  pure (meaning.Variable (local_variable words size ty (place_in_tree (length s.scope.locals))))) s
+unfoldable pub new_local : Spelled → Dimensions → BasicType → Goes Meaning
+new_local words dimensions ty s = (do
+  scoping (with_local (record { ty = c_type ty; length = elements dimensions }))
+  pure (meaning.Variable (local_variable words dimensions ty (place_in_tree (length s.scope.locals))))) s
 
 abbrev pub is_object_type : BaseType → Bool
 is_object_type base.Thread = true
@@ -86,13 +91,13 @@ refused_local words at =
     if is_object_type words.base then finds_if words.is_static rule.Kind at >> (finds rule.Threads at >> pure meaning.Unusable)
     else finds rule.Kind at >> pure meaning.Unusable
 
-abbrev pub local_of : Spelled → ℕ → Option ℕ → Option BasicType → Goes Meaning
-local_of words at size (Some ty) = new_local words size ty
-local_of words at size None = finding (λ s. refused_local words at)
+abbrev pub local_of : Spelled → ℕ → Dimensions → Option BasicType → Goes Meaning
+local_of words at dimensions (Some ty) = new_local words dimensions ty
+local_of words at dimensions None = finding (λ s. refused_local words at)
 
 -- an object of a block
-unfoldable pub local : Spelled → ℕ → Option ℕ → Goes Meaning
-local words at size = local_of words at size (plain words.is_static words.base)
+unfoldable pub local : Spelled → ℕ → Dimensions → Goes Meaning
+local words at dimensions = local_of words at dimensions (plain words.is_static words.base)
 
 -- a name in the innermost scope, unless it is taken there
 unfoldable pub declare : Name → Meaning → Goes (Unit {0})
@@ -106,29 +111,29 @@ abbrev pub variable_in : Meaning → Option Variable
 variable_in (meaning.Variable v) = Some v
 variable_in other = None
 
-abbrev pub operators_in : Option ExpressionTree → ℕ
-operators_in None = 0
-operators_in (Some e) = operator_count e
+-- the operators and casts of the lengths
+abbrev pub operators_in : List ExpressionTree → ℕ
+operators_in lengths = fold (λ n e. plus n (operator_count e)) 0 lengths
 
 abbrev pub uninitialised_by : Option Variable → Declarator → Statement
 uninitialised_by None d = Statement.Empty
-uninitialised_by (Some v) d = Statement.Declare (place_in_tree d.name.offset) v.number (operators_in d.length)
+uninitialised_by (Some v) d = Statement.Declare (place_in_tree d.name.offset) v.number (operators_in d.lengths)
 
 -- without an initialiser
 abbrev pub uninitialised : Declarator → Meaning → Statement
 uninitialised d m = uninitialised_by (variable_in m) d
 
-abbrev pub scalar_by : Option ℕ → Variable → Option Variable
-scalar_by None v = Some v
-scalar_by (Some length) v = None
+abbrev pub scalar_by : Bool → Variable → Option Variable
+scalar_by true v = Some v
+scalar_by false v = None
 
 abbrev pub scalar_in : Meaning → Option Variable
-scalar_in (meaning.Variable v) = scalar_by v.length v
+scalar_in (meaning.Variable v) = scalar_by (is_scalar v.dimensions) v
 scalar_in other = None
 
-unfoldable pub initialised_by : Option Variable → ℕ → Cut → Finds Statement
+unfoldable pub initialised_by : Option Variable → ℕ → Cut Expression → Finds Statement
 initialised_by (Some v) at right =
-    pure (behind_cuts right.before (Statement.Assign (place_in_tree at) (Place.Scalar v.storage v.number (c_type v.ty)) right.rest))
+    pure (behind_cuts right.cuts.before (Statement.Assign (place_in_tree at) (Place.Scalar v.storage v.number (c_type v.ty)) right.rest))
 initialised_by None at right = do
   finds rule.Kind at
   pure Statement.Empty
@@ -136,7 +141,7 @@ initialised_by None at right = do
 -- with one: only a scalar may have it
 unfoldable pub initialised : Name → Meaning → ExpressionTree → Scope → Finds Statement
 initialised name m e s = do
-  right ← right_side s (place_in_tree name.offset) s.kept_from e
+  right ← value s e (place_in_tree name.offset) (free_from s.kept_from)
   initialised_by (scalar_in m) name.offset right
 
 abbrev pub declared_step : Declarator → Meaning → Option ExpressionTree → Scope → Finds Statement
@@ -146,7 +151,7 @@ declared_step d m (Some e) s = initialised d.name m e s
 -- the name is in scope in its initialiser (6.2.1)
 unfoldable pub declarator : Spelled → Declarator → Goes Statement
 declarator words d = do
-  size ← finding (optional_length d.length)
+  size ← finding (dimensions d.lengths)
   m ← local words d.name.offset size
   declare d.name m
   finding (declared_step d m d.initializer)

@@ -1,5 +1,5 @@
 -- Statements without statements in them (C99 6.8.3, 6.8.6, 6.5.16).
-use Rattle.std.specs.Prelude.{ℕ, nat_eq, Bool, true, false, not, if◌then◌else◌, List, [], Option, Some, None, pos}
+use Rattle.std.specs.Prelude.{ℕ, nat_eq, Bool, true, false, not, if◌then◌else◌, Option, Some, None, pos}
 use Rattle.hls_ints.specs.Types.{int_type}
 use Rattle.c_token.specs.declared.constant.Constant.{Constant}
 use Rattle.c_token.specs.declared.constant.Constant.TheVariants as constant
@@ -29,9 +29,10 @@ use Rattle.c_rules.specs.declared.names.Scope.{Scope}
 use Rattle.c_rules.specs.Walks.{Finds, pure, finds, finds_if, place_in_tree, ◌>>=◌, ◌>>◌}
 use Rattle.c_calls.specs.Expressions.{binary_operator, value}
 use Rattle.c_calls.specs.Arguments.{FormLayer, pointer_value}
-use Rattle.c_calls.specs.Calls.{call, right_side}
+use Rattle.c_calls.specs.Calls.{call}
+use Rattle.c_calls.specs.Cuts.{Cut, free_from}
+use Rattle.c_calls.specs.Sequences.{behind_cuts}
 use Rattle.c_calls.specs.Targets.{target}
-use Rattle.c_resolution.specs.Sequences.{behind_cuts}
 
 -- ---- assignments
 
@@ -43,11 +44,13 @@ unless_comparison (Some operator) = if is_comparison operator then None else Som
 abbrev pub compound_operator : BinaryOperator → Option ResolvedBinary
 compound_operator operator = unless_comparison (binary_operator operator)
 
-abbrev pub updated : ℕ → Place → ResolvedBinary → Expression → Statement
+-- behind the cuts of the right side and of the indices
+abbrev pub updated : ℕ → Cut Place → ResolvedBinary → Expression → Statement
 updated at place operator right =
-    Statement.Update (place_in_tree at) place operator (working_type operator (place_type place) (type_of right)) right
+    behind_cuts place.cuts.before
+    (Statement.Update (place_in_tree at) place.rest operator (working_type operator (place_type place.rest) (type_of right)) right)
 
-unfoldable pub compound_by : Option ResolvedBinary → ℕ → Place → Expression → Finds Statement
+unfoldable pub compound_by : Option ResolvedBinary → ℕ → Cut Place → Expression → Finds Statement
 compound_by (Some operator) at place right = pure (updated at place operator right)
 compound_by None at place right = do
   finds rule.Place at
@@ -85,21 +88,22 @@ may_return gives.Pointer (returned_as.Value e) = is_zero e
 may_return given x = false
 
 module _ (s : Scope) where
+  -- the right side is evaluated first, then the indices of what is assigned to
   unfoldable pub assigned : ℕ → PlaceTree → ExpressionTree → Finds Statement
   assigned at place e = do
-    p ← target s place
-    right ← right_side s (place_in_tree at) s.kept_from e
-    pure (behind_cuts right.before (Statement.Assign (place_in_tree at) p right.rest))
+    right ← value s e (place_in_tree at) (free_from s.kept_from)
+    p ← target s place (place_in_tree at) right.cuts
+    pure (behind_cuts p.cuts.before (Statement.Assign (place_in_tree at) p.rest right.rest))
 
   unfoldable pub compound : ℕ → PlaceTree → BinaryOperator → ExpressionTree → Finds Statement
   compound at place operator e = do
-    p ← target s place
-    right ← value s e
-    compound_by (compound_operator operator) at p right
+    right ← value s e (place_in_tree at) (free_from s.kept_from)
+    p ← target s place (place_in_tree at) right.cuts
+    compound_by (compound_operator operator) at p right.rest
 
   unfoldable pub step : ℕ → PlaceTree → Direction → Finds Statement
   step at place way = do
-    p ← target s place
+    p ← target s place (place_in_tree at) (free_from s.kept_from)
     pure (updated at p (stepping way) int_one)
 
   abbrev pub assign : ℕ → PlaceTree → AssignmentOperator → ExpressionTree → Finds Statement
@@ -116,25 +120,27 @@ module _ (s : Scope) where
 
   -- ---- what a return gives back
 
-  -- the cuts of what is given back, and what is left of it
-  abbrev pub Given : Type 0
-  Given = List Statement × Option Expression
+  -- a return of a value behind its cuts
+  abbrev pub given_back : ℕ → Cut Expression → Statement
+  given_back at right = behind_cuts right.cuts.before (Statement.Return at (Some right.rest))
 
-  abbrev pub given_back : ℕ → Returned → Finds Given
-  given_back at returned_as.Nothing = pure ([], None)
-  given_back at (returned_as.Value e) = do
-    right ← right_side s at s.kept_from e
-    pure (right.before, Some right.rest)
-  given_back at (returned_as.Pointer p) = do
-    x ← pointer_value s p
-    pure ([], Some x)
+  abbrev pub return_at : ℕ → Returned → Finds Statement
+  return_at at returned_as.Nothing = pure (Statement.Return at None)
+  return_at at (returned_as.Value e) = do
+    right ← value s e at (free_from s.kept_from)
+    pure (given_back at right)
+  return_at at (returned_as.Pointer p) = do
+    right ← pointer_value s p at (free_from s.kept_from)
+    pure (given_back at right)
 
   unfoldable pub returned : Returned → ℕ → Finds Statement
   returned x at = do
     finds_if (not (may_return s.gives x)) rule.Kind at
-    given ← given_back (place_in_tree at) x
-    pure (behind_cuts given.0 (Statement.Return (place_in_tree at) given.1))
+    return_at (place_in_tree at) x
 
-  -- a break or a continue outside of a loop
-  unfoldable pub check_jump : ℕ → Finds (Unit {0})
-  check_jump at = finds_if (nat_eq s.loops 0) rule.Place at
+  -- a break outside of loops and switches, and a continue outside of loops
+  unfoldable pub check_break : ℕ → Finds (Unit {0})
+  check_break at = finds_if (nat_eq s.exits 0) rule.Place at
+
+  unfoldable pub check_continue : ℕ → Finds (Unit {0})
+  check_continue at = finds_if (nat_eq s.loops 0) rule.Place at
