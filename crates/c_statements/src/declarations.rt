@@ -6,10 +6,11 @@ ghost use Rattle.c_rules.specs.Walks.{Walks};
 ghost use Rattle.c_resolution.specs.States.{state};
 ghost use Rattle.c_resolution.specs.Locals as spec;
 
-use crate::lengths::optional_length;
+use crate::lengths::dimensions;
 use crate::locals::{declare, local};
-use crate::sequences::behind_cuts;
-use c_calls::calls::right_side;
+use c_expressions::cuts::Cuts;
+use c_expressions::expressions::expression;
+use c_expressions::sequences::behind_cuts;
 use c_program::tree as resolved;
 use c_rules::constants::operator_count;
 use c_rules::fault::Rule;
@@ -19,16 +20,24 @@ use c_rules::specifiers::{Spelled, spelled_by};
 use c_tree::{Declaration, Declarator, Expression, Name};
 use std::alloc::{AllocError, Global};
 
+/// The operators and casts in the lengths of an array.
+fn operators_in(lengths: &[Expression]) -> u32
+    ensures { result ≡ spec.operators_in lengths.now }
+{
+    let mut count = 0u32;
+    for e in lengths {
+        count = count.saturating_add(operator_count(e));
+    }
+    count
+}
+
 /// The step of a declarator without an initialiser.
 fn uninitialised(declarator: &Declarator, meaning: Meaning) -> resolved::Statement
     ensures { statement_of result ≡ spec.uninitialised declarator.now meaning }
 {
     match meaning {
         Meaning::Variable(variable) => {
-            let operators = match &declarator.length {
-                Some(length) => operator_count(length.get()),
-                None => 0,
-            };
+            let operators = operators_in(declarator.lengths.as_slice());
             let offset = place(declarator.name.offset);
             resolved::Statement::Declare(offset, variable.number, operators)
         }
@@ -49,14 +58,16 @@ fn initialised(
     ensures { Walks boxed_statement_of (spec.initialised name.now meaning value.now scope.now found.old) result found.new }
 {
     let at = place(name.offset);
-    let right = right_side(alloc, scope, found, at, scope.kept_from, value)?;
+    let mut cuts = Cuts::free_from(alloc, scope.kept_from);
+    let right = expression(alloc, scope, found, &mut cuts, at, value)?;
     match meaning {
-        Meaning::Variable(variable) if variable.length.is_none() => {
+        Meaning::Variable(variable) if variable.dimensions.is_scalar() => {
             let ty = variable.ty.c_type();
             let target = resolved::Place::Scalar(variable.storage, variable.number, ty);
             let target = Box::new(alloc, target)?;
-            let last = resolved::Statement::Assign(at, target, right.rest);
-            behind_cuts(alloc, right.before, last)
+            let right = Box::new(alloc, right)?;
+            let last = resolved::Statement::Assign(at, target, right);
+            behind_cuts(alloc, cuts.before, last)
         }
         _ => {
             found.add(Rule::Kind, name.offset);
@@ -76,8 +87,8 @@ fn declarator<'t>(
 ) -> Result<Box<resolved::Statement>, AllocError>
     ensures { Walks boxed_statement_of (spec.declarator words declared.now (state scope.old found.old)) result (state scope.new found.new) }
 {
-    let length = optional_length(alloc, scope, found, &declared.length)?;
-    let meaning = local(scope, found, words, declared.name.offset, length)?;
+    let dimensions = dimensions(alloc, scope, found, declared.lengths.as_slice())?;
+    let meaning = local(scope, found, words, declared.name.offset, dimensions)?;
     declare(scope, found, &declared.name, meaning)?;
     match &declared.initializer {
         Some(value) => initialised(alloc, scope, found, &declared.name, meaning, value.get()),

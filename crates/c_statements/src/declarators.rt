@@ -1,10 +1,11 @@
 // How many declarators the body of a function has (C99 6.7.5, 6.8.2).
 
-ghost use Rattle.std.specs.Prelude.{◌≡◌, option_map, unwrap_or};
+ghost use Rattle.std.specs.Prelude.{◌≡◌, fold, map, option_map, unwrap_or};
+ghost use Rattle.c_rules.specs.Constants.{plus};
 ghost use Rattle.c_resolution.specs.Declarators as spec;
 
 use c_rules::findings::place;
-use c_tree::{Block, BlockItem, ForStart, Statement};
+use c_tree::{Block, BlockItem, ForStart, Group, Statement};
 use sqlite_items::Boxed;
 
 /// The declarators in the head of a `for`.
@@ -45,7 +46,31 @@ fn in_statement(statement: &Statement) -> u32
         | Statement::Break(_)
         | Statement::Continue(_)
         | Statement::Return(_, _) => 0,
+        Statement::Switch(_, groups, _) => in_groups(groups.as_slice()),
     }
+}
+
+#[cycle(declarators)]
+fn in_group(group: &Group) -> u32
+    ensures { result ≡ spec.group_declarators group.now }
+{
+    let mut count = 0u32;
+    for statement in group.statements.as_slice() {
+        count = count.saturating_add(in_statement(statement));
+    }
+    count
+}
+
+/// The declarators in the groups of a switch.
+#[cycle(declarators)]
+fn in_groups(groups: &[Group]) -> u32
+    ensures { result ≡ fold plus 0 (map spec.group_declarators groups.now) }
+{
+    let mut count = 0u32;
+    for group in groups {
+        count = count.saturating_add(in_group(group));
+    }
+    count
 }
 
 #[cycle(declarators)]

@@ -4,13 +4,13 @@ ghost use Rattle.std.specs.Prelude.{◌≡◌};
 ghost use Rattle.c_rules.specs.Walks.{Outcome, Walks};
 ghost use Rattle.c_resolution.specs.Locals as spec;
 
-use c_expressions::expressions::expression;
+use c_expressions::expressions::look_through;
 use c_rules::constants::{Constancy, constancy_of};
+use c_rules::dimensions::Dimensions;
 use c_rules::fault::Rule;
 use c_rules::findings::Findings;
 use c_rules::names::Scope;
 use c_tree::Expression;
-use sqlite_items::Boxed;
 use std::alloc::{AllocError, Global};
 
 /// The length that an array is declared with: a positive constant; 1 where it breaks a rule.
@@ -30,22 +30,34 @@ fn length_from(found: &mut Findings, constancy: Constancy, offset: usize) -> u64
     }
 }
 
-/// The length of an object, if it is an array.
+/// The length of one dimension of an array.
 #[tactic(auto, unfolding(c_resolution::specs::Locals::array_length))]
-pub fn optional_length(
+fn array_length(
     alloc: Global,
     scope: &Scope<'_>,
     found: &mut Findings,
-    written: &Option<Boxed<Expression>>,
-) -> Result<Option<u64>, AllocError>
-    ensures { Walks (λ n. n) (spec.optional_length written.now scope.now found.old) result found.new }
+    e: &Expression,
+) -> Result<u64, AllocError>
+    ensures { Walks (λ n. n) (spec.array_length e.now scope.now found.old) result found.new }
 {
-    match written {
-        Some(e) => {
-            let e = e.get();
-            expression(alloc, scope, found, e)?;
-            Ok(Some(length_from(found, constancy_of(e), e.offset)))
-        }
-        None => Ok(None),
+    look_through(alloc, scope, found, e)?;
+    Ok(length_from(found, constancy_of(e), e.offset))
+}
+
+/// The dimensions of an object by what stands in its brackets.
+#[tactic(auto, unfolding(c_resolution::specs::Locals::dimensions))]
+pub fn dimensions(
+    alloc: Global,
+    scope: &Scope<'_>,
+    found: &mut Findings,
+    lengths: &[Expression],
+) -> Result<Dimensions, AllocError>
+    ensures { Walks (λ d. d) (spec.dimensions lengths.now scope.now found.old) result found.new }
+{
+    let mut dimensions = Dimensions::Scalar;
+    for e in lengths {
+        let length = array_length(alloc, scope, found, e)?;
+        dimensions = dimensions.with(length);
     }
+    Ok(dimensions)
 }

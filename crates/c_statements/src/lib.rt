@@ -7,6 +7,6 @@ pub mod declarations;
 pub mod declarators;
 pub mod lengths;
 pub mod locals;
-mod sequences;
 pub mod simple;
 pub mod statements;
+mod switches;

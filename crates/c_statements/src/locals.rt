@@ -8,12 +8,13 @@ ghost use Rattle.c_resolution.specs.States.{state};
 ghost use Rattle.c_resolution.specs.Locals as spec;
 
 use c_program::tree as resolved;
+use c_rules::dimensions::Dimensions;
 use c_rules::fault::Rule;
 use c_rules::findings::{Findings, place};
 use c_rules::names::{Meaning, Scope, Variable};
 use c_rules::specifiers::{BaseType, BasicType, Spelled};
 use c_tree::Name;
-use std::alloc::{AllocError, Global};
+use std::alloc::AllocError;
 
 /// The integer type of the words without `static`, if they spell one.
 pub fn plain_type(words: Spelled) -> Option<BasicType>
@@ -30,21 +31,21 @@ pub fn plain_type(words: Spelled) -> Option<BasicType>
 pub fn new_local(
     scope: &mut Scope<'_>,
     words: Spelled,
-    length: Option<u64>,
+    dimensions: Dimensions,
     ty: BasicType,
 ) -> Result<Meaning, AllocError>
-    ensures { (found : FindingsOf) → Walks (λ m. m) (spec.new_local words length ty (state scope.old found)) result (state scope.new found) }
+    ensures { (found : FindingsOf) → Walks (λ m. m) (spec.new_local words dimensions ty (state scope.old found)) result (state scope.new found) }
 {
     let number = place(scope.locals.len());
     scope.locals.push(resolved::LocalVariable {
         ty: ty.c_type(),
-        length: length.unwrap_or(1),
+        length: dimensions.elements(),
     })?;
     Ok(Meaning::Variable(Variable {
         storage: resolved::Storage::Automatic,
         number,
         ty,
-        length,
+        dimensions,
         is_const: words.is_const,
     }))
 }
@@ -71,12 +72,12 @@ pub fn local(
     found: &mut Findings,
     words: Spelled,
     offset: usize,
-    length: Option<u64>,
+    dimensions: Dimensions,
 ) -> Result<Meaning, AllocError>
-    ensures { Walks (λ m. m) (spec.local words offset length (state scope.old found.old)) result (state scope.new found.new) }
+    ensures { Walks (λ m. m) (spec.local words offset dimensions (state scope.old found.old)) result (state scope.new found.new) }
 {
     match plain_type(words) {
-        Some(ty) => new_local(scope, words, length, ty),
+        Some(ty) => new_local(scope, words, dimensions, ty),
         None => Ok(refused_local(found, words, offset)),
     }
 }

@@ -1,14 +1,19 @@
 // Statements without statements in them (C99 6.8.3, 6.8.6, 6.5.16).
 
-ghost use Rattle.std.specs.Prelude.{◌≡◌, map, option_map, IfOk, box_value};
+ghost use Rattle.std.specs.Prelude.{◌≡◌, IfOk, Some, box_value};
 ghost use Rattle.c_program.specs.Plain.{boxed_statement_of, expression_of, place_of};
+ghost use Rattle.c_program.specs.Tree as tree;
 ghost use Rattle.c_rules.specs.Walks.{Outcome, Walks};
+ghost use Rattle.c_expressions.specs.Cuts.{cut, cuts_of};
+ghost use Rattle.c_expressions.specs.Sequences as sequences;
 ghost use Rattle.c_resolution.specs.Simple as spec;
 
-use crate::sequences::behind_cuts;
 use c_calls::arguments::pointer_value;
-use c_calls::calls::{call, right_side};
-use c_expressions::expressions::{binary_operator, expression, working_type};
+use c_calls::calls::call;
+use c_expressions::cuts::Cuts;
+use c_expressions::expressions::expression;
+use c_expressions::operators::{binary_operator, working_type};
+use c_expressions::sequences::behind_cuts;
 use c_expressions::targets::target;
 use c_program::tree as resolved;
 use c_program::types::expression_type;
@@ -40,14 +45,16 @@ fn compound_operator(operator: BinaryOperator) -> Option<resolved::BinaryOperato
     }
 }
 
+/// A compound assignment behind its cuts.
 fn updated(
     alloc: Global,
     offset: usize,
+    cuts: Cuts,
     target: Box<resolved::Place>,
     operator: resolved::BinaryOperator,
     right: resolved::Expression,
 ) -> Result<Box<resolved::Statement>, AllocError>
-    ensures { IfOk result (λ s. boxed_statement_of s ≡ spec.updated offset (place_of (box_value target)) operator (expression_of right)) }
+    ensures { IfOk result (λ s. boxed_statement_of s ≡ spec.updated offset (cut (cuts_of cuts) (place_of (box_value target))) operator (expression_of right)) }
 {
     let held = match &*target {
         resolved::Place::Scalar(_, _, ty) => *ty,
@@ -55,10 +62,11 @@ fn updated(
     };
     let ty = working_type(operator, held, expression_type(&right));
     let right = Box::new(alloc, right)?;
-    resolved::Statement::Update(place(offset), target, operator, ty, right).boxed(alloc)
+    let last = resolved::Statement::Update(place(offset), target, operator, ty, right);
+    behind_cuts(alloc, cuts.before, last)
 }
 
-/// An assignment, simple or compound.
+/// An assignment, simple or compound: the right side is evaluated first, then the indices of what is assigned to.
 #[tactic(auto, unfolding(c_resolution::specs::Simple::assigned, c_resolution::specs::Simple::compound, c_resolution::specs::Simple::compound_by))]
 fn assign(
     alloc: Global,
@@ -71,24 +79,23 @@ fn assign(
 ) -> Result<Box<resolved::Statement>, AllocError>
     ensures { Walks boxed_statement_of (spec.assign scope.now offset assigned.now operator value.now found.old) result found.new }
 {
-    let target = target(alloc, scope, found, assigned)?;
+    let at = place(offset);
+    let mut cuts = Cuts::free_from(alloc, scope.kept_from);
+    let right = expression(alloc, scope, found, &mut cuts, at, value)?;
+    let target = target(alloc, scope, found, &mut cuts, at, assigned)?;
     match operator {
         AssignmentOperator::Set => {
-            let at = place(offset);
-            let right = right_side(alloc, scope, found, at, scope.kept_from, value)?;
-            let last = resolved::Statement::Assign(at, target, right.rest);
-            behind_cuts(alloc, right.before, last)
+            let right = Box::new(alloc, right)?;
+            let last = resolved::Statement::Assign(at, target, right);
+            behind_cuts(alloc, cuts.before, last)
         }
-        AssignmentOperator::Compound(operator) => {
-            let right = expression(alloc, scope, found, value)?;
-            match compound_operator(operator) {
-                Some(operator) => updated(alloc, offset, target, operator, right),
-                None => {
-                    found.add(Rule::Place, offset);
-                    resolved::Statement::Empty.boxed(alloc)
-                }
+        AssignmentOperator::Compound(operator) => match compound_operator(operator) {
+            Some(operator) => updated(alloc, offset, cuts, target, operator, right),
+            None => {
+                found.add(Rule::Place, offset);
+                resolved::Statement::Empty.boxed(alloc)
             }
-        }
+        },
     }
 }
 
@@ -104,13 +111,14 @@ fn step(
 ) -> Result<Box<resolved::Statement>, AllocError>
     ensures { Walks boxed_statement_of (spec.step scope.now offset stepped.now direction found.old) result found.new }
 {
-    let target = target(alloc, scope, found, stepped)?;
+    let mut cuts = Cuts::free_from(alloc, scope.kept_from);
+    let target = target(alloc, scope, found, &mut cuts, place(offset), stepped)?;
     let operator = match direction {
         Direction::Up => resolved::BinaryOperator::Add,
         Direction::Down => resolved::BinaryOperator::Subtract,
     };
     let one = resolved::Expression::Constant(CType::INT, 1);
-    updated(alloc, offset, target, operator, one)
+    updated(alloc, offset, cuts, target, operator, one)
 }
 
 /// A simple statement.
@@ -157,34 +165,21 @@ fn may_return(gives: Gives, value: &Returned) -> bool
     }
 }
 
-/// The cuts of what is given back, and what is left of it; the return stands at the place.
+/// A return of a value behind its cuts.
 fn given_back(
     alloc: Global,
-    scope: &Scope<'_>,
-    found: &mut Findings,
     at: u32,
-    value: &Returned,
-) -> Result<
-    (
-        Vec<Box<resolved::Statement>>,
-        Option<Box<resolved::Expression>>,
-    ),
-    AllocError,
->
-    ensures { Walks (λ r. (map boxed_statement_of r.0.items, option_map (λ e. expression_of (box_value e)) r.1))
-        (spec.given_back scope.now at value.now found.old) result found.new }
+    cuts: Cuts,
+    right: resolved::Expression,
+) -> Result<Box<resolved::Statement>, AllocError>
+    ensures { IfOk result (λ s. boxed_statement_of s ≡ sequences.behind_cuts (cuts_of cuts).before (tree.Statement.Return at (Some (expression_of right)))) }
 {
-    match value {
-        Returned::Nothing => Ok((Vec::new(alloc), None)),
-        Returned::Value(e) => {
-            let right = right_side(alloc, scope, found, at, scope.kept_from, e.get())?;
-            Ok((right.before, Some(right.rest)))
-        }
-        Returned::Pointer(inner) => {
-            let value = pointer_value(alloc, scope, found, inner)?;
-            Ok((Vec::new(alloc), Some(Box::new(alloc, value)?)))
-        }
-    }
+    let right = Box::new(alloc, right)?;
+    behind_cuts(
+        alloc,
+        cuts.before,
+        resolved::Statement::Return(at, Some(right)),
+    )
 }
 
 /// A return, whose word stands at the offset.
@@ -200,14 +195,32 @@ pub fn returned(
 {
     found.add_if(!may_return(scope.gives, value), Rule::Kind, offset);
     let at = place(offset);
-    let (before, right) = given_back(alloc, scope, found, at, value)?;
-    behind_cuts(alloc, before, resolved::Statement::Return(at, right))
+    let mut cuts = Cuts::free_from(alloc, scope.kept_from);
+    match value {
+        Returned::Nothing => resolved::Statement::Return(at, None).boxed(alloc),
+        Returned::Value(e) => {
+            let right = expression(alloc, scope, found, &mut cuts, at, e.get())?;
+            given_back(alloc, at, cuts, right)
+        }
+        Returned::Pointer(inner) => {
+            let right = pointer_value(alloc, scope, found, &mut cuts, at, inner)?;
+            given_back(alloc, at, cuts, right)
+        }
+    }
 }
 
-/// A `break` or a `continue`, whose word stands at the offset.
-#[tactic(auto, unfolding(c_resolution::specs::Simple::check_jump))]
-pub fn check_jump(scope: &Scope<'_>, found: &mut Findings, offset: usize)
-    ensures { spec.check_jump scope.now offset found.old ≡ Outcome.Gives tt found.new }
+/// A `break`, whose word stands at the offset.
+#[tactic(auto, unfolding(c_resolution::specs::Simple::check_break))]
+pub fn check_break(scope: &Scope<'_>, found: &mut Findings, offset: usize)
+    ensures { spec.check_break scope.now offset found.old ≡ Outcome.Gives tt found.new }
+{
+    found.add_if(scope.exits == 0, Rule::Place, offset);
+}
+
+/// A `continue`, whose word stands at the offset.
+#[tactic(auto, unfolding(c_resolution::specs::Simple::check_continue))]
+pub fn check_continue(scope: &Scope<'_>, found: &mut Findings, offset: usize)
+    ensures { spec.check_continue scope.now offset found.old ≡ Outcome.Gives tt found.new }
 {
     found.add_if(scope.loops == 0, Rule::Place, offset);
 }

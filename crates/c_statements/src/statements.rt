@@ -5,16 +5,20 @@ ghost use Rattle.c_program.specs.Plain.{boxed_statement_of};
 ghost use Rattle.c_rules.specs.Walks.{Walks};
 ghost use Rattle.c_resolution.specs.States.{state};
 ghost use Rattle.c_resolution.specs.Statements as spec;
+ghost use Rattle.c_statements.specs.Labelled.{cases_of};
 
 use crate::declarations::declaration;
-use crate::sequences::sequence;
-use crate::simple::{check_jump, returned, simple};
-use c_expressions::conditions::condition;
+use crate::simple::{check_break, check_continue, returned, simple};
+use crate::switches::{Cases, label};
+use c_expressions::cuts::Cuts;
+use c_expressions::expressions::{condition, expression};
+use c_expressions::sequences::{behind_cuts, sequence};
 use c_program::tree as resolved;
-use c_rules::findings::Findings;
+use c_program::types::expression_type;
+use c_rules::findings::{Findings, place};
 use c_rules::names::Scope;
-use c_tree::{Block, BlockItem, Expression, ForStart, SimpleStatement, Statement};
-use hls_ints::CType;
+use c_tree::{Block, BlockItem, Expression, ForStart, Group, SimpleStatement, Statement};
+use hls_ints::{CType, promote};
 use sqlite_items::Boxed;
 use std::alloc::{AllocError, Global};
 
@@ -60,7 +64,7 @@ fn for_head<'t>(
 {
     let first = for_start(alloc, scope, found, start)?;
     let test = match test {
-        Some(test) => condition(alloc, scope, found, test.get())?,
+        Some(test) => condition(alloc, scope, found, scope.kept_from, test.get())?,
         None => {
             let one = resolved::Expression::Constant(CType::INT, 1);
             resolved::Statement::Test(0, Box::new(alloc, one)?).boxed(alloc)?
@@ -85,8 +89,10 @@ fn loop_body<'t>(
     ensures { Walks boxed_statement_of (spec.loop_body (spec.statement body.now) (state scope.old found.old)) result (state scope.new found.new) }
 {
     scope.loops = scope.loops.saturating_add(1);
+    scope.exits = scope.exits.saturating_add(1);
     let body = statement(alloc, scope, found, body.get())?;
     scope.loops = scope.loops.saturating_sub(1);
+    scope.exits = scope.exits.saturating_sub(1);
     Ok(body)
 }
 
@@ -139,7 +145,7 @@ fn while_loop<'t>(
 ) -> Result<Box<resolved::Statement>, AllocError>
     ensures { Walks boxed_statement_of (spec.while_loop test.now (spec.statement body.now) (state scope.old found.old)) result (state scope.new found.new) }
 {
-    let test = condition(alloc, scope, found, test.get())?;
+    let test = condition(alloc, scope, found, scope.kept_from, test.get())?;
     let body = loop_body(alloc, scope, found, body)?;
     resolved::Statement::While(test, body).boxed(alloc)
 }
@@ -156,7 +162,7 @@ fn do_while<'t>(
     ensures { Walks boxed_statement_of (spec.do_while (spec.statement body.now) test.now (state scope.old found.old)) result (state scope.new found.new) }
 {
     let body = loop_body(alloc, scope, found, body)?;
-    let test = condition(alloc, scope, found, test.get())?;
+    let test = condition(alloc, scope, found, scope.kept_from, test.get())?;
     resolved::Statement::DoWhile(body, test).boxed(alloc)
 }
 
@@ -201,6 +207,69 @@ pub fn items<'t>(
     sequence(alloc, steps)
 }
 
+/// A label of a switch over the type, and the statements behind it.
+#[cycle(statements)]
+fn group<'t>(
+    alloc: Global,
+    scope: &mut Scope<'t>,
+    found: &mut Findings,
+    ty: CType,
+    cases: &mut Cases,
+    group: &'t Group,
+) -> Result<(), AllocError>
+    ensures { Walks (λ x. cases_of cases.new) (spec.group group.now ty (cases_of cases.old) (state scope.old found.old)) result (state scope.new found.new) }
+{
+    label(alloc, scope, found, ty, &group.label, cases)?;
+    for next in group.statements.as_slice() {
+        let step = statement(alloc, scope, found, next)?;
+        cases.steps.push(step)?;
+    }
+    Ok(())
+}
+
+/// The groups between the braces of a switch over the type.
+#[cycle(statements)]
+#[tactic(auto, unfolding(c_resolution::specs::Statements::switch_body))]
+fn switch_body<'t>(
+    alloc: Global,
+    scope: &mut Scope<'t>,
+    found: &mut Findings,
+    ty: CType,
+    groups: &'t [Group],
+) -> Result<Box<resolved::Statement>, AllocError>
+    ensures { Walks boxed_statement_of (spec.switch_body ty (map spec.group groups.now) (state scope.old found.old)) result (state scope.new found.new) }
+{
+    scope.exits = scope.exits.saturating_add(1);
+    let mut cases = Cases::new(alloc);
+    for next in groups {
+        group(alloc, scope, found, ty, &mut cases, next)?;
+    }
+    scope.exits = scope.exits.saturating_sub(1);
+    sequence(alloc, cases.steps)
+}
+
+/// A switch at the place (C99 6.8.4.2).
+#[cycle(statements)]
+#[tactic(auto, unfolding(c_resolution::specs::Statements::switch))]
+fn switch<'t>(
+    alloc: Global,
+    scope: &mut Scope<'t>,
+    found: &mut Findings,
+    groups: &'t [Group],
+    value: &Expression,
+    at: u32,
+) -> Result<Box<resolved::Statement>, AllocError>
+    ensures { Walks boxed_statement_of (spec.switch value.now (map spec.group groups.now) at (state scope.old found.old)) result (state scope.new found.new) }
+{
+    let mut cuts = Cuts::free_from(alloc, scope.kept_from);
+    let value = expression(alloc, scope, found, &mut cuts, at, value)?;
+    let ty = promote(expression_type(&value));
+    let body = switch_body(alloc, scope, found, ty, groups)?;
+    let value = Box::new(alloc, value)?;
+    let last = resolved::Statement::Switch(at, ty, value, body);
+    behind_cuts(alloc, cuts.before, last)
+}
+
 /// A statement (C99 6.8).
 #[cycle(statements)]
 fn statement<'t>(
@@ -216,15 +285,15 @@ fn statement<'t>(
         Statement::Empty => resolved::Statement::Empty.boxed(alloc),
         Statement::Simple(inner) => simple(alloc, scope, found, inner.get()),
         Statement::Break(offset) => {
-            check_jump(scope, found, *offset);
+            check_break(scope, found, *offset);
             resolved::Statement::Break.boxed(alloc)
         }
         Statement::Continue(offset) => {
-            check_jump(scope, found, *offset);
+            check_continue(scope, found, *offset);
             resolved::Statement::Continue.boxed(alloc)
         }
         Statement::If(test, consequent, other) => {
-            let test = condition(alloc, scope, found, test.get())?;
+            let test = condition(alloc, scope, found, scope.kept_from, test.get())?;
             let consequent = statement(alloc, scope, found, consequent.get())?;
             let other = alternative(alloc, scope, found, other)?;
             resolved::Statement::If(test, consequent, other).boxed(alloc)
@@ -235,5 +304,15 @@ fn statement<'t>(
             for_loop(alloc, scope, found, body, start, test, step)
         }
         Statement::Return(value, offset) => returned(alloc, scope, found, value, *offset),
+        Statement::Switch(value, groups, offset) => {
+            switch(
+                alloc,
+                scope,
+                found,
+                groups.as_slice(),
+                value.get(),
+                place(*offset),
+            )
+        }
     }
 }

@@ -1,6 +1,0 @@
-use Rattle.std.proofs.Common.{arith}
-use Rattle.std.proofs.lemmas.Grind.{common_steps}
-use Rattle.c_statements.proofs.sequences.sequence.Goals as goal
-
-pub loop-round-preserved : goal.loop-round-preserved
-loop-round-preserved c = grind (arith, common_steps)
