@@ -15,6 +15,7 @@ use crate::globals::text;
 use crate::slots::{add_slots, slots_end};
 use crate::tables::Tables;
 use c_program::tree as resolved;
+use c_rules::dimensions::Dimensions;
 use c_rules::fault::Rule;
 use c_rules::findings::{Findings, place};
 use c_rules::library::LibraryFunction;
@@ -194,11 +195,11 @@ fn parameter_meaning(
     let words = spelled_by(&parameter.specifiers);
     if parameter.is_pointer {
         found.add_if(!is_routine, Rule::Kind, offset);
-        new_local(scope, words, None, BasicType::Long)?;
+        new_local(scope, words, Dimensions::Scalar, BasicType::Long)?;
         return Ok(Meaning::Argument);
     }
     match plain_type(words) {
-        Some(ty) => new_local(scope, words, None, ty),
+        Some(ty) => new_local(scope, words, Dimensions::Scalar, ty),
         None => Ok(refused_local(found, words, offset)),
     }
 }
@@ -343,6 +344,7 @@ fn body_of<'t>(
     let count = scope.locals.len();
     scope.function = Some(place(tables.functions.len()));
     scope.loops = 0;
+    scope.exits = 0;
     let kept_from = place(count).saturating_add(block_declarators(block));
     scope.kept_from = kept_from;
     let body = items(alloc, scope, found, block)?;

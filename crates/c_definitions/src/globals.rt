@@ -1,24 +1,23 @@
 // Objects at file scope and their initial values (C99 6.9.2, 6.7.8).
 
 ghost use Rattle.std.specs.Prelude.{◌≡◌, IfOk, OnOk, string_bytes};
-ghost use Rattle.c_rules.specs.Walks.{Outcome, Walks};
+ghost use Rattle.c_rules.specs.Walks.{Walks};
 ghost use Rattle.c_resolution.specs.States.{state};
 ghost use Rattle.c_resolution.specs.Files.{file};
 ghost use Rattle.c_definitions.specs.Tabled.{tables_of};
 ghost use Rattle.c_resolution.specs.Globals as spec;
 
+use crate::initials::{initial, refuse};
 use crate::tables::Tables;
-use c_expressions::expressions::expression;
 use c_program::tree as resolved;
-use c_rules::constants::{Constancy, constancy_of};
+use c_rules::dimensions::Dimensions;
 use c_rules::fault::Rule;
 use c_rules::findings::{Findings, place};
 use c_rules::names::{Meaning, Object, ObjectKind, Scope, Variable};
 use c_rules::specifiers::{BaseType, Spelled, spelled_by};
-use c_statements::lengths::optional_length;
+use c_statements::lengths::dimensions;
 use c_statements::locals::declare;
-use c_tree::{Expression, GlobalDeclaration, GlobalDeclarator, Initializer, Name};
-use hls_ints::{CType, wrap};
+use c_tree::{GlobalDeclaration, GlobalDeclarator, Initializer, Name};
 use std::alloc::{AllocError, Global};
 
 /// A name as text.
@@ -30,116 +29,6 @@ pub fn text(alloc: Global, name: &[u8]) -> Result<String, AllocError>
         text.push(char::from(*byte))?;
     }
     Ok(text)
-}
-
-/// An initial value of a type.
-#[tactic(auto, unfolding(c_resolution::specs::Globals::initial_value, c_resolution::specs::Globals::initial_from))]
-fn initial_value(
-    alloc: Global,
-    scope: &Scope<'_>,
-    found: &mut Findings,
-    ty: CType,
-    e: &Expression,
-) -> Result<i128, AllocError>
-    ensures { Walks (λ x. x) (spec.initial_value ty e.now scope.now found.old) result found.new }
-{
-    expression(alloc, scope, found, e)?;
-    match constancy_of(e) {
-        Constancy::Constant(value) => Ok(wrap(ty, value.number)),
-        Constancy::Unknown => Ok(0),
-        Constancy::NotConstant => {
-            found.add(Rule::Constant, e.offset);
-            Ok(0)
-        }
-    }
-}
-
-#[tactic(auto, unfolding(c_resolution::specs::Globals::initial_values))]
-fn initial_values(
-    alloc: Global,
-    scope: &Scope<'_>,
-    found: &mut Findings,
-    ty: CType,
-    length: u64,
-    list: &[Expression],
-) -> Result<Vec<i128>, AllocError>
-    ensures { Walks (λ v. v.items) (spec.initial_values ty length list.now scope.now found.old) result found.new }
-{
-    let mut values = Vec::new(alloc);
-    for e in list {
-        found.add_if(length <= values.len() as u64, Rule::Constant, e.offset);
-        let value = initial_value(alloc, scope, found, ty, e)?;
-        values.push(value)?;
-    }
-    Ok(values)
-}
-
-#[tactic(auto, unfolding(c_resolution::specs::Globals::looked_values))]
-fn look_through_all(
-    alloc: Global,
-    scope: &Scope<'_>,
-    found: &mut Findings,
-    list: &[Expression],
-) -> Result<(), AllocError>
-    ensures { Walks (λ x. x) (spec.looked_values list.now scope.now found.old) result found.new }
-{
-    for e in list {
-        expression(alloc, scope, found, e)?;
-    }
-    Ok(())
-}
-
-/// An initialiser of another form than the object's.
-#[tactic(auto, unfolding(c_resolution::specs::Globals::refused))]
-fn refuse(
-    alloc: Global,
-    scope: &Scope<'_>,
-    found: &mut Findings,
-    name: &Name,
-    initializer: &Initializer,
-) -> Result<(), AllocError>
-    ensures { Walks (λ x. x) (spec.refused name.now initializer.now scope.now found.old) result found.new }
-{
-    found.add(Rule::Kind, name.offset);
-    match initializer {
-        Initializer::Value(e) => {
-            expression(alloc, scope, found, e.get())?;
-            Ok(())
-        }
-        Initializer::List(list) => look_through_all(alloc, scope, found, list.as_slice()),
-        Initializer::Mutex => Ok(()),
-    }
-}
-
-/// The initial values of an integer object: a scalar has a value, and an array a list in braces.
-#[tactic(auto, unfolding(c_resolution::specs::Globals::refused_values))]
-fn initial(
-    alloc: Global,
-    scope: &Scope<'_>,
-    found: &mut Findings,
-    name: &Name,
-    variable: Variable,
-    initializer: &Option<Initializer>,
-) -> Result<Vec<i128>, AllocError>
-    ensures { Walks (λ v. v.items) (spec.initial name.now variable initializer.now scope.now found.old) result found.new }
-{
-    let ty = variable.ty.c_type();
-    match (variable.length, initializer) {
-        (_, None) => Ok(Vec::new(alloc)),
-        (None, Some(Initializer::Value(e))) => {
-            let value = initial_value(alloc, scope, found, ty, e.get())?;
-            let mut values = Vec::new(alloc);
-            values.push(value)?;
-            Ok(values)
-        }
-        (Some(length), Some(Initializer::List(list))) => {
-            initial_values(alloc, scope, found, ty, length, list.as_slice())
-        }
-        (_, Some(initializer)) => {
-            refuse(alloc, scope, found, name, initializer)?;
-            Ok(Vec::new(alloc))
-        }
-    }
 }
 
 /// Adds an integer object to the program.
@@ -155,7 +44,7 @@ fn add_global(
     let global = resolved::GlobalVariable {
         name: text(alloc, name.bytes.as_slice())?,
         ty: variable.ty.c_type(),
-        length: variable.length.unwrap_or(1),
+        length: variable.dimensions.elements(),
         initial,
     };
     tables.globals.push(global)?;
@@ -279,9 +168,15 @@ fn unusable<'t>(
     }
 }
 
-fn object(kind: ObjectKind, count: usize, length: Option<u64>) -> Meaning
-    ensures { result ≡ spec.object kind count length }
+/// An object of POSIX threads, which has one dimension at most.
+fn object(kind: ObjectKind, count: usize, dimensions: Dimensions) -> Meaning
+    ensures { result ≡ spec.object kind count dimensions }
 {
+    let length = match dimensions {
+        Dimensions::Scalar => None,
+        Dimensions::One(length) => Some(length),
+        Dimensions::Two(_, _) | Dimensions::Three(_, _, _) => return Meaning::Unusable,
+    };
     Meaning::Object(Object {
         kind,
         number: place(count),
@@ -290,8 +185,13 @@ fn object(kind: ObjectKind, count: usize, length: Option<u64>) -> Meaning
 }
 
 /// The object that words of a type declare, behind which a `*` may stand: it is the next one of its kind.
-fn global_meaning(tables: &Tables, words: Spelled, is_pointer: bool, length: Option<u64>) -> Meaning
-    ensures { result ≡ spec.global_meaning (tables_of tables.now) words is_pointer length }
+fn global_meaning(
+    tables: &Tables,
+    words: Spelled,
+    is_pointer: bool,
+    dimensions: Dimensions,
+) -> Meaning
+    ensures { result ≡ spec.global_meaning (tables_of tables.now) words is_pointer dimensions }
 {
     if is_pointer {
         return Meaning::Unusable;
@@ -301,12 +201,12 @@ fn global_meaning(tables: &Tables, words: Spelled, is_pointer: bool, length: Opt
             storage: resolved::Storage::Static,
             number: place(tables.globals.len()),
             ty,
-            length,
+            dimensions,
             is_const: words.is_const,
         }),
-        BaseType::Thread => object(ObjectKind::Thread, tables.threads.len(), length),
-        BaseType::Mutex => object(ObjectKind::Mutex, tables.mutexes.len(), length),
-        BaseType::Barrier => object(ObjectKind::Barrier, tables.barriers.len(), length),
+        BaseType::Thread => object(ObjectKind::Thread, tables.threads.len(), dimensions),
+        BaseType::Mutex => object(ObjectKind::Mutex, tables.mutexes.len(), dimensions),
+        BaseType::Barrier => object(ObjectKind::Barrier, tables.barriers.len(), dimensions),
         BaseType::Void | BaseType::Unlisted => Meaning::Unusable,
     }
 }
@@ -325,8 +225,8 @@ fn global<'t>(
     ensures { Walks (λ x. x) (spec.global words is_pointer declared.now (file scope.old found.old (tables_of tables.old)))
         result (file scope.new found.new (tables_of tables.new)) }
 {
-    let length = optional_length(alloc, scope, found, &declared.length)?;
-    match global_meaning(tables, words, is_pointer, length) {
+    let dimensions = dimensions(alloc, scope, found, declared.lengths.as_slice())?;
+    match global_meaning(tables, words, is_pointer, dimensions) {
         Meaning::Variable(variable) => {
             global_variable(alloc, scope, found, tables, declared, variable)
         }

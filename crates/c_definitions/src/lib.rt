@@ -4,5 +4,6 @@
 
 pub mod functions;
 pub mod globals;
+mod initials;
 mod slots;
 pub mod tables;
