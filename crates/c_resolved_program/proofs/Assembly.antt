@@ -15,7 +15,7 @@ use Rattle.c_resolved_program.specs.Gathered.{IsGathered, IsDeclaredThread}
 use Rattle.c_resolved_program.specs.Laws.{GatheredIsResolved}
 use Rattle.c_resolved_program.specs.Orders.{GivesRoutines}
 use Rattle.c_resolved_program.proofs.Walks.{IfAny, first-none}
-use Rattle.c_resolved_program.proofs.Arguments.{element_is}
+use Rattle.c_resolved_program.proofs.Elements.{element_is}
 use Rattle.c_resolved_program.proofs.Graph.{first-second, calls_none, acyclic}
 use Rattle.c_resolved_program.proofs.Routines.{Among, all_later, all_given}
 

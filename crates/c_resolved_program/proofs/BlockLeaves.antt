@@ -1,5 +1,5 @@
 -- The leaves of blocks are among what their tokens are, and a block has no more declarators than tokens.
-use Rattle.std.proofs.Common.{ℕ, zero, suc, Bool, true, false, length, Option, None, le_trans, arith}
+use Rattle.std.proofs.Common.{ℕ, zero, suc, Bool, true, false, List, length, Option, None, le_trans, arith}
 use Rattle.std.specs.Prelude.{◌+◌}
 use Rattle.c_token.specs.declared.keyword.Keyword.TheVariants as k
 use Rattle.c_token.specs.declared.punctuator.Punctuator.TheVariants as p
@@ -9,6 +9,7 @@ use Rattle.c_tree.specs.declared.expression.Expression.{Expression}
 use Rattle.c_tree.specs.declared.statement.SimpleStatement.{SimpleStatement}
 use Rattle.c_tree.specs.declared.statement.ForStart.{ForStart}
 use Rattle.c_tree.specs.declared.statement.Block.{Block}
+use Rattle.c_tree.specs.declared.statement.Group.{Group}
 use Rattle.c_tree.specs.declared.statement.Statement.{Statement}
 use Rattle.c_tree.specs.Trees as tree
 use Rattle.c_tree.specs.Expressions as g
@@ -20,6 +21,7 @@ use Rattle.c_resolved_program.proofs.ExpressionGrammar.{IsExpression}
 use Rattle.c_resolved_program.proofs.ExpressionLeaves.{Good, sign_gives, cast_gives, expr_gives}
 use Rattle.c_resolved_program.proofs.SimpleLeaves.{IsSimple, simple_gives, returned_gives, declaration_gives}
 use Rattle.c_resolved_program.proofs.StatementLeaves.{IsStatement, IsItem, IsBlock, IsStart, AreItems, IsElse, none_most, place_most, item_counts, block_is, declaration_item, statement_item}
+use Rattle.c_resolved_program.proofs.StatementLeaves.{IsLabel, IsGroup, AreStatements, AreGroups, statements_more, groups_more, group_is, switch_is}
 use Rattle.c_resolved_program.proofs.StatementLeaves.{empty_is, simple_is, break_is, continue_is, return_is, block_statement_is, if_is, while_is, do_is, for_is}
 use Rattle.c_resolved_program.proofs.Walks.{IfAny}
 
@@ -114,6 +116,20 @@ module _ (cast expr : Phrase Expression) (of_cast : Good IsExpression cast) (of_
       (λ e step last. gives_then IsValidToken _ _ (sign_gives (Mark p.CloseRound))
       (λ f _ _. gives_pure IsValidToken _ ((is.0, let few = is.1 in omega (arith, few)), so, last))))))))
 
+  -- ---- labels
+
+  case_gives : Good IsLabel (h.case_label cast expr)
+  case_gives =
+      gives_then IsValidToken _ _ (sign_gives (Word k.Case))
+      (λ _ at _. gives_then IsValidToken _ _ of_expr (λ _ x is. gives_then IsValidToken _ _ (sign_gives (Mark p.Colon)) (λ _ _ _. gives_pure IsValidToken _ is)))
+
+  default_gives : Good IsLabel (h.default_label cast expr)
+  default_gives =
+      gives_then IsValidToken _ _ (sign_gives (Word k.Default)) (λ _ at _. gives_then IsValidToken _ _ (sign_gives (Mark p.Colon)) (λ _ _ _. gives_pure IsValidToken _ tt))
+
+  label_gives : Good IsLabel (h.label cast expr)
+  label_gives = gives_either IsValidToken case_gives default_gives
+
   -- ---- statements with statements in them
 
   module _ (statement : Phrase Statement) (of_statement : Gives IsValidToken IsStatement statement) where
@@ -181,10 +197,40 @@ module _ (cast expr : Phrase Expression) (of_cast : Good IsExpression cast) (of_
         (λ m head is. gives_then IsValidToken _ _ (gives_nested IsValidToken statement of_statement)
         (λ n body so. gives_pure IsValidToken _ (for_is (a + (m + (n + 0))) m n head.0 head.1 head.2 body (omega arith) is.0 is.1 is.2 so))))
 
+    group_gives : Gives IsValidToken IsGroup (h.group cast expr statement)
+    group_gives =
+        gives_then IsValidToken _ _ label_gives
+        (λ a x is. gives_then IsValidToken _ _
+        (gives_many IsValidToken AreStatements (tt, λ k. omega arith) (λ m n i list one more. statements_more m n i list one more) of_statement)
+        (λ b list all. gives_pure IsValidToken _ (group_is (a + (b + 0)) x list is (all.0, λ k. (let n = all.1 k in omega (arith, n))))))
+
+    abbrev in_groups : Phrase (List Group)
+    in_groups = do
+      g.sign (Mark p.OpenCurly)
+      found ← many (h.group cast expr statement)
+      g.sign (Mark p.CloseCurly)
+      pure found
+
+    groups_give : Gives IsValidToken AreGroups (h.groups cast expr statement)
+    groups_give =
+        gives_nested IsValidToken in_groups (gives_then IsValidToken _ _ (sign_gives (Mark p.OpenCurly))
+        (λ a _ _. gives_then IsValidToken _ _
+        (gives_many IsValidToken AreGroups (tt, λ k. omega arith) (λ m n i list one more. groups_more m n i list one more) group_gives)
+        (λ b list all. gives_then IsValidToken _ _ (sign_gives (Mark p.CloseCurly))
+        (λ c _ _. gives_pure IsValidToken _ (all.0, λ k. (let n = all.1 k in omega (arith, n)))))))
+
+    switch_gives : Gives IsValidToken IsStatement (h.switch cast expr statement)
+    switch_gives =
+        gives_then IsValidToken _ _ (sign_gives (Word k.Switch))
+        (λ a at _. gives_then IsValidToken _ _ condition_gives
+        (λ b c test. gives_then IsValidToken _ _ (gives_nested IsValidToken (h.groups cast expr statement) groups_give)
+        (λ m list all. gives_pure IsValidToken _ (switch_is (a + (b + (m + 0))) m c list at (omega arith) test all))))
+
     any_gives : Gives IsValidToken IsStatement (h.any_statement cast expr statement)
     any_gives =
         gives_either IsValidToken
-        (gives_either IsValidToken block_statement_gives (gives_either IsValidToken branch_gives (gives_either IsValidToken while_gives (gives_either IsValidToken do_gives for_gives))))
+        (gives_either IsValidToken block_statement_gives
+        (gives_either IsValidToken branch_gives (gives_either IsValidToken while_gives (gives_either IsValidToken do_gives (gives_either IsValidToken for_gives switch_gives)))))
         plain_gives
 
 -- by how often the rule is entered within itself

@@ -5,6 +5,7 @@ use Rattle.std.specs.Prelude.{◌+◌, ◌-◌, min, slice_get, remove, fold, un
 use Rattle.std.specs.List.{AllByRecursion}
 use Rattle.lists.proofs.Places.{length_more, get_last}
 use Rattle.c_rules.specs.declared.names.Scope.{Scope}
+use Rattle.c_rules.specs.declared.dimensions.Dimensions.{Dimensions}
 use Rattle.c_rules.specs.declared.names.Meaning.{Meaning}
 use Rattle.c_rules.specs.declared.specifiers.BasicType.{BasicType}
 use Rattle.c_rules.specs.declared.specifiers.Spelled.{Spelled}
@@ -18,7 +19,7 @@ use Rattle.c_rules.specs.Walks.{Outcome, Finds, pure, and_then, through, finds, 
 use Rattle.c_rules.specs.declared.fault.Rule.TheVariants as rule
 use Rattle.c_resolution.specs.States.{State, state, Goes, finding, scoping}
 use Rattle.c_resolution.specs.Locals as y
-use Rattle.c_resolution.specs.Statements.{deeper, shallower, loop_body}
+use Rattle.c_resolution.specs.Statements.{deeper, shallower, switched, unswitched, loop_body}
 use Rattle.c_resolved_program.proofs.Walks.{turn}
 use Rattle.c_resolved_program.specs.Orders.{left, given}
 use Rattle.c_resolved_program.proofs.Steps.{in_scope_is}
@@ -30,6 +31,7 @@ pub record Moves (x y : Scope) : Type 0 where
   pub function : y.function ≡ x.function
   pub gives : y.gives ≡ x.gives
   pub loops : y.loops ≤ x.loops
+  pub exits : y.exits ≤ x.exits
 
 -- a part that may declare names in the innermost scope
 abbrev pub IsMoving : {A : Type 0} → Goes A → Type 0
@@ -40,7 +42,7 @@ abbrev pub IsStaying : {A : Type 0} → Goes A → Type 0
 IsStaying w = (x : State) → Moves x.scope (left (w x)).scope × ((left (w x)).scope.inner ≡ x.scope.inner)
 
 pub moves_same : (s : Scope) → Moves s s
-moves_same s = record { outer = refl; headers = refl; definitions = refl; function = refl; gives = refl; loops = omega arith }
+moves_same s = record { outer = refl; headers = refl; definitions = refl; function = refl; gives = refl; loops = omega arith; exits = omega arith }
 
 pub moves_on : (a b c : Scope) → Moves a b → Moves b c → Moves a c
 moves_on a b c h k = record {
@@ -50,6 +52,7 @@ moves_on a b c h k = record {
   function = k.function ∙ h.function;
   gives = k.gives ∙ h.gives;
   loops = le_trans k.loops h.loops;
+  exits = le_trans k.exits h.exits;
 }
 
 -- ---- parts in turn
@@ -107,7 +110,7 @@ moving_by false v w x h k = k
 
 moving_declaring : (name : List ℕ) (m : Meaning) → IsMoving (scoping (declaring name m))
 unfolding declaring
-moving_declaring name m x = record { outer = refl; headers = refl; definitions = refl; function = refl; gives = refl; loops = omega arith }
+moving_declaring name m x = record { outer = refl; headers = refl; definitions = refl; function = refl; gives = refl; loops = omega arith; exits = omega arith }
 
 pub moving_declare : (name : Name) (m : Meaning) → IsMoving (y.declare name m)
 unfolding y.declare
@@ -116,15 +119,15 @@ moving_declare name m x =
     let w : Goes (Unit {0}) = scoping (declaring name.bytes m) in
     moving_by (is_taken x.scope name.bytes) v w x ((staying_finding (λ s. finds rule.Twice name.offset) x).0) (moving_declaring name.bytes m x)
 
-pub moving_new_local : (words : Spelled) (size : Option ℕ) (ty : BasicType) → IsMoving (y.new_local words size ty)
+pub moving_new_local : (words : Spelled) (size : Dimensions) (ty : BasicType) → IsMoving (y.new_local words size ty)
 unfolding y.new_local
-moving_new_local words size ty x = record { outer = refl; headers = refl; definitions = refl; function = refl; gives = refl; loops = omega arith }
+moving_new_local words size ty x = record { outer = refl; headers = refl; definitions = refl; function = refl; gives = refl; loops = omega arith; exits = omega arith }
 
-moving_local_of : (words : Spelled) (at : ℕ) (size : Option ℕ) (ty : Option BasicType) → IsMoving (y.local_of words at size ty)
+moving_local_of : (words : Spelled) (at : ℕ) (size : Dimensions) (ty : Option BasicType) → IsMoving (y.local_of words at size ty)
 moving_local_of words at size (Some ty) = moving_new_local words size ty
 moving_local_of words at size None = moving_staying (finding (λ s. y.refused_local words at)) (staying_finding (λ s. y.refused_local words at))
 
-moving_local : (words : Spelled) (at : ℕ) (size : Option ℕ) → IsMoving (y.local words at size)
+moving_local : (words : Spelled) (at : ℕ) (size : Dimensions) → IsMoving (y.local words at size)
 unfolding y.local
 moving_local words at size = moving_local_of words at size (plain words.is_static words.base)
 
@@ -133,8 +136,8 @@ unfolding y.declarator
 moving_declarator words d =
     let stepping = λ (m : Meaning). finding (y.declared_step d m d.initializer) in
     let declaring = λ (m : Meaning). y.declare d.name m >> stepping m in
-    moving_then (finding (y.optional_length d.length)) (λ size. y.local words d.name.offset size >>= declaring)
-    (moving_staying (finding (y.optional_length d.length)) (staying_finding (y.optional_length d.length)))
+    moving_then (finding (y.dimensions d.lengths)) (λ size. y.local words d.name.offset size >>= declaring)
+    (moving_staying (finding (y.dimensions d.lengths)) (staying_finding (y.dimensions d.lengths)))
     (λ size. moving_then (y.local words d.name.offset size) declaring (moving_local words d.name.offset size)
     (λ m. moving_then (y.declare d.name m) (λ _. stepping m) (moving_declare d.name m)
     (λ _. moving_staying (stepping m) (staying_finding (y.declared_step d m d.initializer)))))
@@ -178,15 +181,16 @@ closed_moves s t h =
         function = rest.2 ∙ h.function;
         gives = rest.3 ∙ h.gives;
         loops = subst (λ n. n ≤ s.loops) (sym rest.4) h.loops;
+        exits = subst (λ n. n ≤ s.exits) (sym rest.5) h.exits;
       },
       both.1,
     )
   where
     closed_same : (level : Option Names) (t : Scope) → ((closed_to level t).headers ≡ t.headers) × ((closed_to level t).definitions ≡ t.definitions) ×
         ((closed_to level t).function ≡ t.function)
-        × ((closed_to level t).gives ≡ t.gives) × ((closed_to level t).loops ≡ t.loops)
-    closed_same None t = (refl, refl, refl, refl, refl)
-    closed_same (Some level) t = (refl, refl, refl, refl, refl)
+        × ((closed_to level t).gives ≡ t.gives) × ((closed_to level t).loops ≡ t.loops) × ((closed_to level t).exits ≡ t.exits)
+    closed_same None t = (refl, refl, refl, refl, refl, refl)
+    closed_same (Some level) t = (refl, refl, refl, refl, refl, refl)
 
 pub in_block : {A : Type 0} (w : Goes A) (B : Type 0) (make : A → B) → IsMoving w → IsStaying (scoping opened >> (w >>= (λ a. scoping closed >> pure (make a))))
 in_block w B make h x =
@@ -222,6 +226,37 @@ in_loop_body body h x =
         function = k.0.function;
         gives = k.0.gives;
         loops = shallower_loops x.scope.loops (left behind).scope.loops k.0.loops;
+        exits = shallower_loops x.scope.exits (left behind).scope.exits k.0.exits;
       },
       k.1,
     )
+
+-- the body of a switch
+pub in_switch : {A B : Type 0} (body : Goes A) (make : A → B) → IsStaying body → IsStaying (scoping switched >> (body >>= (λ a. scoping unswitched >> pure (make a))))
+in_switch {A} {B} body make h x =
+    let behind = body (state (switched x.scope) x.found) in
+    let k = h (state (switched x.scope) x.found) in
+    subst (λ (o : Outcome State B). Moves x.scope (left o).scope × ((left o).scope.inner ≡ x.scope.inner)) (sym (turn behind (λ a. scoping unswitched >> pure (make a)))) (
+      record {
+        outer = k.0.outer;
+        headers = k.0.headers;
+        definitions = k.0.definitions;
+        function = k.0.function;
+        gives = k.0.gives;
+        loops = k.0.loops;
+        exits = shallower_loops x.scope.exits (left behind).scope.exits k.0.exits;
+      },
+      k.1,
+    )
+
+-- parts one after another that declare nothing
+staying_after : {A B : Type 0} (step : A → B → Goes A) (items : List B) (o : Outcome State A) (s : Scope) → AllByRecursion (λ b. (a : A) → IsStaying (step a b)) items →
+    Moves s (left o).scope × ((left o).scope.inner ≡ s.inner) →
+    Moves s (left (fold (λ o b. and_then o (λ x. step x b)) o items)).scope × ((left (fold (λ o b. and_then o (λ x. step x b)) o items)).scope.inner ≡ s.inner)
+staying_after step [] o s all so_far = so_far
+staying_after step (b ∷ rest) (Outcome.Gives a x) s all so_far =
+    let next = all.0 a x in
+    staying_after step rest (step a b x) s all.1 (moves_on s x.scope (left (step a b x)).scope so_far.0 next.0, next.1 ∙ so_far.1)
+
+pub staying_each : {A B : Type 0} (step : A → B → Goes A) (a : A) (items : List B) → AllByRecursion (λ b. (a : A) → IsStaying (step a b)) items → IsStaying (through step a items)
+staying_each step a items all x = staying_after step items (Outcome.Gives a x) x.scope all (moves_same x.scope, refl)

@@ -1,8 +1,8 @@
 -- The creates that a part finds are those of the statements that it stands for.
 use Rattle.std.proofs.Common.{sym, ap, subst, inl, inr, ℕ, Bool, true, false, List, [], ◌∷◌, ◌++◌, map, length, Option, Some, None, arith}
-use Rattle.std.specs.Prelude.{◌⊎◌, not, is_none, is_some, option_map, slice_get, Contains}
+use Rattle.std.specs.Prelude.{◌⊎◌, not, nat_eq, is_none, option_map, Contains}
 use Rattle.std.specs.List.{AllByRecursion}
-use Rattle.std.proofs.lemmas.List.Elements.{Contains-append_cases}
+use Rattle.std.proofs.lemmas.List.Elements.{Contains-append_left, Contains-append_right, Contains-append_cases}
 use Rattle.lists.proofs.Places.{in_one}
 use Rattle.c_tree.specs.declared.expression.Argument.{Argument, out-Argument}
 use Rattle.c_tree.specs.declared.expression.Argument.TheOpen.{Argument-F}
@@ -27,118 +27,118 @@ use Rattle.c_rules.specs.declared.names.Known.TheVariants as known
 use Rattle.c_rules.specs.declared.names.Scope.{Scope}
 use Rattle.c_rules.specs.Names.{look_up, is_start_routine}
 use Rattle.c_rules.specs.Walks.{Outcome, Finds, pure, finds, finds_if, finds_any, ◌>>=◌, ◌>>◌}
-use Rattle.c_expressions.specs.Callees.{function_name, library_name}
-use Rattle.c_expressions.specs.Expressions.{value, index, argument, arguments, variable_of}
+use Rattle.c_expressions.specs.Callees.{function_name, library_name, no_function, is_unknown, is_usable}
+use Rattle.c_expressions.specs.Cuts.{Cuts, Cut, cut, free_from}
+use Rattle.c_expressions.specs.Lists.{one, two, three, four}
+use Rattle.c_expressions.specs.Sequences.{behind_cuts}
+use Rattle.c_rules.specs.Dimensions.{count}
+use Rattle.c_expressions.specs.Expressions.{argument_offset, looked_argument, argument, arguments, all_passed, place_number, dimensions_of, variable_of}
 use Rattle.c_calls.specs.Arguments as a
 use Rattle.c_expressions.specs.Targets as t
-use Rattle.c_calls.specs.Cuts.{uncut}
 use Rattle.c_calls.specs.Calls as c
 use Rattle.c_resolved_program.specs.Orders.{left, given}
 use Rattle.c_resolved_program.proofs.Walks.{turn}
+use Rattle.c_resolved_program.proofs.Neighbours as n
 use Rattle.c_resolved_program.proofs.Quiet as q
 use Rattle.c_resolved_program.proofs.Quiet.{IsQuiet, quiet_then, quiet_pure, quiet_finds, quiet_if, quiet_any}
 
 -- ---- arguments and targets find no create
 
 module _ (s : Scope) where
-  pub quiet_value : (e : ExpressionTree) → IsQuiet (value s e)
-  quiet_value e = (q.quiet_expression s e).value
-
   quiet_refused : (x : Argument) → IsQuiet (a.refused s x)
   unfolding a.refused
-  quiet_refused x = quiet_then (finds rule.Kind (a.argument_offset x)) (λ _. argument s x) (quiet_finds rule.Kind (a.argument_offset x)) (λ _. q.quiet_argument s x)
+  quiet_refused x =
+      quiet_then (finds rule.Kind (argument_offset x)) (λ _. looked_argument s x) (quiet_finds rule.Kind (argument_offset x)) (λ _. (q.quiet_argument s x).looked)
 
   refused_then : {A : Type 0} (x : Argument) (w : A) → IsQuiet (a.refused s x >> pure w)
   refused_then x w = quiet_then (a.refused s x) (λ _. pure w) (quiet_refused x) (λ _. quiet_pure w)
 
-  value_in : (x : Argument) (l : a.ArgumentLayer) → IsQuiet (a.value_in s x l)
+  value_in : (x : Argument) (l : a.ArgumentLayer) (at : ℕ) (cuts : Cuts) → IsQuiet (a.value_in s x l at cuts)
   unfolding a.refused_value
-  value_in x (Argument-F.Value e) = quiet_value e
-  value_in x (Argument-F.Text bytes at) = refused_then x a.null
-  value_in x (Argument-F.Address p at) = refused_then x a.null
-  value_in x (Argument-F.Pointer p) = refused_then x a.null
+  value_in x (Argument-F.Value e) at cuts = q.quiet_value s e at cuts
+  value_in x (Argument-F.Text bytes offset) at cuts = refused_then x (cut cuts a.null)
+  value_in x (Argument-F.Address p offset) at cuts = refused_then x (cut cuts a.null)
+  value_in x (Argument-F.Pointer p) at cuts = refused_then x (cut cuts a.null)
 
-  quiet_value_argument : (x : Argument) → IsQuiet (a.value_argument s x)
+  quiet_value_argument : (x : Argument) (at : ℕ) (cuts : Cuts) → IsQuiet (a.value_argument s x at cuts)
   unfolding a.value_argument
-  quiet_value_argument x = value_in x (out-Argument x)
+  quiet_value_argument x at cuts = value_in x (out-Argument x) at cuts
 
-  each_value : (list : List Argument) → AllByRecursion (λ x. (found : List Expression) → IsQuiet (a.value_argument s x >>= (λ v. pure (found ++ v ∷ [])))) list
-  each_value [] = tt
-  each_value (x ∷ list) =
-      (λ found. quiet_then (a.value_argument s x) (λ v. pure (found ++ v ∷ [])) (quiet_value_argument x) (λ v. quiet_pure (found ++ v ∷ [])), each_value list)
+  each_passed : (list : List Argument) → AllByRecursion q.QuietPassed (map (argument s) list)
+  each_passed [] = tt
+  each_passed (x ∷ list) = (q.quiet_argument s x, each_passed list)
 
-  quiet_value_arguments : (list : List Argument) → IsQuiet (a.value_arguments s list)
-  unfolding a.value_arguments
-  quiet_value_arguments list = q.quiet_through (λ found x. a.value_argument s x >>= (λ v. pure (found ++ v ∷ []))) [] list (each_value list)
+  quiet_all_passed : (list : List Argument) (at : ℕ) (cuts : Cuts) → IsQuiet (all_passed s list at cuts)
+  quiet_all_passed list at cuts = q.quiet_all_values (map (argument s) list) at cuts (each_passed list)
 
   quiet_null_argument : (x : Argument) → IsQuiet (a.null_argument s x)
   unfolding a.null_argument
   quiet_null_argument x = q.quiet_either (a.is_null x) (pure tt) (a.refused s x) (quiet_pure tt) (quiet_refused x)
 
-  operand_value : (o : Option ExpressionTree) → IsQuiet (a.operand_value s o)
-  operand_value None = quiet_pure a.null
-  operand_value (Some e) = quiet_value e
+  operand_value : (o : Option ExpressionTree) (at : ℕ) (cuts : Cuts) → IsQuiet (a.operand_value s o at cuts)
+  operand_value None at cuts = quiet_pure (cut cuts a.null)
+  operand_value (Some e) at cuts = q.quiet_value s e at cuts
 
-  pub quiet_pointer_value : (p : PointerTree) → IsQuiet (a.pointer_value s p)
+  pub quiet_pointer_value : (p : PointerTree) (at : ℕ) (cuts : Cuts) → IsQuiet (a.pointer_value s p at cuts)
   unfolding a.pointer_value
-  quiet_pointer_value p = operand_value (out-Pointer p).operand
+  quiet_pointer_value p at cuts = operand_value (out-Pointer p).operand at cuts
 
-  pointer_in : (x : Argument) (l : a.ArgumentLayer) → IsQuiet (a.pointer_in s x l)
+  pointer_in : (x : Argument) (l : a.ArgumentLayer) (at : ℕ) (cuts : Cuts) → IsQuiet (a.pointer_in s x l at cuts)
   unfolding a.refused_value
-  pointer_in x (Argument-F.Pointer p) = quiet_pointer_value p
-  pointer_in x (Argument-F.Text bytes at) = refused_then x a.null
-  pointer_in x (Argument-F.Address p at) = refused_then x a.null
-  pointer_in x (Argument-F.Value e) = refused_then x a.null
+  pointer_in x (Argument-F.Pointer p) at cuts = quiet_pointer_value p at cuts
+  pointer_in x (Argument-F.Text bytes offset) at cuts = refused_then x (cut cuts a.null)
+  pointer_in x (Argument-F.Address p offset) at cuts = refused_then x (cut cuts a.null)
+  pointer_in x (Argument-F.Value e) at cuts = refused_then x (cut cuts a.null)
 
-  quiet_pointer_argument : (x : Argument) → IsQuiet (a.pointer_argument s x)
+  quiet_pointer_argument : (x : Argument) (at : ℕ) (cuts : Cuts) → IsQuiet (a.pointer_argument s x at cuts)
   unfolding a.pointer_argument
-  quiet_pointer_argument x = pointer_in x (out-Argument x)
+  quiet_pointer_argument x at cuts = pointer_in x (out-Argument x) at cuts
 
-  object_at : (at : ℕ) (o : Object) (size : Option ℕ) (i : Option Expression) → IsQuiet (a.object_at at o size i)
+  object_at : (at : ℕ) (o : Object) (indices : ℕ) (i : Option Expression) → IsQuiet (a.object_at at o indices i)
   unfolding a.object_at
-  object_at at o None None = quiet_pure (ObjectPlace.Single o.number)
-  object_at at o (Some size) (Some i) = quiet_pure (ObjectPlace.Element o.number size i)
-  object_at at o None (Some i) = quiet_then (finds rule.Kind at) (λ _. pure (ObjectPlace.Single o.number)) (quiet_finds rule.Kind at)
-      (λ _. quiet_pure (ObjectPlace.Single o.number))
-  object_at at o (Some size) None = quiet_then (finds rule.Kind at) (λ _. pure (ObjectPlace.Single o.number)) (quiet_finds rule.Kind at)
-      (λ _. quiet_pure (ObjectPlace.Single o.number))
+  object_at at o indices i =
+      let differs = not (nat_eq (count (a.length_dimensions o.length)) indices) in
+      quiet_then (finds_if differs rule.Kind at) (λ _. pure (a.placed o o.length i)) (quiet_if differs rule.Kind at) (λ _. quiet_pure (a.placed o o.length i))
 
   misused_object : (k : Known) (name_at at : ℕ) → IsQuiet (a.misused_object k name_at at)
   unfolding a.misused_object
   misused_object k name_at at =
-      quiet_then (finds_if (a.is_unknown k) rule.Unknown name_at) (λ _. finds_if (a.is_usable k) rule.Kind at >> pure a.no_object) (quiet_if (a.is_unknown k) rule.Unknown name_at)
-      (λ _. quiet_then (finds_if (a.is_usable k) rule.Kind at) (λ _. pure a.no_object) (quiet_if (a.is_usable k) rule.Kind at) (λ _. quiet_pure a.no_object))
+      quiet_then (finds_if (is_unknown k) rule.Unknown name_at) (λ _. finds_if (is_usable k) rule.Kind at >> pure a.no_object) (quiet_if (is_unknown k) rule.Unknown name_at)
+      (λ _. quiet_then (finds_if (is_usable k) rule.Kind at) (λ _. pure a.no_object) (quiet_if (is_usable k) rule.Kind at) (λ _. quiet_pure a.no_object))
 
-  object_from : (o : Option Object) (k : Known) (name_at at : ℕ) (i : Option Expression) → IsQuiet (a.object_from o k name_at at i)
-  object_from (Some o) k name_at at i = object_at name_at o o.length i
-  object_from None k name_at at i = misused_object k name_at at
+  object_from : (o : Option Object) (k : Known) (name_at at indices : ℕ) (i : Option Expression) → IsQuiet (a.object_from o k name_at at indices i)
+  object_from (Some o) k name_at at indices i = object_at name_at o indices i
+  object_from None k name_at at indices i = misused_object k name_at at
 
-  object_place : (kind : ObjectKind) (p : PlaceTree) (at : ℕ) → IsQuiet (a.object_place s kind p at)
+  object_place : (kind : ObjectKind) (p : PlaceTree) (offset at : ℕ) (cuts : Cuts) → IsQuiet (a.object_place s kind p offset at cuts)
   unfolding a.object_place a.object_named
-  object_place kind p at =
+  object_place kind p offset at cuts =
       let name = (out-Place p).name in
       let k = look_up s name.bytes in
-      quiet_then (index s p) (λ i. a.object_from (a.object_of kind k) k name.offset at i) (q.quiet_index s p) (λ i. object_from (a.object_of kind k) k name.offset at i)
+      let o = a.object_of kind k in
+      let named = λ (x : Cut (Option Expression)). a.object_from o k name.offset offset (length (out-Place p).indices) x.rest in
+      quiet_then (place_number s (a.object_dimensions o) p at cuts) (λ x. named x >>= (λ place. pure (cut x.cuts place))) (q.quiet_number s (a.object_dimensions o) p at cuts)
+      (λ x. quiet_then (named x) (λ place. pure (cut x.cuts place)) (object_from o k name.offset offset (length (out-Place p).indices) x.rest) (λ place. quiet_pure (cut x.cuts place)))
 
-  address_in : (kind : ObjectKind) (x : Argument) (l : a.ArgumentLayer) → IsQuiet (a.address_in s kind x l)
+  address_in : (kind : ObjectKind) (x : Argument) (l : a.ArgumentLayer) (at : ℕ) (cuts : Cuts) → IsQuiet (a.address_in s kind x l at cuts)
   unfolding a.refused_object
-  address_in kind x (Argument-F.Address p at) = object_place kind p at
-  address_in kind x (Argument-F.Text bytes at) = refused_then x a.no_object
-  address_in kind x (Argument-F.Value e) = refused_then x a.no_object
-  address_in kind x (Argument-F.Pointer p) = refused_then x a.no_object
+  address_in kind x (Argument-F.Address p offset) at cuts = object_place kind p offset at cuts
+  address_in kind x (Argument-F.Text bytes offset) at cuts = refused_then x (cut cuts a.no_object)
+  address_in kind x (Argument-F.Value e) at cuts = refused_then x (cut cuts a.no_object)
+  address_in kind x (Argument-F.Pointer p) at cuts = refused_then x (cut cuts a.no_object)
 
-  quiet_address : (kind : ObjectKind) (x : Argument) → IsQuiet (a.address_argument s kind x)
+  quiet_address : (kind : ObjectKind) (x : Argument) (at : ℕ) (cuts : Cuts) → IsQuiet (a.address_argument s kind x at cuts)
   unfolding a.address_argument
-  quiet_address kind x = address_in kind x (out-Argument x)
+  quiet_address kind x at cuts = address_in kind x (out-Argument x) at cuts
 
-  thread_from : (x : Argument) (p : Option (PlaceTree × ℕ)) → IsQuiet (a.thread_from s x p)
+  thread_from : (x : Argument) (p : Option (PlaceTree × ℕ)) (at : ℕ) (cuts : Cuts) → IsQuiet (a.thread_from s x p at cuts)
   unfolding a.refused_object
-  thread_from x (Some p) = object_place Thread p.0 p.1
-  thread_from x None = refused_then x a.no_object
+  thread_from x (Some p) at cuts = object_place Thread p.0 p.1 at cuts
+  thread_from x None at cuts = refused_then x (cut cuts a.no_object)
 
-  quiet_thread : (x : Argument) → IsQuiet (a.thread_argument s x)
+  quiet_thread : (x : Argument) (at : ℕ) (cuts : Cuts) → IsQuiet (a.thread_argument s x at cuts)
   unfolding a.thread_argument
-  quiet_thread x = thread_from x (a.place_in_argument x)
+  quiet_thread x at cuts = thread_from x (a.place_in_argument x) at cuts
 
   routine : (h : Header) (name_at at : ℕ) → IsQuiet (a.routine h name_at at)
   unfolding a.routine
@@ -151,8 +151,8 @@ module _ (s : Scope) where
   refused_routine : (is_other : Bool) (x : Argument) → IsQuiet (a.refused_routine s is_other x)
   unfolding a.refused_routine
   refused_routine is_other x =
-      quiet_then (finds_if is_other rule.Kind (a.argument_offset x)) (λ _. argument s x >> pure None) (quiet_if is_other rule.Kind (a.argument_offset x))
-      (λ _. quiet_then (argument s x) (λ _. pure None) (q.quiet_argument s x) (λ _. quiet_pure None))
+      quiet_then (finds_if is_other rule.Kind (argument_offset x)) (λ _. looked_argument s x >> pure None) (quiet_if is_other rule.Kind (argument_offset x))
+      (λ _. quiet_then (looked_argument s x) (λ _. pure None) (q.quiet_argument s x).looked (λ _. quiet_pure None))
 
   routine_from : (x : Argument) (h : Option Header) (is_other : Bool) (name_at at : ℕ) → IsQuiet (a.routine_from s x h is_other name_at at)
   routine_from x (Some h) is_other name_at at = routine h name_at at
@@ -166,14 +166,16 @@ module _ (s : Scope) where
   unfolding a.routine_argument
   quiet_routine x = routine_at x (a.place_in_argument x)
 
-  pub quiet_target : (p : PlaceTree) → IsQuiet (t.target s p)
+  pub quiet_target : (p : PlaceTree) (at : ℕ) (cuts : Cuts) → IsQuiet (t.target s p at cuts)
   unfolding t.target
-  quiet_target p =
+  quiet_target p at cuts =
       let k = look_up s (out-Place p).name.bytes in
-      let at = (out-Place p).name.offset in
-      quiet_then (index s p) (λ i. finds_any (t.target_fault k (is_some i)) at >> pure (t.named_place (variable_of k) i)) (q.quiet_index s p)
-      (λ i. quiet_then (finds_any (t.target_fault k (is_some i)) at) (λ _. pure (t.named_place (variable_of k) i)) (quiet_any (t.target_fault k (is_some i)) at)
-      (λ _. quiet_pure (t.named_place (variable_of k) i)))
+      let v = variable_of k in
+      let fault = t.target_fault k (length (out-Place p).indices) in
+      let offset = (out-Place p).name.offset in
+      let made = λ (x : Cut (Option Expression)). cut x.cuts (t.named_place v x.rest) in
+      quiet_then (place_number s (dimensions_of v) p at cuts) (λ x. finds_any fault offset >> pure (made x)) (q.quiet_number s (dimensions_of v) p at cuts)
+      (λ x. quiet_then (finds_any fault offset) (λ _. pure (made x)) (quiet_any fault offset) (λ _. quiet_pure (made x)))
 
 -- ---- parts that find creates
 
@@ -207,9 +209,22 @@ makes_pure x = record { new = λ found k inside. inl inside; kept = λ found k n
 makes_nothing : {A : Type 0} (p : Finds A) (make : A → Statement) → IsQuiet p → MakesIt (p >>= (λ x. pure (make x)))
 makes_nothing p make h = makes_quiet p (λ x. pure (make x)) h (λ x. makes_pure (make x))
 
+-- a create of a statement is one of the statement behind cuts
+sequence_of : (x z : Statement) (k : Creation) → IsOf x k ⊎ IsOf z k → IsOf (Statement.Sequence x z) k
+sequence_of x z k (inl of) = Contains-append_left (creates_of x) (creates_of z) (k.thread, k.routine) of
+sequence_of x z k (inr of) = Contains-append_right (creates_of x) (creates_of z) (k.thread, k.routine) of
+
+last_of : (list : List Statement) (x : Statement) (k : Creation) → IsOf x k → n.IsOfAny (λ y. IsOf y k) (list ++ x ∷ [])
+last_of [] x k of = inl of
+last_of (z ∷ list) x k of = inr (last_of list x k of)
+
+pub behind_of : (before : List Statement) (last : Statement) (k : Creation) → IsOf last k → IsOf (behind_cuts before last) k
+behind_of [] last k of = of
+behind_of (x ∷ more) last k of = n.sequence_keeps (λ y. IsOf y k) (λ y z either. sequence_of y z k either) (x ∷ more ++ last ∷ []) (last_of (x ∷ more) last k of)
+
 -- ---- calls
 
-created_makes : (at : ℕ) (thread : ObjectPlace) (v : Expression) (routine : Option (ℕ × ℕ)) → MakesIt (c.created at thread v routine)
+created_makes : (at : ℕ) (thread : ObjectPlace) (v : Cut Expression) (routine : Option (ℕ × ℕ)) → MakesIt (c.created at thread v routine)
 unfolding c.created
 created_makes at thread v None = makes_pure Statement.Empty
 created_makes at thread v (Some r) =
@@ -220,18 +235,18 @@ created_makes at thread v (Some r) =
             | inl before ↦ inl before
             | inr made ↦
                 let is = in_one site k made in
-                inr (0, omega arith, ap (λ (y : Creation). (y.thread, y.routine)) is)
+                inr (behind_of v.cuts.before (Statement.Thread at (ThreadCall.Create thread r.0 v.rest)) k (0, omega arith, ap (λ (y : Creation). (y.thread, y.routine)) is))
           ];
       kept = λ found k no_k. absurd no_k;
     }
 
 module _ (s : Scope) where
-  each_looked : (list : List Argument) → AllByRecursion (λ w. IsQuiet w) (map (argument s) list)
+  each_looked : (list : List Argument) → AllByRecursion (λ x. IsQuiet (looked_argument s x)) list
   each_looked [] = tt
-  each_looked (x ∷ list) = (q.quiet_argument s x, each_looked list)
+  each_looked (x ∷ list) = ((q.quiet_argument s x).looked, each_looked list)
 
   quiet_arguments : (list : List Argument) → IsQuiet (arguments s list)
-  quiet_arguments list = q.quiet_visited (λ w. w) (map (argument s) list) (each_looked list)
+  quiet_arguments list = q.quiet_visited (looked_argument s) list (each_looked list)
 
   looked_call : (list : List Argument) → MakesIt (c.looked_call s list)
   unfolding c.looked_call
@@ -240,14 +255,14 @@ module _ (s : Scope) where
   create : (at : ℕ) (thread attributes routine x : Argument) → MakesIt (c.create s at thread attributes routine x)
   unfolding c.create
   create at thread attributes routine x =
-      let pointed = λ (o : ObjectPlace) (r : Option (ℕ × ℕ)). a.pointer_argument s x >>= (λ v. c.created at o v r) in
-      let routed = λ (o : ObjectPlace). a.routine_argument s routine >>= pointed o in
-      makes_quiet (a.address_argument s Thread thread) (λ o. a.null_argument s attributes >> routed o) (quiet_address s Thread thread)
+      let pointed = λ (o : Cut ObjectPlace) (r : Option (ℕ × ℕ)). a.pointer_argument s x at o.cuts >>= (λ v. c.created at o.rest v r) in
+      let routed = λ (o : Cut ObjectPlace). a.routine_argument s routine >>= pointed o in
+      makes_quiet (a.address_argument s Thread thread at (free_from s.kept_from)) (λ o. a.null_argument s attributes >> routed o) (quiet_address s Thread thread at (free_from s.kept_from))
       (λ o. makes_quiet (a.null_argument s attributes) (λ _. routed o) (quiet_null_argument s attributes)
       (λ _. makes_quiet (a.routine_argument s routine) (pointed o) (quiet_routine s routine)
-      (λ r. makes_quiet (a.pointer_argument s x) (λ v. c.created at o v r) (quiet_pointer_argument s x) (λ v. created_makes at o v r))))
+      (λ r. makes_quiet (a.pointer_argument s x at o.cuts) (λ v. c.created at o.rest v r) (quiet_pointer_argument s x at o.cuts) (λ v. created_makes at o.rest v r))))
 
-  create_of : (at : ℕ) (list whole : List Argument) → MakesIt (c.create_of s at whole (c.four list))
+  create_of : (at : ℕ) (list whole : List Argument) → MakesIt (c.create_of s at whole (four list))
   create_of at [] whole = looked_call whole
   create_of at (x ∷ []) whole = looked_call whole
   create_of at (x ∷ y ∷ []) whole = looked_call whole
@@ -255,49 +270,52 @@ module _ (s : Scope) where
   create_of at (x ∷ y ∷ z ∷ w ∷ []) whole = create at x y z w
   create_of at (x ∷ y ∷ z ∷ w ∷ v ∷ more) whole = looked_call whole
 
-  join_of : (at : ℕ) (list whole : List Argument) → MakesIt (c.join_of s at whole (c.two list))
+  join_of : (at : ℕ) (list whole : List Argument) → MakesIt (c.join_of s at whole (two list))
   unfolding c.join
   join_of at [] whole = looked_call whole
   join_of at (x ∷ []) whole = looked_call whole
   join_of at (x ∷ y ∷ []) whole =
-      let joined = λ (o : ObjectPlace). Statement.Thread at (ThreadCall.Join o) in
-      makes_quiet (a.thread_argument s x) (λ o. a.null_argument s y >> pure (joined o)) (quiet_thread s x)
-      (λ o. makes_nothing (a.null_argument s y) (λ _. joined o) (quiet_null_argument s y))
+      let made = λ (o : Cut ObjectPlace). c.thread_call at o.cuts (ThreadCall.Join o.rest) in
+      makes_quiet (a.thread_argument s x at (free_from s.kept_from)) (λ o. a.null_argument s y >> pure (made o)) (quiet_thread s x at (free_from s.kept_from))
+      (λ o. makes_nothing (a.null_argument s y) (λ _. made o) (quiet_null_argument s y))
   join_of at (x ∷ y ∷ z ∷ more) whole = looked_call whole
 
-  exit_of : (at : ℕ) (list whole : List Argument) → MakesIt (c.exit_of s at whole (c.one list))
+  exit_of : (at : ℕ) (list whole : List Argument) → MakesIt (c.exit_of s at whole (one list))
   unfolding c.exit
   exit_of at [] whole = looked_call whole
-  exit_of at (x ∷ []) whole = makes_nothing (a.pointer_argument s x) (λ v. Statement.Return at (Some v)) (quiet_pointer_argument s x)
+  exit_of at (x ∷ []) whole =
+      makes_nothing (a.pointer_argument s x at (free_from s.kept_from)) (λ v. behind_cuts v.cuts.before (Statement.Return at (Some v.rest))) (quiet_pointer_argument s x at (free_from s.kept_from))
   exit_of at (x ∷ y ∷ more) whole = looked_call whole
 
-  mutex_init_of : (at : ℕ) (list whole : List Argument) → MakesIt (c.mutex_init_of s at whole (c.two list))
+  mutex_init_of : (at : ℕ) (list whole : List Argument) → MakesIt (c.mutex_init_of s at whole (two list))
   unfolding c.mutex_init
   mutex_init_of at [] whole = looked_call whole
   mutex_init_of at (x ∷ []) whole = looked_call whole
   mutex_init_of at (x ∷ y ∷ []) whole =
-      let made = λ (o : ObjectPlace). Statement.Thread at (ThreadCall.MutexInit o) in
-      makes_quiet (a.address_argument s Mutex x) (λ o. a.null_argument s y >> pure (made o)) (quiet_address s Mutex x)
+      let made = λ (o : Cut ObjectPlace). c.thread_call at o.cuts (ThreadCall.MutexInit o.rest) in
+      makes_quiet (a.address_argument s Mutex x at (free_from s.kept_from)) (λ o. a.null_argument s y >> pure (made o)) (quiet_address s Mutex x at (free_from s.kept_from))
       (λ o. makes_nothing (a.null_argument s y) (λ _. made o) (quiet_null_argument s y))
   mutex_init_of at (x ∷ y ∷ z ∷ more) whole = looked_call whole
 
-  barrier_init_of : (at : ℕ) (list whole : List Argument) → MakesIt (c.barrier_init_of s at whole (c.three list))
+  barrier_init_of : (at : ℕ) (list whole : List Argument) → MakesIt (c.barrier_init_of s at whole (three list))
   unfolding c.barrier_init
   barrier_init_of at [] whole = looked_call whole
   barrier_init_of at (x ∷ []) whole = looked_call whole
   barrier_init_of at (x ∷ y ∷ []) whole = looked_call whole
   barrier_init_of at (x ∷ y ∷ z ∷ []) whole =
-      let made = λ (o : ObjectPlace) (n : Expression). Statement.Thread at (ThreadCall.BarrierInit o n) in
-      makes_quiet (a.address_argument s Barrier x) (λ o. a.null_argument s y >> (a.value_argument s z >>= (λ n. pure (made o n)))) (quiet_address s Barrier x)
-      (λ o. makes_quiet (a.null_argument s y) (λ _. a.value_argument s z >>= (λ n. pure (made o n))) (quiet_null_argument s y)
-      (λ _. makes_nothing (a.value_argument s z) (λ n. made o n) (quiet_value_argument s z)))
+      let made = λ (o : Cut ObjectPlace) (n : Cut Expression). c.thread_call at n.cuts (ThreadCall.BarrierInit o.rest n.rest) in
+      makes_quiet (a.address_argument s Barrier x at (free_from s.kept_from)) (λ o. a.null_argument s y >> (a.value_argument s z at o.cuts >>= (λ n. pure (made o n))))
+      (quiet_address s Barrier x at (free_from s.kept_from))
+      (λ o. makes_quiet (a.null_argument s y) (λ _. a.value_argument s z at o.cuts >>= (λ n. pure (made o n))) (quiet_null_argument s y)
+      (λ _. makes_nothing (a.value_argument s z at o.cuts) (λ n. made o n) (quiet_value_argument s z at o.cuts)))
   barrier_init_of at (x ∷ y ∷ z ∷ w ∷ more) whole = looked_call whole
 
-  object_of_list : (function : LibraryFunction) (at : ℕ) (list whole : List Argument) → MakesIt (c.object_call_of s function at whole (c.one list))
+  object_of_list : (function : LibraryFunction) (at : ℕ) (list whole : List Argument) → MakesIt (c.object_call_of s function at whole (one list))
   unfolding c.object_statement
   object_of_list function at [] whole = looked_call whole
   object_of_list function at (x ∷ []) whole =
-      makes_nothing (a.address_argument s (c.object_kind function) x) (λ o. Statement.Thread at (c.on_object function o)) (quiet_address s (c.object_kind function) x)
+      makes_nothing (a.address_argument s (c.object_kind function) x at (free_from s.kept_from)) (λ o. c.thread_call at o.cuts (c.on_object function o.rest))
+      (quiet_address s (c.object_kind function) x at (free_from s.kept_from))
   object_of_list function at (x ∷ y ∷ more) whole = looked_call whole
 
   object_call : (function : LibraryFunction) (at : ℕ) (list : List Argument) → MakesIt (c.object_call s function at list)
@@ -308,11 +326,11 @@ module _ (s : Scope) where
   unfolding c.print_call c.print_arguments
   print_call at name_at [] = makes_nothing (finds rule.Format name_at) (λ _. Statement.Empty) (quiet_finds rule.Format name_at)
   print_call at name_at (first ∷ values) =
-      let valued = a.value_arguments s values >>= (λ v. pure (c.printed at (c.format first) v)) in
-      makes_quiet (finds_if (not (c.takes (c.format first) (length values))) rule.Format (a.argument_offset first)) (λ _. argument s first >> valued)
-      (quiet_if (not (c.takes (c.format first) (length values))) rule.Format (a.argument_offset first))
-      (λ _. makes_quiet (argument s first) (λ _. valued) (q.quiet_argument s first)
-      (λ _. makes_nothing (a.value_arguments s values) (λ v. c.printed at (c.format first) v) (quiet_value_arguments s values)))
+      let valued = all_passed s values at (free_from s.kept_from) >>= (λ v. pure (c.printed at (c.format first) v)) in
+      makes_quiet (finds_if (not (c.takes (c.format first) (length values))) rule.Format (argument_offset first)) (λ _. looked_argument s first >> valued)
+      (quiet_if (not (c.takes (c.format first) (length values))) rule.Format (argument_offset first))
+      (λ _. makes_quiet (looked_argument s first) (λ _. valued) (q.quiet_argument s first).looked
+      (λ _. makes_nothing (all_passed s values at (free_from s.kept_from)) (λ v. c.printed at (c.format first) v) (quiet_all_passed s values at (free_from s.kept_from))))
 
   library_statement : (function : LibraryFunction) (at name_at : ℕ) (list : List Argument) → MakesIt (c.library_statement s function at name_at list)
   unfolding c.library_statement c.create_call c.join_call c.exit_call c.mutex_init_call c.barrier_init_call
@@ -334,48 +352,27 @@ module _ (s : Scope) where
       makes_quiet (library_name s function (length list) name_at) (λ _. c.library_statement s function at name_at list) (q.quiet_library_name s function (length list) name_at)
       (λ _. library_statement function at name_at list)
 
-  quiet_function_call : (header : ℕ) (is_value : Bool) (name_at : ℕ) (list : List Argument) → IsQuiet (c.function_call s header is_value name_at list)
-  unfolding c.function_call
-  quiet_function_call header is_value name_at list =
-      quiet_then (function_name s header (length list) is_value name_at) (λ d. a.value_arguments s list >>= (λ v. pure (d, v)))
-      (q.quiet_function_name s header (length list) is_value name_at)
-      (λ d. quiet_then (a.value_arguments s list) (λ v. pure (d, v)) (quiet_value_arguments s list) (λ v. quiet_pure (d, v)))
-
   function_statement : (header at name_at : ℕ) (list : List Argument) → MakesIt (c.function_statement s header at name_at list)
   unfolding c.function_statement
   function_statement header at name_at list =
-      makes_nothing (c.function_call s header false name_at list) (λ x. c.called at x.0 x.1) (quiet_function_call header false name_at list)
+      makes_quiet (function_name s header (length list) false name_at) (λ d. all_passed s list at (free_from s.kept_from) >>= (λ values. pure (c.called at d values)))
+      (q.quiet_function_name s header (length list) false name_at)
+      (λ d. makes_nothing (all_passed s list at (free_from s.kept_from)) (λ values. c.called at d values) (quiet_all_passed s list at (free_from s.kept_from)))
 
-  no_function : (k : Known) (name_at : ℕ) (list : List Argument) → MakesIt (c.no_function s k name_at list)
-  unfolding c.no_function
-  no_function k name_at list =
-      makes_quiet (finds_if (a.is_unknown k) rule.Unknown name_at) (λ _. finds_if (a.is_usable k) rule.Kind name_at >> c.looked_call s list)
-      (quiet_if (a.is_unknown k) rule.Unknown name_at)
-      (λ _. makes_quiet (finds_if (a.is_usable k) rule.Kind name_at) (λ _. c.looked_call s list) (quiet_if (a.is_usable k) rule.Kind name_at) (λ _. looked_call list))
+  other_call : (k : Known) (name_at : ℕ) (list : List Argument) → MakesIt (c.other_call s k name_at list)
+  unfolding c.other_call
+  other_call k name_at list = makes_quiet (no_function k name_at) (λ _. c.looked_call s list) (q.quiet_no_function k name_at) (λ _. looked_call list)
 
   call_of : (k : Known) (at name_at : ℕ) (list : List Argument) → MakesIt (c.call_of s k at name_at list)
   unfolding c.call_of
   call_of (known.Library function) at name_at list = library_call function at name_at list
   call_of (known.Declared (meaning.Function header)) at name_at list = function_statement header at name_at list
-  call_of (known.Declared (meaning.Variable v)) at name_at list = no_function (known.Declared (meaning.Variable v)) name_at list
-  call_of (known.Declared meaning.Argument) at name_at list = no_function (known.Declared meaning.Argument) name_at list
-  call_of (known.Declared (meaning.Object o)) at name_at list = no_function (known.Declared (meaning.Object o)) name_at list
-  call_of (known.Declared meaning.Unusable) at name_at list = no_function (known.Declared meaning.Unusable) name_at list
-  call_of known.Unknown at name_at list = no_function known.Unknown name_at list
+  call_of (known.Declared (meaning.Variable v)) at name_at list = other_call (known.Declared (meaning.Variable v)) name_at list
+  call_of (known.Declared meaning.Argument) at name_at list = other_call (known.Declared meaning.Argument) name_at list
+  call_of (known.Declared (meaning.Object o)) at name_at list = other_call (known.Declared (meaning.Object o)) name_at list
+  call_of (known.Declared meaning.Unusable) at name_at list = other_call (known.Declared meaning.Unusable) name_at list
+  call_of known.Unknown at name_at list = other_call known.Unknown name_at list
 
   pub call_makes : (at : ℕ) (x : CallTree) → MakesIt (c.call s at x)
   unfolding c.call
   call_makes at x = call_of (look_up s (out-Call x).name.bytes) at (out-Call x).name.offset (out-Call x).arguments
-
-  right_from : (at slot : ℕ) (e : ExpressionTree) (r : Option (ℕ × CallTree)) → IsQuiet (c.right_from s at slot e r)
-  unfolding c.right_call c.right_value
-  right_from at slot e (Some r) =
-      let list = (out-Call r.1).arguments in
-      let name_at = (out-Call r.1).name.offset in
-      let made = λ (x : Option ℕ × List Expression). c.called_value at slot (c.value_type (slice_get s.headers r.0)) x.0 x.1 in
-      quiet_then (c.function_call s r.0 true name_at list) (λ x. pure (made x)) (quiet_function_call r.0 true name_at list) (λ x. quiet_pure (made x))
-  right_from at slot e None = quiet_then (value s e) (λ x. pure (uncut x)) (quiet_value s e) (λ x. quiet_pure (uncut x))
-
-  pub quiet_right : (at slot : ℕ) (e : ExpressionTree) → IsQuiet (c.right_side s at slot e)
-  unfolding c.right_side
-  quiet_right at slot e = right_from at slot e (c.function_called s e)

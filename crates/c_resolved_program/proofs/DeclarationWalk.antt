@@ -12,6 +12,7 @@ use Rattle.c_tree.specs.declared.declaration.ExternalDeclaration.{ExternalDeclar
 use Rattle.c_tree.specs.declared.declaration.ExternalDeclaration.TheVariants as external
 use Rattle.c_program.specs.Tree.{Function, Program}
 use Rattle.c_program.specs.Resolved.{IsName}
+use Rattle.c_rules.specs.Dimensions.{elements}
 use Rattle.c_rules.specs.declared.names.ObjectKind.{ObjectKind}
 use Rattle.c_rules.specs.declared.names.ObjectKind.TheVariants.{Thread, Mutex, Barrier}
 use Rattle.c_rules.specs.declared.names.Header.{Header}
@@ -27,7 +28,7 @@ use Rattle.c_resolved_program.specs.Laws.{IsNumbered}
 use Rattle.c_resolved_program.specs.Leaves.{AreValid, expression_leaves, initializer_leaves, global_leaves, function_leaves, external_leaves, of_any, of_each}
 use Rattle.c_resolved_program.specs.Orders.{left, given, IsFront, GivesRoutines}
 use Rattle.c_resolved_program.proofs.Walks.{outcome, turn, IfAny}
-use Rattle.c_resolved_program.proofs.Arguments.{element_is}
+use Rattle.c_resolved_program.proofs.Elements.{element_is}
 use Rattle.c_resolved_program.proofs.Steps.{next_in}
 use Rattle.c_resolved_program.proofs.Functions.{defined_at}
 use Rattle.c_resolved_program.proofs.Filed.{headed}
@@ -88,7 +89,7 @@ global_fronts d x z (inl v) = subst (λ t. AreFronts x.tables t) (sym v.tables) 
     record {
       name = g.text d.name.bytes;
       ty = c_type v.variable.ty;
-      length = unwrap_or v.variable.length 1;
+      length = elements v.variable.dimensions;
       initial = v.values;
     } ∷ [],
     refl,
@@ -157,7 +158,7 @@ module _ (X : File) (main : ℕ) (numbered : IsNumbered (program_at X main)) (gi
   global_left_is : (words : Spelled) (pointer : Bool) (d : GlobalDeclarator) (x : File) → AreValid (global_leaves d) →
       IsWithin X (left (g.global words pointer d x)) → IsGlobalLeft X.found d x (left (g.global words pointer d x))
   global_left_is words pointer d x valid within =
-      let size = of_any expression_leaves d.length in
+      let size = of_each expression_leaves d.lengths in
       let values = of_any initializer_leaves d.initializer in
       global_left X.found P nobody words pointer d x (all_front _ size values valid.1) (all_back _ size values valid.1) within.found
 

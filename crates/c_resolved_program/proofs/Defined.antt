@@ -17,7 +17,7 @@ use Rattle.c_rules.specs.Names.{is_start_routine, is_pointer_alone, is_void_poin
 use Rattle.c_rules.specs.Walks.{place_in_tree}
 use Rattle.c_resolved_program.specs.Gathered.{IsFound}
 use Rattle.c_resolved_program.proofs.Arguments.{routine_returns}
-use Rattle.c_resolved_program.proofs.Calls.{no_pointer_by}
+use Rattle.c_resolved_program.proofs.Called.{no_pointer_by}
 use Rattle.c_resolved_program.proofs.Definitions.{IsDefined}
 
 -- ---- each function that is called is there

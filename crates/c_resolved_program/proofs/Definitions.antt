@@ -57,7 +57,7 @@ pub record IsReady (P : Program) (number : ℕ) (f : FunctionTree) (h : Header) 
 
 -- what it gives
 pub record IsDefined (whole : Findings) (P : Program) (number : ℕ) (h : Header) (code : Function) : Type 0 where
-  pub body : IsInOrder whole P number code false code.body
+  pub body : IsInOrder whole P number code r.nowhere code.body
   pub fits : HasSlots code code.body
   pub front : code.parameters ≤ code.declared_locals
   pub declared_ : code.declared_locals ≤ length code.locals
@@ -90,7 +90,7 @@ module _ (whole : Findings) (P : Program) (given_routines : GivesRoutines whole 
   definition_in_order small ready part =
       let number = place_in_tree count in
       let claim = block_claim whole P number code given_routines small body in
-      let does = claim.does valid false in
+      let does = claim.does valid false false in
       let from = y.kept_from (length after_head.scope.locals) body in
       let end = max from (slots_end (given behind)) in
       let own = (left behind).scope.locals in
@@ -109,7 +109,7 @@ module _ (whole : Findings) (P : Program) (given_routines : GivesRoutines whole 
       let all = only_parameters ∙ added.longs only.0 only.1 only.2 in
       ap (λ l. slice_get l 0) (sym whole_front.1 ∙ ap (λ l. l ++ whole_front.0) all) in
       let singles = subst (λ l. AllByRecursion (λ (z : LocalVariable). z.length ≡ 1) l) (sym only_parameters) added.singles in
-      let holds : Holds P number code false within = record {
+      let holds : Holds P number code r.nowhere within = record {
         orderly = record {
           inner = added.names begun.locals routine_local tt;
           outer = subst (λ l. AllByRecursion (AreMeant P code) l) (sym moved.outer) (outer_more ready.outer ready.inner);
@@ -118,6 +118,7 @@ module _ (whole : Findings) (P : Program) (given_routines : GivesRoutines whole 
           gives = subst (λ g. IsGiven g (y.return_type h)) (sym (moved.gives ∙ ready.gives)) (given_is h ready.listed);
           kept = record { first = refl; slots = λ k ge lt. record { behind = ge; local = slots_at end own k (le_trans declared_most ge) lt } };
         };
+        exits = λ _. refl;
         loops = λ _. refl;
         lengths = positive_all after_head.scope.locals singles;
       } in
@@ -153,7 +154,7 @@ module _ (whole : Findings) (P : Program) (given_routines : GivesRoutines whole 
       holds_from : (m from end n : ℕ) → n ≡ max m (max from end) → from ≤ n
       holds_from m from end n long = grind arith
 
-      few_more : (m from end n w : ℕ) → n ≡ max m (max from end) → m ≤ from → end ≤ from + 1 → n ≤ from + (w + 3)
+      few_more : (m from end n w : ℕ) → n ≡ max m (max from end) → m ≤ from → end ≤ from + (w + 3) → n ≤ from + (w + 3)
       few_more m from end n w long le some = grind arith
 
       below : (k n : ℕ) → k < place_in_tree n → k < n

@@ -1,11 +1,15 @@
 -- The leaves of expressions are among what their tokens are.
-use Rattle.std.proofs.Common.{ℕ, zero, suc, List, [], ◌∷◌, ◌++◌, Option}
-use Rattle.std.specs.Prelude.{fold, reverse, ⊤}
+use Rattle.std.proofs.Common.{◌≡◌, ◌∙◌, refl, ap, subst, ℕ, zero, suc, Bool, true, false, List, [], ◌∷◌, ◌++◌, Option, Some, None, eqb-true}
+use Rattle.std.specs.Prelude.{◌==◌, nat_le, fold, if◌then◌else◌, reverse, ⊤}
+use Rattle.std.proofs.lemmas.Option.{same_Some, none-some}
 use Rattle.std.specs.List.{AllByRecursion}
 use Rattle.c_token.specs.declared.keyword.Keyword.TheVariants as k
 use Rattle.c_token.specs.declared.punctuator.Punctuator.TheVariants as p
+use Rattle.c_token.specs.declared.punctuator.Punctuator.{Punctuator}
 use Rattle.c_token.specs.declared.token.Token.{Token}
-use Rattle.grammar.specs.Rules.{pure, one, ◌<|>◌, optional, ◌>>=◌, ◌>>◌}
+use Rattle.c_tree.specs.declared.expression.BinaryOperator.{BinaryOperator}
+use Rattle.c_expressions.specs.Expressions.{is_short_circuit}
+use Rattle.grammar.specs.Rules.{pure, one, ◌<|>◌, ◌>>=◌, ◌>>◌}
 use Rattle.c_tree.specs.declared.sign.Sign.{Sign}
 use Rattle.c_tree.specs.declared.sign.Sign.TheVariants.{Word, Mark}
 use Rattle.c_tree.specs.declared.expression.Name.{Name}
@@ -14,16 +18,16 @@ use Rattle.c_tree.specs.declared.expression.Expression.{Expression}
 use Rattle.c_tree.specs.declared.expression.Choice.{Choice}
 use Rattle.c_tree.specs.declared.expression.Argument.{Argument}
 use Rattle.c_tree.specs.declared.expression.Form.TheVariants as form
-use Rattle.c_tree.specs.Tokens.{sign_at, name_at, constant_at, text_at, type_word_at, first_word_at, unary_at, binary_at}
+use Rattle.c_tree.specs.Tokens.{sign_at, name_at, constant_at, text_at, type_word_at, first_word_at, unary_at, binary_at, binary_of, at_level, binding, of_mark, mark_of, with_place}
 use Rattle.c_tree.specs.Trees as tree
 use Rattle.c_tree.specs.Expressions as g
 use Rattle.c_tree.specs.Expressions.{Phrase}
 use Rattle.c_program.specs.Resolved.{IsName}
 use Rattle.c_resolved_program.proofs.Lists.{all_both, all_reverse}
-use Rattle.c_resolved_program.proofs.ValidSentences.{Gives, gives_none, gives_pure, gives_one, gives_then, gives_either, gives_nested, gives_each, gives_optional}
+use Rattle.c_resolved_program.proofs.ValidSentences.{Gives, gives_none, gives_pure, gives_one, gives_then, gives_either, gives_nested, gives_each}
 use Rattle.c_resolved_program.proofs.Tokens.{IsValidToken, name_valid, constant_valid, text_valid}
 use Rattle.c_resolved_program.proofs.ExpressionGrammar as t
-use Rattle.c_resolved_program.proofs.ExpressionGrammar.{IsExpression, IsTerm, IsChoice, IsPlace, IsArgument, IsPointer}
+use Rattle.c_resolved_program.proofs.ExpressionGrammar.{IsExpression, IsChoice, IsPlace, IsArgument, IsPointer}
 use Rattle.c_resolved_program.proofs.Walks.{IfAny}
 
 -- what each sentence of a rule spells, whatever the number of its tokens
@@ -54,9 +58,61 @@ listed_gives item h =
 
 -- ---- the levels of binary operators
 
-term_gives : (level : ℕ) (operand : Phrase Expression) → Good IsExpression operand → Good IsTerm (g.term level operand)
+-- the operators of the last two levels are the short circuits
+abbrev is_short : ℕ → Bool
+is_short level = nat_le 9 level
+
+short_at : (level : ℕ) (x : ℕ × BinaryOperator) (o : BinaryOperator) → is_short_circuit x.1 ≡ is_short x.0 → (if x.0 == level then Some x.1 else None) ≡ Some o →
+    is_short_circuit o ≡ is_short level
+short_at level x o is at = by (x.0 == level) refl at
+  where
+    by : (b : Bool) → (x.0 == level) ≡ b → (if b then Some x.1 else None) ≡ Some o → is_short_circuit o ≡ is_short level
+    by true same at = subst (λ y. is_short_circuit y ≡ is_short level) (same_Some x.1 o at) (is ∙ ap is_short (eqb-true x.0 level same))
+    by false same at = absurd (none-some o at)
+
+binding_short : (mark : Punctuator) → IfAny (λ (x : ℕ × BinaryOperator). is_short_circuit x.1 ≡ is_short x.0) (binding mark)
+binding_short p.Star = refl
+binding_short p.Slash = refl
+binding_short p.Percent = refl
+binding_short p.Plus = refl
+binding_short p.Minus = refl
+binding_short p.ShiftLeft = refl
+binding_short p.ShiftRight = refl
+binding_short p.Less = refl
+binding_short p.Greater = refl
+binding_short p.LessEqual = refl
+binding_short p.GreaterEqual = refl
+binding_short p.EqualEqual = refl
+binding_short p.NotEqual = refl
+binding_short p.And = refl
+binding_short p.Xor = refl
+binding_short p.Or = refl
+binding_short p.AndAnd = refl
+binding_short p.OrOr = refl
+binding_short _ = tt
+
+short_by : (level : ℕ) (x : Option (ℕ × BinaryOperator)) (o : BinaryOperator) → IfAny (λ (x : ℕ × BinaryOperator). is_short_circuit x.1 ≡ is_short x.0) x →
+    at_level level x ≡ Some o → is_short_circuit o ≡ is_short level
+short_by level None o is at = absurd (none-some o at)
+short_by level (Some x) o is at = short_at level x o is at
+
+marked : (mark : Option Punctuator) → IfAny (λ (x : ℕ × BinaryOperator). is_short_circuit x.1 ≡ is_short x.0) (of_mark binding mark)
+marked None = tt
+marked (Some mark) = binding_short mark
+
+placed_by : (at : ℕ) (o : Option BinaryOperator) (op : BinaryOperator × ℕ) → with_place at o ≡ Some op → o ≡ Some op.0
+placed_by at None op is = absurd (none-some op is)
+placed_by at (Some o) op is = ap (λ (x : BinaryOperator × ℕ). Some x.0) (same_Some (o, at) op is)
+
+operator_gives : (level : ℕ) → Good (λ (op : BinaryOperator × ℕ). is_short_circuit op.0 ≡ is_short level) (one (binary_at level))
+operator_gives level =
+    gives_one IsValidToken (binary_at level)
+    (λ t op valid e. short_by level (of_mark binding (mark_of t.kind)) op.0 (marked (mark_of t.kind)) (placed_by t.offset (binary_of level t) op e))
+
+term_gives : (level : ℕ) (operand : Phrase Expression) → Good IsExpression operand → Good (t.IsTermOf (is_short level)) (g.term level operand)
 term_gives level operand h =
-    gives_then IsValidToken _ _ (any_gives (binary_at level)) (λ _ op _. gives_then IsValidToken _ _ h (λ _ x is. gives_pure IsValidToken _ (t.term_is op x is)))
+    gives_then IsValidToken _ _ (operator_gives level)
+    (λ _ op short. gives_then IsValidToken _ _ h (λ _ x is. gives_pure IsValidToken _ (t.term_is (is_short level) op x short is)))
 
 binary_gives : (level : ℕ) (operand : Phrase Expression) → Good IsExpression operand → Good IsExpression (g.binary level operand)
 binary_gives zero operand h = h
@@ -64,7 +120,15 @@ binary_gives (suc level) operand h =
     let low = binary_gives level operand h in
     gives_then IsValidToken _ _ low
     (λ _ first is. gives_then IsValidToken _ _ (gives_each IsValidToken (term_gives (suc level) (g.binary level operand) low))
-    (λ _ more all. gives_pure IsValidToken _ (t.joined_is first more is all)))
+    (λ _ more all. gives_pure IsValidToken _ (t.joined_is (is_short (suc level)) first more is all)))
+
+-- no more than a number of parts
+pub at_most_gives : {A : Type 0} {Is : A → Type 0} (n : ℕ) (item : Phrase A) → Good Is item → Good (AllByRecursion Is) (g.at_most n item)
+at_most_gives zero item h = gives_pure IsValidToken _ tt
+at_most_gives (suc n) item h =
+    gives_either IsValidToken
+    (gives_then IsValidToken _ _ h (λ _ first is. gives_then IsValidToken _ _ (at_most_gives n item h) (λ _ more all. gives_pure IsValidToken _ (is, all))))
+    (gives_pure IsValidToken _ tt)
 
 module _ (cast expr : Phrase Expression) (of_cast : Good IsExpression cast) (of_expr : Good IsExpression expr) where
   -- what stands in the brackets of each rule
@@ -114,12 +178,12 @@ module _ (cast expr : Phrase Expression) (of_cast : Good IsExpression cast) (of_
       gives_nested IsValidToken in_brackets (gives_then IsValidToken _ _ (sign_gives (Mark p.OpenSquare))
       (λ _ at _. gives_then IsValidToken _ _ of_expr (λ _ x is. gives_then IsValidToken _ _ (sign_gives (Mark p.CloseSquare)) (λ _ _ _. gives_pure IsValidToken _ is))))
 
-  pub optional_index_gives : Good (IfAny IsExpression) (optional (g.index cast expr))
-  optional_index_gives = gives_optional IsValidToken (λ _ o. IfAny IsExpression o) tt (λ _ v is. is) index_gives
+  pub indices_give : Good (AllByRecursion IsExpression) (g.indices cast expr)
+  indices_give = at_most_gives 3 (g.index cast expr) index_gives
 
   pub place_gives : Good IsPlace (g.place cast expr)
   place_gives =
-      gives_then IsValidToken _ _ name_gives (λ _ x _. gives_then IsValidToken _ _ optional_index_gives (λ _ i is. gives_pure IsValidToken _ (t.place_is x i is)))
+      gives_then IsValidToken _ _ name_gives (λ _ x _. gives_then IsValidToken _ _ indices_give (λ _ i is. gives_pure IsValidToken _ (t.place_is x i is)))
 
   -- ---- pointers, arguments, calls
 
@@ -169,7 +233,7 @@ module _ (cast expr : Phrase Expression) (of_cast : Good IsExpression cast) (of_
   place_value_gives : Good IsExpression (g.place_value cast expr)
   place_value_gives =
       gives_then IsValidToken _ _ name_gives
-      (λ _ x _. gives_then IsValidToken _ _ optional_index_gives
+      (λ _ x _. gives_then IsValidToken _ _ indices_give
       (λ _ i is. gives_pure IsValidToken _ (t.expression_is x.offset (form.Place (tree.place x i)) (t.place_form (tree.place x i) (t.place_is x i is)))))
 
   call_value_gives : Good IsExpression (g.call_value cast expr)

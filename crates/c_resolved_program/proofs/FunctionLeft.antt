@@ -43,7 +43,7 @@ pub record Keeps (s t : Scope) : Type 0 where
 closed_keeps : (s t : Scope) → t.outer ≡ s.outer ++ s.inner ∷ [] → t.headers ≡ s.headers → t.definitions ≡ s.definitions → t.locals ≡ [] → Keeps s (closed t)
 unfolding opened
 closed_keeps s t outer headers definitions locals =
-    let as_it_is : Scope = record s { function = t.function; gives = t.gives; loops = t.loops } in
+    let as_it_is : Scope = record s { function = t.function; gives = t.gives; loops = t.loops; exits = t.exits } in
     let both = m.closed_moves as_it_is t (record {
       outer = outer;
       headers = headers;
@@ -51,6 +51,7 @@ closed_keeps s t outer headers definitions locals =
       function = refl;
       gives = refl;
       loops = le_refl t.loops;
+      exits = le_refl t.exits;
     }) in
     record {
       inner = both.1;
@@ -177,7 +178,7 @@ module _ (whole : Findings) (P : Program) (given_routines : GivesRoutines whole 
       let head = left (y.head f h count (state x.scope x.found)) in
       let within = before_body count body head in
       let ended : IsAhead whole code (left (body_at f h body x)) = record { found = part; locals = declared_front f (y.return_type h) count body head small } in
-      let begun = ((block_claim whole P (place_in_tree count) code given_routines small body).does valid false).back within ended in
+      let begun = ((block_claim whole P (place_in_tree count) code given_routines small body).does valid false false).back within ended in
       record { found = begun.found; fits = le_trans (front_le within.scope.locals (declared_in code) begun.locals) (declared_few code) }
 
   pub function_leaves_it : (f : FunctionTree) (h : Header) (x z : File) → left (y.function_by f h x) ≡ z → AreValid (of_any block_leaves f.body) →

@@ -14,6 +14,7 @@ use Rattle.c_rules.specs.declared.specifiers.BasicType.TheVariants.{Long}
 use Rattle.c_rules.specs.declared.specifiers.BaseType.{BaseType}
 use Rattle.c_rules.specs.declared.specifiers.BaseType.TheVariants as base
 use Rattle.c_rules.specs.declared.specifiers.Spelled.{Spelled}
+use Rattle.c_rules.specs.declared.dimensions.Dimensions.TheVariants.{Scalar}
 use Rattle.c_rules.specs.declared.names.Meaning.{Meaning}
 use Rattle.c_rules.specs.declared.names.Meaning.TheVariants as meaning
 use Rattle.c_rules.specs.declared.names.Header.{Header}
@@ -33,14 +34,14 @@ use Rattle.c_resolved_program.proofs.BodyScope as m
 -- ---- parameters leave the scopes round theirs
 
 moving_of : (words : Spelled) (at : ℕ) (ty : Option BasicType) → m.IsMoving (y.parameter_of words at ty)
-moving_of words at (Some ty) = m.moving_new_local words None ty
+moving_of words at (Some ty) = m.moving_new_local words Scalar ty
 moving_of words at None = m.moving_staying (finding (λ s. refused_local words at)) (m.staying_finding (λ s. refused_local words at))
 
 moving_pointer : (words : Spelled) (routine : Bool) (at : ℕ) → m.IsMoving (y.pointer_parameter words routine at)
 moving_pointer words routine at =
     let first : Goes (Unit {0}) = finding (λ s. finds_if (not routine) rule.Kind at) in
-    m.moving_then first (λ _. new_local words None Long >> pure meaning.Argument) (m.moving_staying first (m.staying_finding (λ s. finds_if (not routine) rule.Kind at)))
-    (λ _. m.moving_then (new_local words None Long) (λ _. pure meaning.Argument) (m.moving_new_local words None Long) (λ _. m.moving_pure meaning.Argument))
+    m.moving_then first (λ _. new_local words Scalar Long >> pure meaning.Argument) (m.moving_staying first (m.staying_finding (λ s. finds_if (not routine) rule.Kind at)))
+    (λ _. m.moving_then (new_local words Scalar Long) (λ _. pure meaning.Argument) (m.moving_new_local words Scalar Long) (λ _. m.moving_pure meaning.Argument))
 
 moving_if : (b : Bool) (v w : Goes Meaning) → m.IsMoving v → m.IsMoving w → m.IsMoving (if b then v else w)
 moving_if true v w h k = h

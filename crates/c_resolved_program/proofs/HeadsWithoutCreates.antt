@@ -10,6 +10,7 @@ use Rattle.c_rules.specs.declared.findings.Creation.{Creation}
 use Rattle.c_rules.specs.declared.specifiers.BasicType.{BasicType}
 use Rattle.c_rules.specs.declared.specifiers.BasicType.TheVariants.{Long}
 use Rattle.c_rules.specs.declared.specifiers.Spelled.{Spelled}
+use Rattle.c_rules.specs.declared.dimensions.Dimensions.TheVariants.{Scalar}
 use Rattle.c_rules.specs.declared.names.Meaning.{Meaning}
 use Rattle.c_rules.specs.declared.names.Meaning.TheVariants as meaning
 use Rattle.c_rules.specs.declared.names.Header.{Header}
@@ -69,14 +70,14 @@ none_declare_function h name second = record {
 -- ---- parameters
 
 none_of : (words : Spelled) (at : ℕ) (ty : Option BasicType) → MakesNone (y.parameter_of words at ty)
-none_of words at (Some ty) = k.making_new_local words None ty
+none_of words at (Some ty) = k.making_new_local words Scalar ty
 none_of words at None = k.making_quiet (λ s. refused_local words at) (λ s. k.quiet_refused_local words at)
 
 none_pointer : (words : Spelled) (routine : Bool) (at : ℕ) → MakesNone (y.pointer_parameter words routine at)
 none_pointer words routine at =
-    k.making_then (finding (λ s. finds_if (not routine) rule.Kind at)) (λ _. new_local words None Long >> pure meaning.Argument)
+    k.making_then (finding (λ s. finds_if (not routine) rule.Kind at)) (λ _. new_local words Scalar Long >> pure meaning.Argument)
     (k.making_quiet (λ s. finds_if (not routine) rule.Kind at) (λ s. quiet_if (not routine) rule.Kind at))
-    (λ _. k.making_then (new_local words None Long) (λ _. pure meaning.Argument) (k.making_new_local words None Long)
+    (λ _. k.making_then (new_local words Scalar Long) (λ _. pure meaning.Argument) (k.making_new_local words Scalar Long)
     (λ _. k.making_pure meaning.Argument (λ c earlier. earlier)))
 
 none_meaning : (p : Parameter) (routine : Bool) (at : ℕ) → MakesNone (y.parameter_meaning p routine at)

@@ -1,6 +1,6 @@
 -- What a name stands for in a scope that is in order, and what objects, constants and casts give.
-use Rattle.std.proofs.Common.{◌≡◌, refl, ℕ, Bool, true, false, List, [], ◌∷◌, Option, Some, None, sym}
-use Rattle.std.specs.Prelude.{fold, unwrap_or, is_some, if◌then◌else◌, ⊤}
+use Rattle.std.proofs.Common.{◌≡◌, refl, subst, ℕ, ◌≤◌, Bool, true, false, List, [], ◌∷◌, Option, Some, None, sym, arith}
+use Rattle.std.specs.Prelude.{◌+◌, fold, nat_eq, if◌then◌else◌, ⊤}
 use Rattle.std.specs.List.{AllByRecursion}
 use Rattle.std.specs.Str.{bytes_eq}
 use Rattle.std.proofs.lemmas.Option.{none-some}
@@ -8,11 +8,14 @@ use Rattle.hls_ints.specs.Types.{HasType}
 use Rattle.c_token.specs.declared.constant.Constant.{Constant}
 use Rattle.c_token.specs.declared.constant.Constant.TheVariants as constant
 use Rattle.c_program.specs.Tree.{Expression, Function, Program}
+use Rattle.c_program.specs.Weight.{expression_weight}
 use Rattle.c_program.specs.Resolved.{IsExpression, IsObject}
 use Rattle.c_rules.specs.declared.fault.Rule.TheVariants as rule
 use Rattle.c_rules.specs.declared.findings.Findings.{Findings}
 use Rattle.c_rules.specs.declared.constants.Typed.{Typed}
 use Rattle.c_rules.specs.declared.library.LibraryFunction.{LibraryFunction}
+use Rattle.c_rules.specs.declared.dimensions.Dimensions.{Dimensions}
+use Rattle.c_rules.specs.declared.dimensions.Dimensions.TheVariants.{Scalar, One, Two, Three}
 use Rattle.c_rules.specs.declared.names.Meaning.{Meaning}
 use Rattle.c_rules.specs.declared.names.Meaning.TheVariants as meaning
 use Rattle.c_rules.specs.declared.names.Known.{Known}
@@ -20,15 +23,17 @@ use Rattle.c_rules.specs.declared.names.Known.TheVariants as known
 use Rattle.c_rules.specs.declared.names.Variable.{Variable}
 use Rattle.c_rules.specs.declared.names.Scope.{Scope}
 use Rattle.c_rules.specs.Constants.{constant_value}
+use Rattle.c_rules.specs.Dimensions.{count, elements}
 use Rattle.c_rules.specs.Levels.{named_in}
 use Rattle.c_rules.specs.Library.{function_named}
 use Rattle.c_rules.specs.Names.{Names, or_else, declared, declared_outside, look_up, is_argument, known_by}
 use Rattle.c_rules.specs.Specifiers.{c_type}
-use Rattle.c_rules.specs.Walks.{pure, finds, finds_any}
+use Rattle.c_rules.specs.Walks.{pure, finds}
 use Rattle.c_expressions.specs.Expressions as e
 use Rattle.c_resolved_program.specs.Leaves.{IsValidConstant}
-use Rattle.c_resolved_program.specs.Orders.{IsMeant, IsOrderly}
-use Rattle.c_resolved_program.proofs.Walks.{Shows, shows_pure, shows_then, shows_as, shows_broken, shows_any, IfAny}
+use Rattle.c_resolved_program.specs.Orders.{AreLengths, IsMeant, IsOrderly}
+use Rattle.c_resolved_program.proofs.Callees.{IsApart}
+use Rattle.c_resolved_program.proofs.Walks.{Shows, shows_pure, shows_then, shows_as, shows_broken, IfAny}
 
 -- ---- names
 
@@ -93,15 +98,18 @@ module _ (P : Program) (f : Function) where
   argument_is (known.Library function) is h = cc
   argument_is known.Unknown is h = cc
 
-  misuse-some : (k : Known) (indexed : Bool) → e.variable_of k ≡ None → IsKnown P f k → e.misuse k indexed ≡ None → ⊥
-  misuse-some known.Unknown indexed apart is h = none-some rule.Unknown (sym h)
-  misuse-some (known.Declared meaning.Argument) false apart is h = none-some rule.Threads (sym h)
-  misuse-some (known.Declared meaning.Argument) true apart is h = none-some rule.Kind (sym h)
-  misuse-some (known.Declared meaning.Unusable) indexed apart is h = is
-  misuse-some (known.Declared (meaning.Variable v)) indexed apart is h = none-some v (sym apart)
-  misuse-some (known.Declared (meaning.Object o)) indexed apart is h = none-some rule.Kind (sym h)
-  misuse-some (known.Declared (meaning.Function number)) indexed apart is h = none-some rule.Kind (sym h)
-  misuse-some (known.Library function) indexed apart is h = none-some rule.Kind (sym h)
+  argument_misused : (b : Bool) → (if b then Some rule.Threads else Some rule.Kind) ≡ None → ⊥
+  argument_misused true h = none-some rule.Threads (sym h)
+  argument_misused false h = none-some rule.Kind (sym h)
+
+  misuse-some : (k : Known) (indices : ℕ) → e.variable_of k ≡ None → IsKnown P f k → e.misuse k indices ≡ None → ⊥
+  misuse-some known.Unknown indices apart is h = none-some rule.Unknown (sym h)
+  misuse-some (known.Declared meaning.Argument) indices apart is h = argument_misused (nat_eq indices 0) h
+  misuse-some (known.Declared meaning.Unusable) indices apart is h = is
+  misuse-some (known.Declared (meaning.Variable v)) indices apart is h = none-some v (sym apart)
+  misuse-some (known.Declared (meaning.Object o)) indices apart is h = none-some rule.Kind (sym h)
+  misuse-some (known.Declared (meaning.Function number)) indices apart is h = none-some rule.Kind (sym h)
+  misuse-some (known.Library function) indices apart is h = none-some rule.Kind (sym h)
 
   constant_is : (c : Constant) → IsValidConstant c → IfAny (λ (x : Typed). HasType x.ty x.number) (constant_value c)
   constant_is (constant.Typed value ty) is = is
@@ -121,32 +129,80 @@ module _ (P : Program) (f : Function) where
     unfolding e.constant
     constant_shows c at = shows_as (e.constant_from (constant_value c) at) (constant_is c) (λ a _ is. is) (constant_from_shows (constant_value c) at)
 
-    -- ---- objects
+  -- ---- objects
 
-    object_value_at : (at : ℕ) (v : Variable) (size : Option ℕ) (index : Option Expression) →
-        Shows whole (IsObject P f v.storage v.number (unwrap_or size 1) (c_type v.ty) × IsIndex index) Is (e.object_value at v size index)
-    unfolding e.object_value
-    object_value_at at v None None = shows_pure (Expression.Variable v.storage v.number (c_type v.ty)) (λ b. b.0)
-    object_value_at at v (Some size) (Some index) = shows_pure (Expression.Element v.storage v.number size (c_type v.ty) index) (λ b. b)
-    object_value_at at v None (Some index) = refused_shows rule.Kind at
-    object_value_at at v (Some size) None = refused_shows rule.Kind at
+  -- the number of an element by as many indices as there are dimensions
+  abbrev pub IsNumber : Dimensions → Option Expression → Type 0
+  IsNumber Scalar None = ⊤
+  IsNumber Scalar (Some number) = ⊥
+  IsNumber (One a) None = ⊥
+  IsNumber (One a) (Some number) = Is number
+  IsNumber (Two a b) None = ⊥
+  IsNumber (Two a b) (Some number) = Is number
+  IsNumber (Three a b c) None = ⊥
+  IsNumber (Three a b c) (Some number) = Is number
 
-    misused_shows : (k : Known) (indexed : Bool) (at : ℕ) → e.variable_of k ≡ None → Shows whole (IsKnown P f k) Is (e.misused k indexed at)
-    unfolding e.misused
-    misused_shows k indexed at apart =
-        shows_then (finds_any (e.misuse k indexed) at) (λ _. pure e.nothing) (shows_any (e.misuse k indexed) at)
-        (λ _. shows_pure e.nothing (λ b. absurd (misuse-some k indexed apart b.0 b.1)))
+  object_by : (v : Variable) (d : Dimensions) (number : Option Expression) → IsObject P f v.storage v.number (elements v.dimensions) (c_type v.ty) →
+      elements v.dimensions ≡ elements d → IsNumber d number → Is (e.object_value v number)
+  object_by v Scalar None is same so = subst (λ n. IsObject P f v.storage v.number n (c_type v.ty)) same is
+  object_by v Scalar (Some number) is same so = absurd so
+  object_by v (One a) None is same so = absurd so
+  object_by v (One a) (Some number) is same so = (is, so)
+  object_by v (Two a b) None is same so = absurd so
+  object_by v (Two a b) (Some number) is same so = (is, so)
+  object_by v (Three a b c) None is same so = absurd so
+  object_by v (Three a b c) (Some number) is same so = (is, so)
 
-    no_variable_shows : (k : Known) (at : ℕ) (index : Option Expression) → e.variable_of k ≡ None →
-        Shows whole (IsKnown P f k × IsIndex index) Is (e.misused k (is_some index) at)
-    no_variable_shows k at index apart = shows_as (e.misused k (is_some index) at) (λ b. b.0) (λ a _ is. is) (misused_shows k (is_some index) at apart)
+  counted : (b : Bool) → (if b then None else Some rule.Kind) ≡ None → b ≡ true
+  counted true h = refl
+  counted false h = absurd (none-some rule.Kind (sym h))
 
-    pub named_value_shows : (k : Known) (at : ℕ) (index : Option Expression) → Shows whole (IsKnown P f k × IsIndex index) Is (e.named_value k at index)
-    unfolding e.named_value
-    named_value_shows (known.Declared (meaning.Variable v)) at index = object_value_at at v v.length index
-    named_value_shows (known.Declared meaning.Argument) at index = no_variable_shows (known.Declared meaning.Argument) at index refl
-    named_value_shows (known.Declared meaning.Unusable) at index = no_variable_shows (known.Declared meaning.Unusable) at index refl
-    named_value_shows (known.Declared (meaning.Object o)) at index = no_variable_shows (known.Declared (meaning.Object o)) at index refl
-    named_value_shows (known.Declared (meaning.Function number)) at index = no_variable_shows (known.Declared (meaning.Function number)) at index refl
-    named_value_shows (known.Library function) at index = no_variable_shows (known.Library function) at index refl
-    named_value_shows known.Unknown at index = no_variable_shows known.Unknown at index refl
+  -- a name that is not misused has a value, where its indices give a number if they are as many as its dimensions
+  pub named_value_is : (k : Known) (indices : ℕ) (number : Option Expression) → IsKnown P f k → e.misuse k indices ≡ None →
+      (nat_eq (count (e.dimensions_of (e.variable_of k))) indices ≡ true → IsNumber (e.dimensions_of (e.variable_of k)) number) → Is (e.named_value (e.variable_of k) number)
+  named_value_is (known.Declared (meaning.Variable v)) indices number is none so =
+      object_by v v.dimensions number is.0 refl (so (counted (nat_eq (count v.dimensions) indices) none))
+  named_value_is (known.Declared meaning.Argument) indices number is none so = absurd (misuse-some (known.Declared meaning.Argument) indices refl is none)
+  named_value_is (known.Declared meaning.Unusable) indices number is none so = absurd is
+  named_value_is (known.Declared (meaning.Object o)) indices number is none so = absurd (none-some rule.Kind (sym none))
+  named_value_is (known.Declared (meaning.Function n)) indices number is none so = absurd (none-some rule.Kind (sym none))
+  named_value_is (known.Library function) indices number is none so = absurd (none-some rule.Kind (sym none))
+  named_value_is known.Unknown indices number is none so = absurd (none-some rule.Unknown (sym none))
+
+  -- the lengths of a name's dimensions
+  pub dimensions_are : (k : Known) → IsKnown P f k → AreLengths (e.dimensions_of (e.variable_of k))
+  dimensions_are (known.Declared (meaning.Variable v)) is = is.1
+  dimensions_are (known.Declared meaning.Argument) is = tt
+  dimensions_are (known.Declared meaning.Unusable) is = tt
+  dimensions_are (known.Declared (meaning.Object o)) is = tt
+  dimensions_are (known.Declared (meaning.Function n)) is = tt
+  dimensions_are (known.Library function) is = tt
+  dimensions_are known.Unknown is = tt
+
+  -- the room that the number of an element takes
+  abbrev pub number_room : Option Expression → ℕ
+  number_room None = 0
+  number_room (Some number) = expression_weight number + 1
+
+  object_room : (v : Variable) (number : Option Expression) → number_room number ≤ expression_weight (e.object_value v number) + 1
+  object_room v None = omega arith
+  object_room v (Some number) = omega arith
+
+  pub named_room : (k : Known) (indices : ℕ) (number : Option Expression) → IsKnown P f k → e.misuse k indices ≡ None →
+      number_room number ≤ expression_weight (e.named_value (e.variable_of k) number) + 1
+  named_room (known.Declared (meaning.Variable v)) indices number is none = object_room v number
+  named_room (known.Declared meaning.Argument) indices number is none = absurd (misuse-some (known.Declared meaning.Argument) indices refl is none)
+  named_room (known.Declared meaning.Unusable) indices number is none = absurd is
+  named_room (known.Declared (meaning.Object o)) indices number is none = absurd (none-some rule.Kind (sym none))
+  named_room (known.Declared (meaning.Function n)) indices number is none = absurd (none-some rule.Kind (sym none))
+  named_room (known.Library function) indices number is none = absurd (none-some rule.Kind (sym none))
+  named_room known.Unknown indices number is none = absurd (none-some rule.Unknown (sym none))
+
+  pub known_apart : (k : Known) → IsKnown P f k → IsApart k
+  known_apart (known.Declared (meaning.Variable v)) is = tt
+  known_apart (known.Declared meaning.Argument) is = tt
+  known_apart (known.Declared meaning.Unusable) is = is
+  known_apart (known.Declared (meaning.Object o)) is = tt
+  known_apart (known.Declared (meaning.Function n)) is = tt
+  known_apart (known.Library function) is = tt
+  known_apart known.Unknown is = tt

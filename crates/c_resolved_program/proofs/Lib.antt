@@ -1,4 +1,9 @@
 pub mod Walks
+pub mod Elements
+pub mod Fits
+pub mod Called
+pub mod Cuts
+pub mod Behind
 pub mod Known
 pub mod Callees
 pub mod Pieces

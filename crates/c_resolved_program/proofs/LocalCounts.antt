@@ -1,6 +1,6 @@
 -- How many locals a part of a function declares at most.
 use Rattle.std.proofs.Common.{◌≡◌, refl, ap, ℕ, ◌≤◌, Bool, true, false, List, [], ◌∷◌, ◌++◌, length, Option, Some, None, length-append, arith}
-use Rattle.std.specs.Prelude.{◌+◌, ◌-◌, fold, slice_get, unwrap_or, if◌then◌else◌}
+use Rattle.std.specs.Prelude.{◌+◌, ◌-◌, fold, slice_get, if◌then◌else◌}
 use Rattle.c_tree.specs.declared.expression.Name.{Name}
 use Rattle.c_tree.specs.declared.declaration.Declaration.{Declaration}
 use Rattle.c_tree.specs.declared.declaration.Declarator.{Declarator}
@@ -8,6 +8,8 @@ use Rattle.c_program.specs.declared.tree.LocalVariable.{LocalVariable}
 use Rattle.c_program.specs.Tree.{Statement}
 use Rattle.c_rules.specs.declared.fault.Rule.TheVariants as rule
 use Rattle.c_rules.specs.declared.findings.Findings.{Findings}
+use Rattle.c_rules.specs.declared.dimensions.Dimensions.{Dimensions}
+use Rattle.c_rules.specs.Dimensions.{elements}
 use Rattle.c_rules.specs.declared.names.Meaning.{Meaning}
 use Rattle.c_rules.specs.declared.names.Scope.{Scope}
 use Rattle.c_rules.specs.declared.specifiers.BasicType.{BasicType}
@@ -91,18 +93,18 @@ declare_grows name m x =
     let w : Goes (Unit {0}) = scoping (declaring name.bytes m) in
     by_grows (is_taken x.scope name.bytes) v w 0 x (grows_finding (λ s. finds rule.Twice name.offset)) (grows_scoping (declaring name.bytes m) (declared_locals name.bytes m))
 
-pub new_local_grows : (words : Spelled) (size : Option ℕ) (ty : BasicType) → Grows 1 (y.new_local words size ty)
+pub new_local_grows : (words : Spelled) (size : Dimensions) (ty : BasicType) → Grows 1 (y.new_local words size ty)
 unfolding y.new_local
 new_local_grows words size ty x =
-    let local : LocalVariable = record { ty = c_type ty; length = unwrap_or size 1 } in
+    let local : LocalVariable = record { ty = c_type ty; length = elements size } in
     omega (arith, length-append x.scope.locals (local ∷ []))
 
-local_of_grows : (words : Spelled) (at : ℕ) (size : Option ℕ) (ty : Option BasicType) → Grows 1 (y.local_of words at size ty)
+local_of_grows : (words : Spelled) (at : ℕ) (size : Dimensions) (ty : Option BasicType) → Grows 1 (y.local_of words at size ty)
 local_of_grows words at size (Some ty) = new_local_grows words size ty
 local_of_grows words at size None =
     grows_more 0 1 (finding (λ s. y.refused_local words at)) (omega arith) (grows_finding (λ s. y.refused_local words at))
 
-local_grows : (words : Spelled) (at : ℕ) (size : Option ℕ) → Grows 1 (y.local words at size)
+local_grows : (words : Spelled) (at : ℕ) (size : Dimensions) → Grows 1 (y.local words at size)
 unfolding y.local
 local_grows words at size = local_of_grows words at size (plain words.is_static words.base)
 
@@ -111,7 +113,7 @@ unfolding y.declarator
 declarator_grows words d =
     let stepping = λ (m : Meaning). finding (y.declared_step d m d.initializer) in
     let declaring = λ (m : Meaning). y.declare d.name m >> stepping m in
-    grows_then 0 1 (finding (y.optional_length d.length)) (λ size. y.local words d.name.offset size >>= declaring) (grows_finding (y.optional_length d.length))
+    grows_then 0 1 (finding (y.dimensions d.lengths)) (λ size. y.local words d.name.offset size >>= declaring) (grows_finding (y.dimensions d.lengths))
     (λ size. grows_then 1 0 (y.local words d.name.offset size) declaring (local_grows words d.name.offset size)
     (λ m. grows_then 0 0 (y.declare d.name m) (λ _. stepping m) (declare_grows d.name m) (λ _. grows_finding (y.declared_step d m d.initializer))))
 

@@ -1,6 +1,6 @@
 -- What declarations in blocks give.
 use Rattle.std.proofs.Common.{◌≡◌, refl, ap, ◌∙◌, ℕ, zero, suc, ◌<◌, ◌≤◌, Bool, true, false, List, [], ◌∷◌, ◌++◌, length, Option, Some, None, ℤ, pos, negsuc, arith}
-use Rattle.std.specs.Prelude.{◌^◌, min, slice_get, unwrap_or, if◌then◌else◌, ⊤}
+use Rattle.std.specs.Prelude.{◌*◌, ◌^◌, min, slice_get, if◌then◌else◌, ⊤}
 use Rattle.std.specs.List.{AllByRecursion}
 use Rattle.std.proofs.lemmas.Option.{slice_get_within}
 use Rattle.lists.proofs.Places.{all_back, all_front}
@@ -11,7 +11,7 @@ use Rattle.c_tree.specs.declared.declaration.Declarator.{Declarator}
 use Rattle.c_program.specs.declared.tree.Storage.{Storage}
 use Rattle.c_program.specs.declared.tree.Storage.TheVariants.{Automatic, Static}
 use Rattle.c_program.specs.declared.tree.LocalVariable.{LocalVariable}
-use Rattle.c_program.specs.Tree.{Place, Statement, Function, Program}
+use Rattle.c_program.specs.Tree.{Expression, Place, Statement, Function, Program}
 use Rattle.c_program.specs.Resolved as r
 use Rattle.c_rules.specs.declared.fault.Rule.TheVariants as rule
 use Rattle.c_rules.specs.declared.findings.Findings.{Findings}
@@ -23,20 +23,22 @@ use Rattle.c_rules.specs.declared.names.Variable.{Variable}
 use Rattle.c_rules.specs.declared.names.Meaning.{Meaning}
 use Rattle.c_rules.specs.declared.names.Meaning.TheVariants as meaning
 use Rattle.c_rules.specs.declared.names.Scope.{Scope}
+use Rattle.c_rules.specs.declared.dimensions.Dimensions.{Dimensions}
+use Rattle.c_rules.specs.declared.dimensions.Dimensions.TheVariants.{Scalar, One, Two, Three}
+use Rattle.c_rules.specs.Dimensions.{elements, is_scalar, times, with_length}
 use Rattle.c_rules.specs.Constants.{constancy}
 use Rattle.c_rules.specs.Specifiers.{c_type, plain, spelled_by}
 use Rattle.c_rules.specs.Walks.{pure, finds, finds_if, through, place_in_tree, ◌>>=◌, ◌>>◌}
-use Rattle.c_expressions.specs.Expressions.{value}
-use Rattle.c_calls.specs.Cuts.{Cut}
-use Rattle.c_calls.specs.Calls.{right_side}
-use Rattle.c_resolution.specs.Sequences.{behind_cuts}
+use Rattle.c_expressions.specs.Cuts.{Cut, free_from}
+use Rattle.c_expressions.specs.Expressions.{value, looked}
+use Rattle.c_expressions.specs.Sequences.{behind_cuts}
 use Rattle.c_resolution.specs.States.{finding}
 use Rattle.c_resolution.specs.Locals as y
 use Rattle.c_resolved_program.specs.Leaves.{AreValid, expression_leaves, declarator_leaves, declaration_leaves, of_any, of_each}
-use Rattle.c_resolved_program.specs.Orders.{IsMeant, IsOrderly, IsInOrder, GivesRoutines, declared_in}
-use Rattle.c_resolved_program.proofs.Walks.{Shows, shows_pure, shows_then, shows_as, shows_broken, shows_if, IfAny, all_more}
-use Rattle.c_resolved_program.proofs.Calls as k
-use Rattle.c_resolved_program.proofs.Trees.{value_shows}
+use Rattle.c_resolved_program.specs.Orders.{IsLength, AreLengths, IsMeant, IsOrderly, IsInOrder, GivesRoutines, declared_in}
+use Rattle.c_resolved_program.proofs.Walks.{Shows, shows_pure, shows_then, shows_as, shows_broken, shows_if, shows_through, IfAny, all_more}
+use Rattle.c_resolved_program.proofs.Behind as b
+use Rattle.c_resolved_program.proofs.Trees.{looked_shows}
 use Rattle.c_resolved_program.proofs.Simple as z
 use Rattle.c_resolved_program.proofs.Steps.{Does, does_pure, does_then, does_as, does_finding, declare_does, does_through, next_in, front_before, front_length, declared_few, declared_at}
 
@@ -45,23 +47,26 @@ use Rattle.c_resolved_program.proofs.Steps.{Does, does_pure, does_then, does_as,
 least_of : (a b : ℕ) → 0 < a → 0 < b → 0 < min a b
 least_of a b h k = grind arith
 
-positive_is : (z : ℤ) → IfAny (λ n. 0 < n) (y.positive z)
+least_le : (a b : ℕ) → min a b ≤ b
+least_le a b = grind arith
+
+positive_is : (z : ℤ) → IfAny IsLength (y.positive z)
 positive_is (pos zero) = tt
-positive_is (pos (suc n)) = least_of (suc n) 0xffff_ffff_ffff_ffff (omega arith) (omega arith)
+positive_is (pos (suc n)) = (least_of (suc n) 0xffff_ffff_ffff_ffff (omega arith) (omega arith), least_le (suc n) 0xffff_ffff_ffff_ffff)
 positive_is (negsuc n) = tt
 
 pub number_is : (n m : ℕ) → n < m → m ≤ 2 ^ 32 → place_in_tree n ≡ n
 number_is n m lt le = grind arith
 
 module _ {whole : Findings} {Before : Type 0} where
-  length_of_number_shows : (n : Option ℕ) (at : ℕ) → IfAny (λ n. 0 < n) n → Shows whole Before (λ n. 0 < n) (y.length_of_number n at)
+  length_of_number_shows : (n : Option ℕ) (at : ℕ) → IfAny IsLength n → Shows whole Before IsLength (y.length_of_number n at)
   length_of_number_shows (Some n) at is = shows_pure n (λ _. is)
-  length_of_number_shows None at is = shows_then (finds rule.Constant at) (λ _. pure 1) (shows_broken {Is = λ _. ⊤} rule.Constant at) (λ _. shows_pure 1 (λ _. omega arith))
+  length_of_number_shows None at is = shows_then (finds rule.Constant at) (λ _. pure 1) (shows_broken {Is = λ _. ⊤} rule.Constant at) (λ _. shows_pure 1 (λ _. (omega arith, omega arith)))
 
-  pub length_from_shows : (c : Constancy) (at : ℕ) → Shows whole Before (λ n. 0 < n) (y.length_from c at)
+  pub length_from_shows : (c : Constancy) (at : ℕ) → Shows whole Before IsLength (y.length_from c at)
   unfolding y.length_from
   length_from_shows (is.Constant x) at = length_of_number_shows (y.positive x.number) at (positive_is x.number)
-  length_from_shows is.Unknown at = shows_pure 1 (λ _. omega arith)
+  length_from_shows is.Unknown at = shows_pure 1 (λ _. (omega arith, omega arith))
   length_from_shows is.NotConstant at = length_of_number_shows None at tt
 
   -- ---- what is refused
@@ -79,27 +84,46 @@ module _ {whole : Findings} {Before : Type 0} where
   unfolding y.refused_local
   refused_local_shows words at = refused_by (y.is_object_type words.base) words at
 
+-- one more length; a fourth is none of the grammar
+pub with_length_is : (d : Dimensions) (n : ℕ) → AreLengths d → IsLength n → AreLengths (with_length d n)
+with_length_is Scalar n all is = is
+with_length_is (One a) n all is = (all, is)
+with_length_is (Two a b) n all is = (all.0, all.1, is)
+with_length_is (Three a b c) n all is = all
+
+pub each_length : (list : List ExpressionTree) → AreValid (of_each expression_leaves list) → AllByRecursion (λ e. AreValid (expression_leaves e)) list
+each_length [] valid = tt
+each_length (e ∷ list) valid =
+    (all_front _ (expression_leaves e) (of_each expression_leaves list) valid, each_length list (all_back _ (expression_leaves e) (of_each expression_leaves list) valid))
+
+many_are : (a b : ℕ) → 0 < a → 0 < b → 0 < a * b
+many_are zero b h k = absurd (omega arith)
+many_are (suc a) zero h k = absurd (omega arith)
+many_are (suc a) (suc b) h k = omega arith
+
+times_are : (a b : ℕ) → 0 < a → 0 < b → 0 < times a b
+times_are a b h k = least_of (a * b) 0xffff_ffff_ffff_ffff (many_are a b h k) (omega arith)
+
+pub elements_are : (d : Dimensions) → AreLengths d → 0 < elements d
+elements_are Scalar all = omega arith
+elements_are (One a) all = all.0
+elements_are (Two a b) all = times_are a b all.0.0 all.1.0
+elements_are (Three a b c) all = times_are (times a b) c (times_are a b all.0.0 all.1.0) all.2.0
+
 -- ---- a new local
 
 abbrev pub IsAutomatic : Meaning → Type 0
 IsAutomatic (meaning.Variable v) = v.storage ≡ Automatic
 IsAutomatic other = ⊤
 
-module _ (whole : Findings) (P : Program) (number : ℕ) (f : Function) (given_routines : GivesRoutines whole P) (small : f.declared_locals < 0xffff_ffff) (in_loop flag : Bool) where
+module _ (whole : Findings) (P : Program) (number : ℕ) (f : Function) (given_routines : GivesRoutines whole P) (small : f.declared_locals < 0xffff_ffff) (around flag : r.Around) where
   abbrev pub IsLocal : Meaning → Type 0
   IsLocal m = IsMeant P f m × IsAutomatic m
 
-  abbrev pub Size : Option ℕ → Type 0
-  Size size = IfAny (λ n. 0 < n) size
-
-  size_is : (size : Option ℕ) → Size size → 0 < unwrap_or size 1
-  size_is None h = omega arith
-  size_is (Some n) h = h
-
-  pub new_local_does : (words : Spelled) (size : Option ℕ) (ty : BasicType) → Does whole P number f in_loop (Size size) IsLocal (y.new_local words size ty)
+  pub new_local_does : (words : Spelled) (size : Dimensions) (ty : BasicType) → Does whole P number f around (AreLengths size) IsLocal (y.new_local words size ty)
   unfolding y.new_local
   new_local_does words size ty =
-      let l : LocalVariable = record { ty = c_type ty; length = unwrap_or size 1 } in
+      let l : LocalVariable = record { ty = c_type ty; length = elements size } in
       record {
         back = λ x ahead. record { found = ahead.found; locals = front_before x.scope.locals l (declared_in f) ahead.locals };
         forth = λ x ahead sized holds.
@@ -108,19 +132,20 @@ module _ (whole : Findings) (P : Program) (number : ℕ) (f : Function) (given_r
             let at = number_is (length x.scope.locals) 0xffff_ffff (let few = declared_few f in omega (arith, front, few, small)) (omega arith) in (
               record {
                 orderly = record { inner = order.inner; outer = order.outer; headers = order.headers; function = order.function; gives = order.gives; kept = order.kept };
+                exits = holds.exits;
                 loops = holds.loops;
-                lengths = all_more (λ (l : LocalVariable). 0 < l.length) x.scope.locals l holds.lengths (size_is size sized);
+                lengths = all_more (λ (l : LocalVariable). 0 < l.length) x.scope.locals l holds.lengths (elements_are size sized);
               },
-              (ap (λ n. slice_get f.locals n) at ∙ declared_at f (length x.scope.locals) l (next_in x.scope.locals l (declared_in f) ahead.locals), refl),
+              ((ap (λ n. slice_get f.locals n) at ∙ declared_at f (length x.scope.locals) l (next_in x.scope.locals l (declared_in f) ahead.locals), sized), refl),
             );
       }
 
-  local_of_does : (words : Spelled) (at : ℕ) (size : Option ℕ) (ty : Option BasicType) → Does whole P number f in_loop (Size size) IsLocal (y.local_of words at size ty)
+  local_of_does : (words : Spelled) (at : ℕ) (size : Dimensions) (ty : Option BasicType) → Does whole P number f around (AreLengths size) IsLocal (y.local_of words at size ty)
   local_of_does words at size (Some ty) = new_local_does words size ty
   local_of_does words at size None = does_finding (λ s. y.refused_local words at)
       (λ s. shows_as (y.refused_local words at) (λ b. b) (λ _ _ no. absurd no) (refused_local_shows words at))
 
-  pub local_does : (words : Spelled) (at : ℕ) (size : Option ℕ) → Does whole P number f in_loop (Size size) IsLocal (y.local words at size)
+  pub local_does : (words : Spelled) (at : ℕ) (size : Dimensions) → Does whole P number f around (AreLengths size) IsLocal (y.local words at size)
   unfolding y.local
   local_does words at size = local_of_does words at size (plain words.is_static words.base)
 
@@ -133,75 +158,90 @@ module _ (whole : Findings) (P : Program) (number : ℕ) (f : Function) (given_r
   in_locals Automatic n size ty is same = slice_get_within f.locals n _ is
   in_locals Static n size ty is same = cc
 
-  uninitialised_is : (d : Declarator) (m : Meaning) (s : Scope) → IsLocal m → InOrder (y.uninitialised d m)
-  uninitialised_is d (meaning.Variable v) s is =
-      k.plain whole P number f s given_routines flag (y.uninitialised d (meaning.Variable v))
-      (in_locals v.storage v.number (unwrap_or v.length 1) (c_type v.ty) is.0 is.1) refl refl refl
-  uninitialised_is d meaning.Argument s is = k.empty whole P number f s given_routines flag
-  uninitialised_is d (meaning.Object o) s is = k.empty whole P number f s given_routines flag
-  uninitialised_is d (meaning.Function n) s is = k.empty whole P number f s given_routines flag
-  uninitialised_is d meaning.Unusable s is = k.empty whole P number f s given_routines flag
+  empty : InOrder Statement.Empty
+  empty = b.empty_in whole P number f flag
+
+  uninitialised_is : (d : Declarator) (m : Meaning) → IsLocal m → InOrder (y.uninitialised d m)
+  uninitialised_is d (meaning.Variable v) is =
+      b.plain_in whole P number f flag (y.uninitialised d (meaning.Variable v)) (in_locals v.storage v.number (elements v.dimensions) (c_type v.ty) is.0.0 is.1) refl refl refl
+  uninitialised_is d meaning.Argument is = empty
+  uninitialised_is d (meaning.Object o) is = empty
+  uninitialised_is d (meaning.Function n) is = empty
+  uninitialised_is d meaning.Unusable is = empty
 
   abbrev IsScalar : Variable → Type 0
   IsScalar v = r.IsObject P f v.storage v.number 1 (c_type v.ty)
 
-  scalar_by_is : (size : Option ℕ) (v : Variable) → r.IsObject P f v.storage v.number (unwrap_or size 1) (c_type v.ty) → IfAny IsScalar (y.scalar_by size v)
-  scalar_by_is None v is = is
-  scalar_by_is (Some n) v is = tt
+  scalar_by_is : (d : Dimensions) (v : Variable) → r.IsObject P f v.storage v.number (elements d) (c_type v.ty) → IfAny IsScalar (y.scalar_by (is_scalar d) v)
+  scalar_by_is Scalar v is = is
+  scalar_by_is (One n) v is = tt
+  scalar_by_is (Two n m) v is = tt
+  scalar_by_is (Three n m k) v is = tt
 
   scalar_in_is : (m : Meaning) → IsMeant P f m → IfAny IsScalar (y.scalar_in m)
-  scalar_in_is (meaning.Variable v) is = scalar_by_is v.length v is
+  scalar_in_is (meaning.Variable v) is = scalar_by_is v.dimensions v is.0
   scalar_in_is meaning.Argument is = tt
   scalar_in_is (meaning.Object o) is = tt
   scalar_in_is (meaning.Function n) is = tt
   scalar_in_is meaning.Unusable is = tt
 
-  initialised_by_shows : {Earlier : Type 0} (s : Scope) (v : Option Variable) (at : ℕ) (right : Cut) →
-      (Earlier → IfAny IsScalar v × z.IsRight whole P number f s given_routines flag right) → Shows whole Earlier InOrder (y.initialised_by v at right)
+  initialised_by_shows : {Earlier : Type 0} (s : Scope) (v : Option Variable) (at : ℕ) (right : Cut Expression) →
+      (Earlier → IsOrderly P number f s × IfAny IsScalar v × z.IsRight whole P number f small s given_routines flag right) → Shows whole Earlier InOrder (y.initialised_by v at right)
   unfolding y.initialised_by
   initialised_by_shows s (Some v) at right is =
       let p : Place = Place.Scalar v.storage v.number (c_type v.ty) in
-      shows_pure (behind_cuts right.before (Statement.Assign (place_in_tree at) p right.rest)) (λ b. z.assign_is whole P number f s given_routines flag (place_in_tree at) p right (is b).0 (is b).1)
+      shows_pure (behind_cuts right.cuts.before (Statement.Assign (place_in_tree at) p right.rest))
+      (λ x. z.initial_is whole P number f small s given_routines flag (place_in_tree at) p right (is x).0 refl (is x).1 (is x).2)
   initialised_by_shows s None at right is =
-      shows_then (finds rule.Kind at) (λ _. pure Statement.Empty) (shows_broken {Is = λ _. ⊤} rule.Kind at)
-      (λ _. shows_pure Statement.Empty (λ _. k.empty whole P number f s given_routines flag))
+      shows_then (finds rule.Kind at) (λ _. pure Statement.Empty) (shows_broken {Is = λ _. ⊤} rule.Kind at) (λ _. shows_pure Statement.Empty (λ _. empty))
 
   initialised_shows : (name : Name) (m : Meaning) (e : ExpressionTree) (s : Scope) → AreValid (expression_leaves e) →
       Shows whole (IsLocal m × IsOrderly P number f s) InOrder (y.initialised name m e s)
   unfolding y.initialised
   initialised_shows name m e s valid =
       let at = place_in_tree name.offset in
-      shows_then (right_side s at s.kept_from e) (λ right. y.initialised_by (y.scalar_in m) name.offset right)
-      (shows_as (right_side s at s.kept_from e) (λ b. b.1) (λ _ _ is. is) (k.right_side_shows whole P number f s given_routines flag at e valid))
-      (λ right. initialised_by_shows s (y.scalar_in m) name.offset right (λ b. (scalar_in_is m b.0.0.0, b.1)))
+      let walk = value s e at (free_from s.kept_from) in
+      shows_then walk (λ right. y.initialised_by (y.scalar_in m) name.offset right)
+      (shows_as walk (λ x. x.1) (λ _ _ is. is) (z.right_shows whole P number f small s given_routines flag e at valid))
+      (λ right. initialised_by_shows s (y.scalar_in m) name.offset right (λ x. (x.0.1, scalar_in_is m x.0.0.0, x.1)))
 
   declared_step_shows : (d : Declarator) (m : Meaning) (e : Option ExpressionTree) (s : Scope) → AreValid (of_any expression_leaves e) →
       Shows whole (IsLocal m × IsOrderly P number f s) InOrder (y.declared_step d m e s)
-  declared_step_shows d m None s valid = shows_pure (y.uninitialised d m) (λ b. uninitialised_is d m s b.0)
+  declared_step_shows d m None s valid = shows_pure (y.uninitialised d m) (λ x. uninitialised_is d m x.0)
   declared_step_shows d m (Some e) s valid = initialised_shows d.name m e s valid
 
   -- ---- declarators
 
-  array_length_shows : (e : ExpressionTree) (s : Scope) → AreValid (expression_leaves e) → Shows whole (IsOrderly P number f s) (λ n. 0 < n) (y.array_length e s)
+  array_length_shows : {Earlier : Type 0} (e : ExpressionTree) (s : Scope) → AreValid (expression_leaves e) → (Earlier → IsOrderly P number f s) →
+      Shows whole Earlier IsLength (y.array_length e s)
   unfolding y.array_length
-  array_length_shows e s valid =
-      shows_then (value s e) (λ _. y.length_from (constancy e) (out-Expression e).offset) (value_shows whole P number f s e valid)
+  array_length_shows e s valid now =
+      shows_then (looked s e) (λ _. y.length_from (constancy e) (out-Expression e).offset) (shows_as (looked s e) now (λ _ _ is. is) (looked_shows whole P number f small s e valid))
       (λ _. length_from_shows (constancy e) (out-Expression e).offset)
 
-  pub optional_length_shows : (e : Option ExpressionTree) (s : Scope) → AreValid (of_any expression_leaves e) → Shows whole (IsOrderly P number f s) Size (y.optional_length e s)
-  optional_length_shows None s valid = shows_pure None (λ _. tt)
-  optional_length_shows (Some e) s valid =
-      shows_then (y.array_length e s) (λ n. pure (Some n)) (array_length_shows e s valid) (λ n. shows_pure (Some n) (λ b. b.1))
+  next_length_shows : (s : Scope) (d : Dimensions) (e : ExpressionTree) → AreValid (expression_leaves e) →
+      Shows whole (IsOrderly P number f s × AreLengths d) AreLengths (y.next_length s d e)
+  next_length_shows s d e valid =
+      shows_then (y.array_length e s) (λ n. pure (with_length d n)) (array_length_shows e s valid (λ x. x.0))
+      (λ n. shows_pure (with_length d n) (λ x. with_length_is d n x.0.1 x.1))
 
-  declarator_does : (words : Spelled) (d : Declarator) → AreValid (declarator_leaves d) → Does whole P number f in_loop ⊤ InOrder (y.declarator words d)
+  pub dimensions_show : (lengths : List ExpressionTree) (s : Scope) → AreValid (of_each expression_leaves lengths) →
+      Shows whole (IsOrderly P number f s) AreLengths (y.dimensions lengths s)
+  unfolding y.dimensions
+  dimensions_show lengths s valid =
+      shows_as (y.dimensions lengths s) (λ now. (now, tt)) (λ _ _ is. is)
+      (shows_through {Before = IsOrderly P number f s} (λ e. AreValid (expression_leaves e)) (λ _. AreLengths) (y.next_length s)
+      (λ d e rest h. next_length_shows s d e h) Scalar lengths (each_length lengths valid))
+
+  declarator_does : (words : Spelled) (d : Declarator) → AreValid (declarator_leaves d) → Does whole P number f around ⊤ InOrder (y.declarator words d)
   unfolding y.declarator
   declarator_does words d valid =
-      let sized = all_front _ (of_any expression_leaves d.length) (of_any expression_leaves d.initializer) valid in
-      let begun = all_back _ (of_any expression_leaves d.length) (of_any expression_leaves d.initializer) valid in
+      let sized = all_front _ (of_each expression_leaves d.lengths) (of_any expression_leaves d.initializer) valid in
+      let begun = all_back _ (of_each expression_leaves d.lengths) (of_any expression_leaves d.initializer) valid in
       let stepping = λ (m : Meaning). finding (y.declared_step d m d.initializer) in
       let declaring = λ (m : Meaning). y.declare d.name m >> stepping m in
-      does_then (finding (y.optional_length d.length)) (λ size. y.local words d.name.offset size >>= declaring)
-      (does_finding (y.optional_length d.length) (λ s. shows_as (y.optional_length d.length s) (λ b. b.1) (λ _ _ is. is) (optional_length_shows d.length s sized)))
+      does_then (finding (y.dimensions d.lengths)) (λ size. y.local words d.name.offset size >>= declaring)
+      (does_finding (y.dimensions d.lengths) (λ s. shows_as (y.dimensions d.lengths s) (λ b. b.1) (λ _ _ is. is) (dimensions_show d.lengths s sized)))
       (λ size. does_then (y.local words d.name.offset size) declaring
       (does_as (y.local words d.name.offset size) (λ b. b.1) (λ _ _ is. is) (local_does words d.name.offset size))
       (λ m. does_then (y.declare d.name m) (λ _. stepping m) (declare_does d.name m (λ b. b.1.0))
@@ -217,7 +257,7 @@ module _ (whole : Findings) (P : Program) (number : ℕ) (f : Function) (given_r
   AllInOrder steps = AllByRecursion InOrder steps
 
   pub declaration_does : (steps : List Statement) (d : Declaration) → AreValid (declaration_leaves d) →
-      Does whole P number f in_loop (AllInOrder steps) AllInOrder (y.declaration steps d)
+      Does whole P number f around (AllInOrder steps) AllInOrder (y.declaration steps d)
   unfolding y.declaration
   declaration_does steps d valid =
       let step = λ (done : List Statement) (x : Declarator). y.declarator (spelled_by d.specifiers) x >>= (λ s. pure (done ++ s ∷ [])) in

@@ -5,7 +5,7 @@ use Rattle.std.specs.List.{AllByRecursion}
 use Rattle.std.proofs.lemmas.Bool.{false≢true, cases_lt}
 use Rattle.lists.proofs.Places.{length_more}
 use Rattle.c_program.specs.Tree.{Statement}
-use Rattle.c_resolution.specs.Sequences as y
+use Rattle.c_expressions.specs.Sequences as y
 use Rattle.c_resolved_program.proofs.Walks.{all_more}
 
 -- ---- of each
@@ -174,6 +174,131 @@ module _ (Of : Statement → Type 0) (both : (x z : Statement) → Of x ⊎ Of z
   unfolding y.sequence
   sequence_keeps list of =
       alone_keeps (y.rounds (length list) list) (short (rounds_count (length list) list)) (rounds_keep (length list) list of)
+    where
+      short : (length (y.rounds (length list) list) ≤ 1) ⊎ (length (y.rounds (length list) list) + length list ≤ length list) → length (y.rounds (length list) list) ≤ 1
+      short (inl le) = le
+      short (inr le) = omega arith
+
+-- ---- of all but the last, and of the last
+
+module _ (Is Last : Statement → Type 0) (both : (first rest : Statement) → Is first → Is rest → Is (Statement.Sequence first rest))
+    (ends : (first rest : Statement) → Is first → Last rest → Last (Statement.Sequence first rest)) where
+  abbrev IfOneWaits : Option Statement → Type 0
+  IfOneWaits None = ⊤
+  IfOneWaits (Some x) = Is x
+
+  -- the last one is so, and each before it
+  Ends : List Statement → Type 0
+  Ends [] = ⊥
+  Ends (x ∷ []) = Last x
+  Ends (x ∷ next ∷ more) = Is x × Ends (next ∷ more)
+
+  ends_more : (list : List Statement) (last : Statement) → AllByRecursion Is list → Last last → Ends (list ++ last ∷ [])
+  unfolding Ends
+  ends_more [] last all is = is
+  ends_more (x ∷ []) last all is = (all.0, is)
+  ends_more (x ∷ next ∷ more) last all is = (all.0, ends_more (next ∷ more) last all.1 is)
+
+  last_ends : (done : List Statement) (waiting : Option Statement) (x : Statement) → AllByRecursion Is done → IfOneWaits waiting → Last x →
+      Ends (y.all_joined (y.joined_to done waiting x))
+  last_ends done None x all is last = ends_more done x all last
+  last_ends done (Some first) x all is last = ends_more done (y.neighbours first x) all (ends first x is last)
+
+  one_joined : (done : List Statement) (waiting : Option Statement) (x : Statement) → AllByRecursion Is done → IfOneWaits waiting → Is x →
+      AllByRecursion Is (y.joined_to done waiting x).0 × IfOneWaits (y.joined_to done waiting x).1
+  one_joined done None x all is so = (all, so)
+  one_joined done (Some first) x all is so = (all_more Is done (y.neighbours first x) all (both first x is so), tt)
+
+  folded_ends : (list : List Statement) (j : y.Joined) → Ends list → AllByRecursion Is j.0 → IfOneWaits j.1 → Ends (y.all_joined (fold y.with_next j list))
+  unfolding Ends
+  folded_ends [] j none done waiting = absurd none
+  folded_ends (x ∷ []) j last done waiting = last_ends j.0 j.1 x done waiting last
+  folded_ends (x ∷ next ∷ more) j so done waiting =
+      let k = one_joined j.0 j.1 x done waiting so.0 in
+      folded_ends (next ∷ more) (y.with_next j x) so.1 k.0 k.1
+
+  halved_ends : (b : Bool) (list : List Statement) → Ends list → Ends (if b then list else y.paired list)
+  halved_ends true list so = so
+  halved_ends false list so = folded_ends list ([], None) so tt tt
+
+  rounds_end : (n : ℕ) (list : List Statement) → Ends list → Ends (y.rounds n list)
+  rounds_end zero list so = so
+  rounds_end (suc n) list so = halved_ends (y.is_short (y.rounds n list)) (y.rounds n list) (rounds_end n list so)
+
+  only_last : (list : List Statement) → Ends list → Last (y.only list)
+  unfolding Ends
+  only_last [] none = absurd none
+  only_last (x ∷ []) last = last
+  only_last (x ∷ next ∷ more) so = only_last (next ∷ more) so.1
+
+  pub sequence_ends : (list : List Statement) (last : Statement) → AllByRecursion Is list → Last last → Last (y.sequence (list ++ last ∷ []))
+  unfolding y.sequence
+  sequence_ends list last all is =
+      let every = list ++ last ∷ [] in
+      only_last (y.rounds (length every) every) (rounds_end (length every) every (ends_more list last all is))
+
+-- ---- what a statement adds up to
+
+abbrev pub total : (Statement → ℕ) → List Statement → ℕ
+total weight [] = 0
+total weight (x ∷ list) = weight x + total weight list
+
+module _ (weight : Statement → ℕ) (none : weight Statement.Done ≡ 0) (both : (first rest : Statement) → weight (Statement.Sequence first rest) ≡ weight first + weight rest) where
+  abbrev weights : List Statement → ℕ
+  weights list = total weight list
+
+  weights_more : (list : List Statement) (x : Statement) → weights (list ++ x ∷ []) ≡ weights list + weight x
+  weights_more [] x = omega arith
+  weights_more (z ∷ list) x = let e = weights_more list x in omega (arith, e)
+
+  waiting_weight : Option Statement → ℕ
+  waiting_weight None = 0
+  waiting_weight (Some x) = weight x
+
+  joined_weight : (done : List Statement) (waiting : Option Statement) (x : Statement) →
+      weights (y.joined_to done waiting x).0 + waiting_weight (y.joined_to done waiting x).1 ≡ weights done + waiting_weight waiting + weight x
+  unfolding waiting_weight
+  joined_weight done None x = omega arith
+  joined_weight done (Some first) x =
+      let e = weights_more done (y.neighbours first x) in
+      let s = both first x in
+      omega (arith, e, s)
+
+  folded_weight : (list : List Statement) (j : y.Joined) →
+      weights (fold y.with_next j list).0 + waiting_weight (fold y.with_next j list).1 ≡ weights j.0 + waiting_weight j.1 + weights list
+  folded_weight [] j = omega arith
+  folded_weight (x ∷ list) j =
+      let e = folded_weight list (y.with_next j x) in
+      let k = joined_weight j.0 j.1 x in
+      omega (arith, e, k)
+
+  last_weight : (done : List Statement) (waiting : Option Statement) → weights (y.with_last done waiting) ≡ weights done + waiting_weight waiting
+  unfolding waiting_weight
+  last_weight done None = omega arith
+  last_weight done (Some x) = weights_more done x
+
+  halved_weight : (b : Bool) (list : List Statement) → weights (if b then list else y.paired list) ≡ weights list
+  unfolding waiting_weight
+  halved_weight true list = refl
+  halved_weight false list =
+      let j = fold y.with_next ([], None) list in
+      let e = last_weight j.0 j.1 in
+      let k = folded_weight list ([], None) in
+      omega (arith, e, k)
+
+  rounds_weight : (n : ℕ) (list : List Statement) → weights (y.rounds n list) ≡ weights list
+  rounds_weight zero list = refl
+  rounds_weight (suc n) list = halved_weight (y.is_short (y.rounds n list)) (y.rounds n list) ∙ rounds_weight n list
+
+  only_weight : (list : List Statement) → length list ≤ 1 → weight (y.only list) ≡ weights list
+  only_weight [] le = none
+  only_weight (x ∷ []) le = omega arith
+  only_weight (x ∷ z ∷ list) le = absurd (omega arith)
+
+  pub sequence_weight : (list : List Statement) → weight (y.sequence list) ≡ weights list
+  unfolding y.sequence
+  sequence_weight list =
+      only_weight (y.rounds (length list) list) (short (rounds_count (length list) list)) ∙ rounds_weight (length list) list
     where
       short : (length (y.rounds (length list) list) ≤ 1) ⊎ (length (y.rounds (length list) list) + length list ≤ length list) → length (y.rounds (length list) list) ≤ 1
       short (inl le) = le

@@ -1,9 +1,10 @@
 -- What objects at file scope add: one global or object of POSIX threads at most for each declarator.
-use Rattle.std.proofs.Common.{ℕ, Bool, false, List, length, Option, arith}
+use Rattle.std.proofs.Common.{ℕ, Bool, false, List, length, arith}
 use Rattle.std.specs.Prelude.{ℤ, ◌+◌, unwrap_or}
 use Rattle.c_tree.specs.declared.declaration.GlobalDeclaration.{GlobalDeclaration}
 use Rattle.c_tree.specs.declared.declaration.GlobalDeclarator.{GlobalDeclarator}
 use Rattle.c_rules.specs.declared.fault.Rule.TheVariants as rule
+use Rattle.c_rules.specs.declared.dimensions.Dimensions.{Dimensions}
 use Rattle.c_rules.specs.declared.names.ObjectKind.{ObjectKind}
 use Rattle.c_rules.specs.declared.names.ObjectKind.TheVariants.{Thread, Mutex, Barrier}
 use Rattle.c_rules.specs.declared.names.Meaning.{Meaning}
@@ -15,7 +16,7 @@ use Rattle.c_rules.specs.Specifiers.{spelled_by}
 use Rattle.c_rules.specs.Walks.{Outcome, pure, through, finds, ◌>>=◌}
 use Rattle.c_resolution.specs.States.{finding}
 use Rattle.c_resolution.specs.Files.{Tables, Declares, going, tabling}
-use Rattle.c_resolution.specs.Locals.{optional_length, declare}
+use Rattle.c_resolution.specs.Locals.{dimensions, declare}
 use Rattle.c_resolution.specs.Globals as y
 use Rattle.c_resolved_program.proofs.LocalCounts.{Grows, grows_finding, declare_grows}
 use Rattle.c_resolved_program.proofs.StatementCounts.{in_turn}
@@ -78,8 +79,8 @@ as_does m k d meaning.Unusable = unusable_does m k d
 global_does : (m k : ℕ) (words : Spelled) (pointer : Bool) (d : GlobalDeclarator) → Does m k (m + 1) k (y.global words pointer d)
 unfolding y.global
 global_does m k words pointer d x h =
-    let next = λ (size : Option ℕ). y.global_as d (y.global_meaning x.tables words pointer size) in
-    does_then m k m k (m + 1) k (going (finding (optional_length d.length))) next (does_quiet m k (finding (optional_length d.length)) (grows_finding (optional_length d.length)))
+    let next = λ (size : Dimensions). y.global_as d (y.global_meaning x.tables words pointer size) in
+    does_then m k m k (m + 1) k (going (finding (dimensions d.lengths))) next (does_quiet m k (finding (dimensions d.lengths)) (grows_finding (dimensions d.lengths)))
     (λ size. as_does m k d (y.global_meaning x.tables words pointer size)) x h
 
 next_does : (m k : ℕ) (words : Spelled) (pointer : Bool) (d : GlobalDeclarator) → Does m k (m + 1) k (y.next_object words pointer d)

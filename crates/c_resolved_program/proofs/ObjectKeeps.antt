@@ -1,5 +1,5 @@
 -- An object at file scope keeps what holds between two declarations.
-use Rattle.std.proofs.Common.{◌≡◌, refl, sym, ap, subst, ◌∙◌, inl, inr, ℕ, ◌≤◌, Bool, List, [], ◌∷◌, ◌++◌, length, Some, None}
+use Rattle.std.proofs.Common.{◌≡◌, refl, sym, ap, subst, ◌∙◌, inl, inr, ℕ, ◌<◌, ◌≤◌, Bool, List, [], ◌∷◌, ◌++◌, length, Some, None}
 use Rattle.std.specs.Prelude.{ℤ, ◌⊎◌, ◌^◌, unwrap_or, slice_get}
 use Rattle.c_tree.specs.declared.declaration.GlobalDeclarator.{GlobalDeclarator}
 use Rattle.c_tree.specs.declared.declaration.ExternalDeclaration.{ExternalDeclaration}
@@ -7,6 +7,7 @@ use Rattle.c_program.specs.declared.tree.Storage.{Storage}
 use Rattle.c_program.specs.declared.tree.Storage.TheVariants.{Static}
 use Rattle.c_program.specs.Tree.{Function, GlobalVariable, Program}
 use Rattle.c_program.specs.Resolved as r
+use Rattle.c_rules.specs.Dimensions.{elements}
 use Rattle.c_rules.specs.declared.names.ObjectKind.{ObjectKind}
 use Rattle.c_rules.specs.declared.names.ObjectKind.TheVariants.{Thread, Mutex, Barrier}
 use Rattle.c_rules.specs.declared.names.Variable.{Variable}
@@ -23,6 +24,9 @@ use Rattle.c_resolution.specs.Globals as g
 use Rattle.c_resolution.specs.Resolving.{program_at}
 use Rattle.c_resolved_program.specs.Laws.{IsNumbered}
 use Rattle.c_resolved_program.specs.Orders.{IsFront, IsMeant, AreMeant, object_length}
+use Rattle.std.specs.List.{AllByRecursion}
+use Rattle.c_resolved_program.proofs.Elements.{element_is}
+use Rattle.c_resolved_program.proofs.Walks.{IfAny}
 use Rattle.c_resolved_program.proofs.Steps.{inserted_is, next_in, front_length}
 use Rattle.c_resolved_program.proofs.Locals.{number_is}
 use Rattle.c_resolved_program.proofs.Numbers.{body_names}
@@ -110,7 +114,7 @@ module _ (X : File) (main : ℕ) (numbered : IsNumbered (program_at X main)) whe
       (ap (λ n. slice_get list n) place ∙ next_in xs a list front, place)
 
   abbrev global_of : List ℕ → Variable → List ℤ → GlobalVariable
-  global_of name v values = record { name = g.text name; ty = c_type v.ty; length = unwrap_or v.length 1; initial = values }
+  global_of name v values = record { name = g.text name; ty = c_type v.ty; length = elements v.dimensions; initial = values }
 
   pub variable_meant : (d : GlobalDeclarator) (x z : File) (v : IsVariableLeft d x z) → IsFront z.tables.globals X.tables.globals → (f : Function) →
       IsMeant P f (meaning.Variable v.variable) × (v.variable.number ≡ length x.tables.globals)
@@ -118,7 +122,19 @@ module _ (X : File) (main : ℕ) (numbered : IsNumbered (program_at X main)) whe
       let a = global_of d.name.bytes v.variable v.values in
       let next = next_at x.tables.globals X.tables.globals a v.variable.number numbered.globals v.number
       (subst (λ (t : Tables). IsFront t.globals X.tables.globals) v.tables front) in
-      (static_is f v.variable.storage v.variable.number a v.storage next.0, next.1)
+      ((static_is f v.variable.storage v.variable.number a v.storage next.0, v.lengths), next.1)
+
+  -- an element of a list of which each is so
+  so_at : {A : Type 0} (Is : A → Type 0) (list : List A) (k : ℕ) (a : A) → AllByRecursion Is list → slice_get list k ≡ Some a → Is a
+  so_at Is list k a all at = subst (λ o. IfAny Is o) at (element_is Is list k all)
+
+  pub elements_counted : (d : GlobalDeclarator) (x z : File) (v : IsVariableLeft d x z) → IsFront z.tables.globals X.tables.globals →
+      elements v.variable.dimensions < 0xffff_ffff_ffff_ffff
+  elements_counted d x z v front =
+      let g = global_of d.name.bytes v.variable v.values in
+      let next = next_at x.tables.globals X.tables.globals g v.variable.number numbered.globals v.number
+      (subst (λ (t : Tables). IsFront t.globals X.tables.globals) v.tables front) in
+      so_at (λ (g : GlobalVariable). g.length < 0xffff_ffff_ffff_ffff) P.globals v.variable.number g numbered.elements next.0
 
   meant_at : (kind : ObjectKind) (number size : ℕ) (initialised : Bool) (t : Tables) → AreFronts (g.with_object_of kind size initialised t) X.tables →
       number ≡ place_in_tree (count_of t kind) → object_length P kind number ≡ Some size

@@ -16,6 +16,8 @@ use Rattle.c_rules.specs.declared.findings.Findings.{Findings}
 use Rattle.c_rules.specs.declared.specifiers.BaseType.{BaseType}
 use Rattle.c_rules.specs.declared.specifiers.BaseType.TheVariants as base
 use Rattle.c_rules.specs.declared.specifiers.Spelled.{Spelled}
+use Rattle.c_rules.specs.declared.dimensions.Dimensions.{Dimensions}
+use Rattle.c_rules.specs.declared.dimensions.Dimensions.TheVariants.{Scalar, One, Two, Three}
 use Rattle.c_rules.specs.declared.names.ObjectKind.{ObjectKind}
 use Rattle.c_rules.specs.declared.names.ObjectKind.TheVariants.{Thread, Mutex, Barrier}
 use Rattle.c_rules.specs.declared.names.Variable.{Variable}
@@ -29,15 +31,16 @@ use Rattle.c_rules.specs.Names.{is_taken, declaring}
 use Rattle.c_rules.specs.Specifiers.{c_type}
 use Rattle.c_rules.specs.Walks.{Outcome, Finds, and_then, finds, place_in_tree, ◌>>=◌}
 use Rattle.c_resolution.specs.States.{State, state, Goes, finding, scoping}
-use Rattle.c_resolution.specs.Locals.{declare, optional_length}
+use Rattle.c_resolution.specs.Locals.{declare, dimensions}
 use Rattle.c_resolution.specs.Files.{File, Tables, Declares, file, going, tabling}
+use Rattle.c_calls.specs.Arguments as a
 use Rattle.c_resolution.specs.Globals as g
-use Rattle.c_resolved_program.specs.Leaves.{AreValid, expression_leaves, initializer_leaves, of_any}
-use Rattle.c_resolved_program.specs.Orders.{left, given, IsPartOf}
-use Rattle.c_resolved_program.proofs.Walks.{Shows, shows_pure, shows_broken, turn, IfAny}
+use Rattle.c_resolved_program.specs.Leaves.{AreValid, expression_leaves, initializer_leaves, of_any, of_each}
+use Rattle.c_resolved_program.specs.Orders.{left, given, AreLengths, IsPartOf}
+use Rattle.c_resolved_program.proofs.Walks.{Shows, shows_pure, shows_broken, turn}
 use Rattle.c_resolved_program.proofs.Steps.{in_scope_is}
 use Rattle.c_resolved_program.proofs.Functions.{in_file_is}
-use Rattle.c_resolved_program.proofs.Globals.{file_length_shows, initial_shows, initialised_shows, refused_shows}
+use Rattle.c_resolved_program.proofs.Globals.{total, file_dimensions_show, initial_shows, initialised_shows, refused_shows}
 
 -- ---- parts of a file
 
@@ -83,22 +86,28 @@ count_of t Mutex = length t.mutexes
 count_of t Barrier = length t.barriers
 
 -- the next object of its kind, of that many elements
-abbrev pub IsNext : Tables → Option ℕ → Meaning → Type 0
-IsNext t size (meaning.Variable v) = (v.storage ≡ Static) × (v.number ≡ place_in_tree (length t.globals)) × (v.length ≡ size)
-IsNext t size (meaning.Object o) = (o.number ≡ place_in_tree (count_of t o.kind)) × (o.length ≡ size)
+abbrev pub IsNext : Tables → Dimensions → Meaning → Type 0
+IsNext t size (meaning.Variable v) = (v.storage ≡ Static) × (v.number ≡ place_in_tree (length t.globals)) × (v.dimensions ≡ size)
+IsNext t size (meaning.Object o) = (o.number ≡ place_in_tree (count_of t o.kind)) × (a.length_dimensions o.length ≡ size)
 IsNext t size meaning.Argument = ⊤
 IsNext t size (meaning.Function number) = ⊤
 IsNext t size meaning.Unusable = ⊤
 
-base_next : (t : Tables) (words : Spelled) (size : Option ℕ) (b : BaseType) → IsNext t size (g.meaning_by t words size b)
-base_next t words size base.Thread = (refl, refl)
-base_next t words size base.Mutex = (refl, refl)
-base_next t words size base.Barrier = (refl, refl)
+object_next : (t : Tables) (kind : ObjectKind) (size : Dimensions) → IsNext t size (g.object kind (count_of t kind) size)
+object_next t kind Scalar = (refl, refl)
+object_next t kind (One n) = (refl, refl)
+object_next t kind (Two n m) = tt
+object_next t kind (Three n m k) = tt
+
+base_next : (t : Tables) (words : Spelled) (size : Dimensions) (b : BaseType) → IsNext t size (g.meaning_by t words size b)
+base_next t words size base.Thread = object_next t Thread size
+base_next t words size base.Mutex = object_next t Mutex size
+base_next t words size base.Barrier = object_next t Barrier size
 base_next t words size (base.Integer ty) = (refl, refl, refl)
 base_next t words size base.Void = tt
 base_next t words size base.Unlisted = tt
 
-is_next : (t : Tables) (words : Spelled) (pointer : Bool) (size : Option ℕ) → IsNext t size (g.global_meaning t words pointer size)
+is_next : (t : Tables) (words : Spelled) (pointer : Bool) (size : Dimensions) → IsNext t size (g.global_meaning t words pointer size)
 is_next t words true size = tt
 is_next t words false size = base_next t words size words.base
 
@@ -111,8 +120,8 @@ pub record IsVariableLeft (d : GlobalDeclarator) (x z : File) : Type 0 where
   pub tables : z.tables ≡ g.with_variable d.name variable values x.tables
   pub storage : variable.storage ≡ Static
   pub number : variable.number ≡ place_in_tree (length x.tables.globals)
-  pub positive : 0 < unwrap_or variable.length 1
-  pub fits : length values ≤ unwrap_or variable.length 1
+  pub lengths : AreLengths variable.dimensions
+  pub fits : length values ≤ total variable.dimensions
   pub initial : AllByRecursion (HasType (c_type variable.ty)) values
 
 pub record IsObjectLeft (d : GlobalDeclarator) (x z : File) : Type 0 where
@@ -129,9 +138,9 @@ pub record IsGlobalLeft (whole : Findings) (d : GlobalDeclarator) (x z : File) :
   pub new : named_in x.scope.inner d.name.bytes ≡ None
   pub is : IsVariableLeft d x z ⊎ IsObjectLeft d x z
 
-positive_of : (size : Option ℕ) → IfAny (λ n. 0 < n) size → 0 < unwrap_or size 1
-positive_of None is = omega arith
-positive_of (Some n) is = is
+positive_by : (length : Option ℕ) → AreLengths (a.length_dimensions length) → 0 < unwrap_or length 1
+positive_by None are = omega arith
+positive_by (Some n) are = are.0
 
 module _ (whole : Findings) (P : Program) (f : Function) where
   -- ---- a variable
@@ -148,8 +157,8 @@ module _ (whole : Findings) (P : Program) (f : Function) where
       (going_then (declare d.name (meaning.Variable v)) (λ _. going (finding (g.initial d.name v d.initializer)) >>= last) x
       ∙ finding_then (g.initial d.name v d.initializer) last (file n.scope n.found x.tables))
 
-  variable_left : (d : GlobalDeclarator) (v : Variable) (size : Option ℕ) (x y : File) → y.scope ≡ x.scope → y.tables ≡ x.tables →
-      AreValid (of_any initializer_leaves d.initializer) → IsNext x.tables size (meaning.Variable v) → (IsPartOf whole y.found → 0 < unwrap_or size 1) →
+  variable_left : (d : GlobalDeclarator) (v : Variable) (size : Dimensions) (x y : File) → y.scope ≡ x.scope → y.tables ≡ x.tables →
+      AreValid (of_any initializer_leaves d.initializer) → IsNext x.tables size (meaning.Variable v) → (IsPartOf whole y.found → AreLengths size) →
       IsPartOf whole (left (g.global_variable d v y)).found →
       IsPartOf whole y.found × (named_in x.scope.inner d.name.bytes ≡ None) × IsVariableLeft d x (left (g.global_variable d v y))
   variable_left d v size x y scope tables valid next positive part =
@@ -168,7 +177,7 @@ module _ (whole : Findings) (P : Program) (f : Function) where
           tables = ap (λ (w : File). w.tables) e ∙ ap (λ (t : Tables). g.with_variable d.name v (given o) t) tables;
           storage = next.0;
           number = next.1;
-          positive = subst (λ (l : Option ℕ). 0 < unwrap_or l 1) (sym next.2) (positive new.found);
+          lengths = subst AreLengths (sym next.2) (positive new.found);
           fits = (shown.forth n.found behind tt).1;
           initial = (shown.forth n.found behind tt).0;
         },
@@ -188,8 +197,8 @@ module _ (whole : Findings) (P : Program) (f : Function) where
       (going_then (declare d.name (meaning.Object k)) (λ _. going (finding (g.is_initialised k d.name d.initializer)) >>= last) x
       ∙ finding_then (g.is_initialised k d.name d.initializer) last (file n.scope n.found x.tables))
 
-  object_left : (d : GlobalDeclarator) (k : Object) (size : Option ℕ) (x y : File) → y.scope ≡ x.scope → y.tables ≡ x.tables →
-      AreValid (of_any initializer_leaves d.initializer) → IsNext x.tables size (meaning.Object k) → (IsPartOf whole y.found → 0 < unwrap_or size 1) →
+  object_left : (d : GlobalDeclarator) (k : Object) (size : Dimensions) (x y : File) → y.scope ≡ x.scope → y.tables ≡ x.tables →
+      AreValid (of_any initializer_leaves d.initializer) → IsNext x.tables size (meaning.Object k) → (IsPartOf whole y.found → AreLengths size) →
       IsPartOf whole (left (g.global_object d k y)).found →
       IsPartOf whole y.found × (named_in x.scope.inner d.name.bytes ≡ None) × IsObjectLeft d x (left (g.global_object d k y))
   object_left d k size x y scope tables valid next positive part =
@@ -207,7 +216,7 @@ module _ (whole : Findings) (P : Program) (f : Function) where
           scope = ap (λ (w : File). w.scope) e ∙ ap (λ (s : State). s.scope) new.is ∙ ap (λ (s : Scope). declaring d.name.bytes (meaning.Object k) s) scope;
           tables = ap (λ (w : File). w.tables) e ∙ ap (λ (t : Tables). g.with_object k (given o) t) tables;
           number = next.0;
-          positive = subst (λ (l : Option ℕ). 0 < unwrap_or l 1) (sym next.1) (positive new.found);
+          positive = positive_by k.length (subst AreLengths (sym next.1) (positive new.found));
           scalar = shown.forth n.found behind tt;
         },
       )
@@ -239,8 +248,8 @@ module _ (whole : Findings) (P : Program) (f : Function) where
 
   -- ---- any object
 
-  as_left : (d : GlobalDeclarator) (m : Meaning) (size : Option ℕ) (x y : File) → y.scope ≡ x.scope → y.tables ≡ x.tables →
-      AreValid (of_any initializer_leaves d.initializer) → IsNext x.tables size m → (IsPartOf whole y.found → 0 < unwrap_or size 1) →
+  as_left : (d : GlobalDeclarator) (m : Meaning) (size : Dimensions) (x y : File) → y.scope ≡ x.scope → y.tables ≡ x.tables →
+      AreValid (of_any initializer_leaves d.initializer) → IsNext x.tables size m → (IsPartOf whole y.found → AreLengths size) →
       IsPartOf whole (left (g.global_as d m y)).found →
       IsPartOf whole y.found × (named_in x.scope.inner d.name.bytes ≡ None) × (IsVariableLeft d x (left (g.global_as d m y)) ⊎ IsObjectLeft d x (left (g.global_as d m y)))
   unfolding g.global_as
@@ -257,18 +266,18 @@ module _ (whole : Findings) (P : Program) (f : Function) where
   as_left d meaning.Unusable size x y scope tables valid next positive part =
       absurd (unusable_never d (state y.scope y.found) valid (going_part (g.unusable d) y part))
 
-  pub global_left : (words : Spelled) (pointer : Bool) (d : GlobalDeclarator) (x : File) → AreValid (of_any expression_leaves d.length) →
+  pub global_left : (words : Spelled) (pointer : Bool) (d : GlobalDeclarator) (x : File) → AreValid (of_each expression_leaves d.lengths) →
       AreValid (of_any initializer_leaves d.initializer) → IsPartOf whole (left (g.global words pointer d x)).found →
       IsGlobalLeft whole d x (left (g.global words pointer d x))
   unfolding g.global
   global_left words pointer d x length_valid valid part =
-      let next : Option ℕ → Declares (Unit {0}) = λ size. g.global_as d (g.global_meaning x.tables words pointer size) in
-      let e = finding_then (optional_length d.length) next x in
-      let o = optional_length d.length x.scope x.found in
+      let next : Dimensions → Declares (Unit {0}) = λ size. g.global_as d (g.global_meaning x.tables words pointer size) in
+      let e = finding_then (dimensions d.lengths) next x in
+      let o = dimensions d.lengths x.scope x.found in
       let y : File = file x.scope (left o) x.tables in
-      let shown = file_length_shows whole P f x.scope d.length length_valid in
+      let shown = file_dimensions_show whole P f x.scope d.lengths length_valid in
       let both = as_left d (g.global_meaning x.tables words pointer (given o)) (given o) x y refl refl valid (is_next x.tables words pointer (given o))
-      (λ between. positive_of (given o) (shown.forth x.found between tt))
+      (λ between. shown.forth x.found between tt)
       (subst (λ (w : Outcome File (Unit {0})). IsPartOf whole (left w).found) e part) in
       subst (λ (w : Outcome File (Unit {0})). IsGlobalLeft whole d x (left w)) (sym e)
       (record { found = shown.back x.found both.0; new = both.1; is = both.2 })

@@ -1,5 +1,5 @@
 -- The objects of a program between two declarations at file scope are in order, and each global has a name of its own.
-use Rattle.std.proofs.Common.{◌≡◌, refl, sym, ap, subst, ◌∙◌, inl, inr, ℕ, ◌<◌, Bool, true, List, [], ◌∷◌, ◌++◌, length, Option, Some, None}
+use Rattle.std.proofs.Common.{◌≡◌, refl, sym, ap, subst, ◌∙◌, inl, inr, ℕ, ◌<◌, Bool, true, List, [], ◌∷◌, ◌++◌, length, Option, Some, None, arith}
 use Rattle.std.specs.Prelude.{◌⊎◌, is_none, unwrap_or, slice_get}
 use Rattle.std.specs.List.{AllByRecursion}
 use Rattle.std.proofs.lemmas.Option.{same_Some}
@@ -30,7 +30,10 @@ use Rattle.c_resolved_program.proofs.Fronts.{AreFronts}
 use Rattle.c_resolved_program.proofs.NameBytes.{text_is}
 use Rattle.c_resolved_program.proofs.ObjectLeft.{IsVariableLeft, IsObjectLeft, IsGlobalLeft}
 use Rattle.c_resolved_program.proofs.FunctionLeft.{IsTabled, nobody}
-use Rattle.c_resolved_program.proofs.ObjectKeeps.{beside_named, object_grows, variable_meant, variable_no}
+use Rattle.c_resolved_program.proofs.ObjectKeeps.{beside_named, object_grows, variable_meant, variable_no, elements_counted}
+use Rattle.c_resolved_program.proofs.Globals.{all_counted}
+use Rattle.c_resolved_program.proofs.Locals.{elements_are}
+use Rattle.c_rules.specs.Dimensions.{elements}
 
 -- the objects of POSIX threads
 pub record AreDeclared (t : Tables) : Type 0 where
@@ -136,10 +139,11 @@ module _ (X : File) (main : ℕ) (numbered : IsNumbered (program_at X main)) whe
           let a : GlobalVariable = record {
             name = g.text d.name.bytes;
             ty = c_type v.variable.ty;
-            length = unwrap_or v.variable.length 1;
+            length = elements v.variable.dimensions;
             initial = v.values;
           } in
           let same = text_is d.name.bytes name in
+          let counted = all_counted v.variable.dimensions v.lengths (elements_counted X main numbered d x z v fronts.globals) in
           let tabled = v.tables in
           let named = beside_named (program_at X main) [] [] x z d.name.bytes (meaning.Variable v.variable) is.new v.scope (variable_no v.variable) in
           record {
@@ -147,8 +151,8 @@ module _ (X : File) (main : ℕ) (numbered : IsNumbered (program_at X main)) whe
                 subst (λ (t : Tables). AllByRecursion r.IsGlobal t.globals) (sym tabled)
                 (all_more r.IsGlobal x.tables.globals a holds.globals (record {
                   name = subst r.IsName (sym same) name;
-                  not_empty = v.positive;
-                  given = v.fits;
+                  not_empty = elements_are v.variable.dimensions v.lengths;
+                  given = (let fits = v.fits in omega (arith, fits, counted));
                   initial = v.initial;
                 }));
             names =

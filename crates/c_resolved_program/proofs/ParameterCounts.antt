@@ -5,6 +5,7 @@ use Rattle.c_tree.specs.declared.expression.Name.{Name}
 use Rattle.c_tree.specs.declared.declaration.Function.{Function as FunctionTree}
 use Rattle.c_tree.specs.declared.declaration.Parameter.{Parameter}
 use Rattle.c_rules.specs.declared.fault.Rule.TheVariants as rule
+use Rattle.c_rules.specs.declared.dimensions.Dimensions.TheVariants.{Scalar}
 use Rattle.c_rules.specs.declared.names.Header.{Header}
 use Rattle.c_rules.specs.declared.names.Meaning.{Meaning}
 use Rattle.c_rules.specs.declared.names.Meaning.TheVariants as meaning
@@ -42,12 +43,12 @@ function_name_grows h name second x =
 
 pointer_grows : (words : Spelled) (routine : Bool) (at : ℕ) → Grows 1 (y.pointer_parameter words routine at)
 pointer_grows words routine at =
-    in_turn 1 0 1 (finding (λ s. finds_if (not routine) rule.Kind at)) (λ _. new_local words None Long >> pure meaning.Argument) (omega arith)
+    in_turn 1 0 1 (finding (λ s. finds_if (not routine) rule.Kind at)) (λ _. new_local words Scalar Long >> pure meaning.Argument) (omega arith)
     (grows_finding (λ s. finds_if (not routine) rule.Kind at))
-    (λ _. in_turn 1 1 0 (new_local words None Long) (λ _. pure meaning.Argument) (omega arith) (new_local_grows words None Long) (λ _. grows_pure meaning.Argument))
+    (λ _. in_turn 1 1 0 (new_local words Scalar Long) (λ _. pure meaning.Argument) (omega arith) (new_local_grows words Scalar Long) (λ _. grows_pure meaning.Argument))
 
 parameter_of_grows : (words : Spelled) (at : ℕ) (ty : Option BasicType) → Grows 1 (y.parameter_of words at ty)
-parameter_of_grows words at (Some ty) = new_local_grows words None ty
+parameter_of_grows words at (Some ty) = new_local_grows words Scalar ty
 parameter_of_grows words at None = grows_more 0 1 (finding (λ s. refused_local words at)) (omega arith) (grows_finding (λ s. refused_local words at))
 
 chosen_grows : (b : Bool) (v w : Goes Meaning) → Grows 1 v → Grows 1 w → Grows 1 (if b then v else w)

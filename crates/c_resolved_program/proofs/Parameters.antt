@@ -14,6 +14,7 @@ use Rattle.c_rules.specs.declared.fault.Rule.TheVariants as rule
 use Rattle.c_rules.specs.declared.findings.Findings.{Findings}
 use Rattle.c_rules.specs.declared.specifiers.BasicType.{BasicType}
 use Rattle.c_rules.specs.declared.specifiers.Spelled.{Spelled}
+use Rattle.c_rules.specs.declared.dimensions.Dimensions.TheVariants.{Scalar}
 use Rattle.c_rules.specs.declared.names.Meaning.{Meaning}
 use Rattle.c_rules.specs.declared.names.Meaning.TheVariants as meaning
 use Rattle.c_rules.specs.Specifiers.{c_type, plain, spelled_by}
@@ -49,8 +50,8 @@ pub record Adds (whole : Findings) (P : Program) (f : Function) (pointer routine
   pub meant : IsFront y.scope.locals (declared_in f) → (routine ≡ true → IsMeant P f meaning.Argument) → IsMeant P f m
 
 module _ (whole : Findings) (P : Program) (f : Function) (small : f.declared_locals < 0xffff_ffff) where
-  new_adds : (routine : Bool) (words : Spelled) (ty : BasicType) (x : State) → IsPartOf whole (left (new_local words None ty x)).found →
-      Adds whole P f false routine x (left (new_local words None ty x)) (given (new_local words None ty x))
+  new_adds : (routine : Bool) (words : Spelled) (ty : BasicType) (x : State) → IsPartOf whole (left (new_local words Scalar ty x)).found →
+      Adds whole P f false routine x (left (new_local words Scalar ty x)) (given (new_local words Scalar ty x))
   unfolding new_local
   new_adds routine words ty x part =
       let l : LocalVariable = record { ty = c_type ty; length = 1 } in
@@ -64,7 +65,7 @@ module _ (whole : Findings) (P : Program) (f : Function) (small : f.declared_loc
         meant = λ front _.
             let within = front_length x.scope.locals l (declared_in f) front in
             let at = number_is (length x.scope.locals) 0xffff_ffff (let few = declared_few f in omega (arith, within, few, small)) (omega arith) in
-            ap (λ n. slice_get f.locals n) at ∙ declared_at f (length x.scope.locals) l (next_in x.scope.locals l (declared_in f) front);
+            (ap (λ n. slice_get f.locals n) at ∙ declared_at f (length x.scope.locals) l (next_in x.scope.locals l (declared_in f) front), tt);
       }
 
   pointer_adds : (words : Spelled) (routine : Bool) (at : ℕ) (x : State) → IsPartOf whole (left (y.pointer_parameter words routine at x)).found →

@@ -14,8 +14,8 @@ use Rattle.c_tree.specs.declared.expression.Argument.TheOpen.{Argument-F, Form-F
 use Rattle.c_tree.specs.declared.expression.Argument.TheFolds.{map-Argument, map-Form, map-Pointer, fold_out-Argument, fold_out-Call}
 use Rattle.c_tree.specs.declared.expression.Argument.TheFolds.{fold_out-Pointer, fold_out-Form, fold_out-Expression}
 use Rattle.c_calls.specs.Arguments as a
-use Rattle.c_resolved_program.specs.Leaves.{Leaves, AreValid, all_of, argument_layer, form_layer, call_layer, choice_layer, expression_layer, place_layer, pointer_layer, term_layer}
-use Rattle.c_resolved_program.specs.Leaves.{argument_leaves, form_leaves, call_leaves, choice_leaves, expression_leaves, place_leaves, pointer_leaves, term_leaves}
+use Rattle.c_resolved_program.specs.Leaves.{Leaves, Operated, AreValid, all_of, argument_layer, form_layer, call_layer, choice_layer, expression_layer, place_layer, pointer_layer, term_layer}
+use Rattle.c_resolved_program.specs.Leaves.{argument_leaves, form_leaves, call_leaves, choice_leaves, expression_leaves, place_leaves, pointer_leaves, operated}
 use Rattle.c_resolved_program.proofs.Walks.{IfAny}
 use Rattle.c_resolved_program.proofs.Pieces.{AreText}
 
@@ -29,8 +29,8 @@ ValidLayer (Argument-F.Pointer p) = AreValid (pointer_leaves p)
 
 valid_layer : (y : a.ArgumentLayer) →
     AreValid (argument_layer
-    (map-Argument ArgumentTree FormTree CallTree ChoiceTree ExpressionTree PlaceTree PointerTree TermTree Leaves Leaves Leaves Leaves Leaves Leaves Leaves Leaves argument_leaves
-    form_leaves call_leaves choice_leaves expression_leaves place_leaves pointer_leaves term_leaves y)) → ValidLayer y
+    (map-Argument ArgumentTree FormTree CallTree ChoiceTree ExpressionTree PlaceTree PointerTree TermTree Leaves Leaves Leaves Leaves Leaves Leaves Leaves Operated argument_leaves
+    form_leaves call_leaves choice_leaves expression_leaves place_leaves pointer_leaves operated y)) → ValidLayer y
 valid_layer (Argument-F.Value e) valid = valid
 valid_layer (Argument-F.Text bytes at) valid = valid.0
 valid_layer (Argument-F.Address p at) valid = valid
@@ -39,7 +39,7 @@ valid_layer (Argument-F.Pointer p) valid = valid
 pub argument_valid : (x : ArgumentTree) → AreValid (argument_leaves x) → ValidLayer (out-Argument x)
 argument_valid x valid = valid_layer (out-Argument x)
     (subst AreValid
-    (fold_out-Argument Leaves Leaves Leaves Leaves Leaves Leaves Leaves Leaves argument_layer form_layer call_layer choice_layer expression_layer place_layer pointer_layer
+    (fold_out-Argument Leaves Leaves Leaves Leaves Leaves Leaves Leaves Operated argument_layer form_layer call_layer choice_layer expression_layer place_layer pointer_layer
     term_layer x) valid)
 
 -- ---- lists and options of parts
@@ -52,36 +52,36 @@ each_valid (x ∷ list) valid =
 operand_valid : (offset : ℕ) (operand : Option ExpressionTree) → let y : Pointer-F ArgumentTree FormTree CallTree ChoiceTree ExpressionTree PlaceTree PointerTree TermTree = record
     { offset = offset; operand = operand } in
     AreValid (pointer_layer
-    (map-Pointer ArgumentTree FormTree CallTree ChoiceTree ExpressionTree PlaceTree PointerTree TermTree Leaves Leaves Leaves Leaves Leaves Leaves Leaves Leaves argument_leaves
-    form_leaves call_leaves choice_leaves expression_leaves place_leaves pointer_leaves term_leaves y)) → IfAny (λ e. AreValid (expression_leaves e)) operand
+    (map-Pointer ArgumentTree FormTree CallTree ChoiceTree ExpressionTree PlaceTree PointerTree TermTree Leaves Leaves Leaves Leaves Leaves Leaves Leaves Operated argument_leaves
+    form_leaves call_leaves choice_leaves expression_leaves place_leaves pointer_leaves operated y)) → IfAny (λ e. AreValid (expression_leaves e)) operand
 operand_valid offset None valid = tt
 operand_valid offset (Some e) valid = valid
 
 pub call_valid : (c : CallTree) → AreValid (call_leaves c) → AllByRecursion (λ x. AreValid (argument_leaves x)) (out-Call c).arguments
 call_valid c valid = each_valid (out-Call c).arguments
     (subst AreValid
-    (fold_out-Call Leaves Leaves Leaves Leaves Leaves Leaves Leaves Leaves argument_layer form_layer call_layer choice_layer expression_layer place_layer pointer_layer term_layer
+    (fold_out-Call Leaves Leaves Leaves Leaves Leaves Leaves Leaves Operated argument_layer form_layer call_layer choice_layer expression_layer place_layer pointer_layer term_layer
     c) valid)
 
 pub pointer_valid : (p : PointerTree) → AreValid (pointer_leaves p) → IfAny (λ e. AreValid (expression_leaves e)) (out-Pointer p).operand
 pointer_valid p valid = operand_valid (out-Pointer p).offset (out-Pointer p).operand (subst AreValid
-    (fold_out-Pointer Leaves Leaves Leaves Leaves Leaves Leaves Leaves Leaves argument_layer form_layer call_layer choice_layer expression_layer place_layer pointer_layer
+    (fold_out-Pointer Leaves Leaves Leaves Leaves Leaves Leaves Leaves Operated argument_layer form_layer call_layer choice_layer expression_layer place_layer pointer_layer
     term_layer p) valid)
 
 -- ---- places and calls alone
 
 abbrev pub leaves_in_form : a.FormLayer → Leaves
 leaves_in_form y = form_layer
-    (map-Form ArgumentTree FormTree CallTree ChoiceTree ExpressionTree PlaceTree PointerTree TermTree Leaves Leaves Leaves Leaves Leaves Leaves Leaves Leaves argument_leaves
-    form_leaves call_leaves choice_leaves expression_leaves place_leaves pointer_leaves term_leaves y)
+    (map-Form ArgumentTree FormTree CallTree ChoiceTree ExpressionTree PlaceTree PointerTree TermTree Leaves Leaves Leaves Leaves Leaves Leaves Leaves Operated argument_leaves
+    form_leaves call_leaves choice_leaves expression_leaves place_leaves pointer_leaves operated y)
 
 pub form_valid : (e : ExpressionTree) → AreValid (expression_leaves e) → AreValid (leaves_in_form (out-Form (out-Expression e).form))
 form_valid e valid =
     subst AreValid
-    (fold_out-Form Leaves Leaves Leaves Leaves Leaves Leaves Leaves Leaves argument_layer form_layer call_layer choice_layer expression_layer place_layer pointer_layer
+    (fold_out-Form Leaves Leaves Leaves Leaves Leaves Leaves Leaves Operated argument_layer form_layer call_layer choice_layer expression_layer place_layer pointer_layer
     term_layer (out-Expression e).form)
     (subst AreValid
-    (fold_out-Expression Leaves Leaves Leaves Leaves Leaves Leaves Leaves Leaves argument_layer form_layer call_layer choice_layer expression_layer place_layer pointer_layer
+    (fold_out-Expression Leaves Leaves Leaves Leaves Leaves Leaves Leaves Operated argument_layer form_layer call_layer choice_layer expression_layer place_layer pointer_layer
     term_layer e) valid)
 
 place_in_form_valid : (at : ℕ) (y : a.FormLayer) → AreValid (leaves_in_form y) → IfAny (λ (p : PlaceTree × ℕ). AreValid (place_leaves p.0)) (a.place_in_form at y)

@@ -13,7 +13,7 @@ use Rattle.c_resolution.specs.Files.{File}
 use Rattle.c_resolution.specs.Texts.{declarations}
 use Rattle.c_resolution.specs.Resolving.{Spells, before, behind, program_at}
 use Rattle.c_resolved_program.specs.Leaves.{HasValidLeaves}
-use Rattle.c_resolved_program.specs.Laws.{IsNumbered}
+use Rattle.c_resolved_program.specs.Laws.{HasElements, IsNumbered}
 use Rattle.c_resolved_program.proofs.ValidSentences.{AreValid}
 use Rattle.c_resolved_program.proofs.Tokens.{IsValidToken}
 use Rattle.c_resolved_program.proofs.Texts.{AreTokens, AreFew}
@@ -65,17 +65,18 @@ all_less : (m n : ℕ) → m < n → (list : List Function) → AllByRecursion (
 all_less m n l [] all = tt
 all_less m n l (f ∷ list) all = (omega (arith, all.0, l), all_less m n l list all.1)
 
-program_numbered : (x : File) (main n : ℕ) → n < 0xffff_ffff → IsSmall n 0 x → IsNumbered (program_at x main)
-program_numbered x main n le h = record {
+program_numbered : (x : File) (main n : ℕ) → n < 0xffff_ffff → IsSmall n 0 x → HasElements (program_at x main) → IsNumbered (program_at x main)
+program_numbered x main n le h counted = record {
   functions = omega (arith, h.tables.functions, le);
   locals = all_less n 0xffff_ffff le x.tables.functions h.tables.locals;
   globals = omega (arith, h.tables.globals, le);
   threads = omega (arith, h.tables.threads, le, given_count x.found.creations x.tables.threads None);
   mutexes = omega (arith, h.tables.mutexes, le);
   barriers = omega (arith, h.tables.barriers, le);
+  elements = counted;
 }
 
-pub numbered : (tree : TranslationUnit) (P : Program) → IsFewTokens tree → Spells tree P → IsNumbered P
-numbered tree P h spelled =
+pub numbered : (tree : TranslationUnit) (P : Program) → IsFewTokens tree → Spells tree P → HasElements P → IsNumbered P
+numbered tree P h spelled counted =
     subst IsNumbered (sym spelled.program)
-    (program_numbered (behind tree.declarations) spelled.main (0 + h.tokens) (omega (arith, h.few)) (small_behind tree h))
+    (program_numbered (behind tree.declarations) spelled.main (0 + h.tokens) (omega (arith, h.few)) (small_behind tree h) (subst HasElements spelled.program counted))

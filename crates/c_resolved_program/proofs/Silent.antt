@@ -1,12 +1,21 @@
 -- An object at file scope creates no thread.
-use Rattle.std.proofs.Common.{subst, inl, inr, ℕ, Bool, true, false, List, [], ◌∷◌, ◌++◌, length, Option, Some, None, ℤ, pos}
-use Rattle.std.specs.Prelude.{◌⊎◌, ◌&&◌, nat_le, Contains}
+use Rattle.std.proofs.Common.{◌≡◌, sym, subst, inl, inr, ℕ, Bool, true, false, List, [], ◌∷◌, ◌++◌, map, Option, Some, None, ℤ, pos}
+use Rattle.std.specs.List.{AllByRecursion}
+use denote.Hole.Holds.{Such}
+use Rattle.std.specs.Prelude.{◌+◌, ◌⊎◌, ◌&&◌, nat_le, Contains}
 use Rattle.hls_ints.specs.Types.{IntegerType, wrapped}
 use Rattle.c_tree.specs.declared.expression.Name.{Name}
 use Rattle.c_tree.specs.declared.expression.Expression.{Expression as ExpressionTree, out-Expression}
 use Rattle.c_tree.specs.declared.declaration.Initializer.{Initializer}
 use Rattle.c_tree.specs.declared.declaration.Initializer.TheVariants as initial_as
+use Rattle.c_tree.specs.declared.declaration.Initial.{Initial, roll-Initial}
+use Rattle.c_tree.specs.declared.declaration.Initial.TheOpen.{Initial-F}
+use Rattle.c_tree.specs.declared.declaration.Initial.TheBlock.{the_family, member-Initial}
+use Rattle.c_tree.specs.declared.declaration.Initial.TheFolds.{claims, map-Initial, fold-roll-Initial, ind-Initial}
 use Rattle.c_tree.specs.declared.declaration.GlobalDeclarator.{GlobalDeclarator}
+use Rattle.c_rules.specs.declared.dimensions.Dimensions.{Dimensions}
+use Rattle.c_rules.specs.declared.dimensions.Dimensions.TheVariants.{Scalar}
+use Rattle.c_rules.specs.Dimensions.{elements, inner, is_scalar, outermost, times}
 use Rattle.c_rules.specs.declared.fault.Rule.TheVariants as rule
 use Rattle.c_rules.specs.declared.findings.Creation.{Creation}
 use Rattle.c_rules.specs.declared.constants.Constancy.{Constancy}
@@ -19,19 +28,18 @@ use Rattle.c_rules.specs.declared.names.Meaning.TheVariants as meaning
 use Rattle.c_rules.specs.declared.names.Scope.{Scope}
 use Rattle.c_rules.specs.Constants.{constancy}
 use Rattle.c_rules.specs.Specifiers.{c_type}
-use Rattle.c_rules.specs.Walks.{Outcome, Finds, pure, finds, finds_if, ◌>>=◌, ◌>>◌}
-use Rattle.c_expressions.specs.Expressions.{value}
+use Rattle.c_rules.specs.Walks.{Outcome, Finds, pure, finds, finds_if, through, ◌>>=◌, ◌>>◌}
+use Rattle.c_expressions.specs.Expressions.{looked}
 use Rattle.c_resolution.specs.States.{state, Goes, finding}
-use Rattle.c_resolution.specs.Locals.{declare, optional_length}
+use Rattle.c_resolution.specs.Locals.{declare, dimensions}
 use Rattle.c_resolution.specs.Files.{File, Tables, Declares, going, tabling}
 use Rattle.c_resolution.specs.Globals as g
 use Rattle.c_resolved_program.specs.Orders.{left, given}
 use Rattle.c_resolved_program.proofs.Walks.{turn}
 use Rattle.c_resolved_program.proofs.Functions.{in_file_is}
-use Rattle.c_resolved_program.proofs.Quiet.{IsQuiet, quiet_then, quiet_pure, quiet_finds, quiet_if, quiet_either, quiet_through, quiet_visited}
-use Rattle.c_resolved_program.proofs.CreatesOfParts.{quiet_value}
+use Rattle.c_resolved_program.proofs.Quiet.{IsQuiet, quiet_then, quiet_pure, quiet_finds, quiet_if, quiet_either, quiet_through, quiet_visited, quiet_looked}
 use Rattle.c_resolved_program.proofs.Makings as k
-use Rattle.c_resolved_program.proofs.HeadsWithoutCreates.{MakesNone, all_of_each}
+use Rattle.c_resolved_program.proofs.HeadsWithoutCreates.{MakesNone}
 
 -- ---- initial values
 
@@ -44,49 +52,125 @@ quiet_from ty is.NotConstant at = quiet_then (finds rule.Constant at) (λ _. pur
 quiet_initial_value : (ty : IntegerType) (e : ExpressionTree) (s : Scope) → IsQuiet (g.initial_value ty e s)
 unfolding g.initial_value
 quiet_initial_value ty e s =
-    quiet_then (value s e) (λ _. g.initial_from ty (constancy e) (out-Expression e).offset) (quiet_value s e)
+    quiet_then (looked s e) (λ _. g.initial_from ty (constancy e) (out-Expression e).offset) (quiet_looked s e)
     (λ _. quiet_from ty (constancy e) (out-Expression e).offset)
 
-quiet_next : (ty : IntegerType) (size : ℕ) (s : Scope) (values : List ℤ) (e : ExpressionTree) → IsQuiet (g.next_value ty size s values e)
-quiet_next ty size s values e =
-    let at = (out-Expression e).offset in
-    quiet_then (finds_if (nat_le size (length values)) rule.Constant at) (λ _. g.initial_value ty e s >>= (λ x. pure (values ++ x ∷ [])))
-    (quiet_if (nat_le size (length values)) rule.Constant at)
-    (λ _. quiet_then (g.initial_value ty e s) (λ x. pure (values ++ x ∷ [])) (quiet_initial_value ty e s) (λ x. quiet_pure (values ++ x ∷ [])))
+quiet_one : (ty : IntegerType) (e : ExpressionTree) (s : Scope) → IsQuiet (g.one_value ty e s)
+quiet_one ty e s = quiet_then (g.initial_value ty e s) (λ x. pure (x ∷ [])) (quiet_initial_value ty e s) (λ x. quiet_pure (x ∷ []))
 
-quiet_values : (ty : IntegerType) (size : ℕ) (list : List ExpressionTree) (s : Scope) → IsQuiet (g.initial_values ty size list s)
-unfolding g.initial_values
-quiet_values ty size list s = quiet_through (g.next_value ty size s) [] list (all_of_each (λ e values. quiet_next ty size s values e) list)
+-- ---- braces
 
-quiet_looked_value : (s : Scope) (e : ExpressionTree) → IsQuiet (g.looked_value s e)
-quiet_looked_value s e = quiet_then (value s e) (λ _. pure tt) (quiet_value s e) (λ _. quiet_pure tt)
+-- what stands between braces finds no create
+pub record QuietItem (x : g.Item) : Type 0 where
+  pub values : (too_many : Bool) (ty : IntegerType) (d : Dimensions) → IsQuiet (x.values too_many ty d)
+  pub looked : IsQuiet x.looked
 
-quiet_looked : (i : Initializer) (s : Scope) → IsQuiet (g.looked i s)
-unfolding g.looked_values
-quiet_looked (initial_as.Value e) s = quiet_looked_value s e
-quiet_looked (initial_as.List list) s = quiet_visited (g.looked_value s) list (all_of_each (λ e. quiet_looked_value s e) list)
-quiet_looked initial_as.Mutex s = quiet_pure tt
+each_next : (ty : IntegerType) (size : ℕ) (d : Dimensions) (list : List g.Item) → AllByRecursion QuietItem list → AllByRecursion (λ x. (row : g.Row) → IsQuiet (g.next_item ty size d row x)) list
+each_next ty size d [] all = tt
+each_next ty size d (x ∷ list) all = (
+  λ row.
+      let made : List ℤ → g.Row = λ values. (row.0 + 1, g.filled (times row.0 (elements d)) row.1 ++ values) in
+      quiet_then (x.values (nat_le size row.0) ty d) (λ values. pure (made values)) (all.0.values (nat_le size row.0) ty d) (λ values. quiet_pure (made values)),
+  each_next ty size d list all.1,
+)
+
+quiet_row : (ty : IntegerType) (size : ℕ) (d : Dimensions) (list : List g.Item) → AllByRecursion QuietItem list → IsQuiet (g.row_values ty size d list)
+unfolding g.row_values
+quiet_row ty size d list all =
+    quiet_then (through (g.next_item ty size d) (0, []) list) (λ row. pure row.1) (quiet_through (g.next_item ty size d) (0, []) list (each_next ty size d list all)) (λ row. quiet_pure row.1)
+
+each_looked : (list : List g.Item) → AllByRecursion QuietItem list → AllByRecursion (λ (x : g.Item). IsQuiet x.looked) list
+each_looked [] all = tt
+each_looked (x ∷ list) all = (all.0.looked, each_looked list all.1)
+
+quiet_looked_items : (list : List g.Item) → AllByRecursion QuietItem list → IsQuiet (g.looked_items list)
+quiet_looked_items list all = quiet_visited (λ (x : g.Item). x.looked) list (each_looked list all)
+
+quiet_refused_item : (at : ℕ) (w : Finds (Unit {0})) → IsQuiet w → IsQuiet (g.refused_item at w)
+unfolding g.refused_item
+quiet_refused_item at w h = quiet_then (finds rule.Kind at) (λ _. w >> pure []) (quiet_finds rule.Kind at) (λ _. quiet_then w (λ _. pure []) h (λ _. quiet_pure []))
+
+module _ (s : Scope) where
+  value_as : (e : ExpressionTree) (ty : IntegerType) (b : Bool) → IsQuiet (g.value_as e s b ty)
+  value_as e ty true = quiet_one ty e s
+  value_as e ty false = quiet_refused_item (out-Expression e).offset (looked s e) (quiet_looked s e)
+
+  value_item : (e : ExpressionTree) → QuietItem (record { values = g.value_item e s; looked = looked s e })
+  value_item e = record {
+    values = λ too_many ty d.
+        quiet_then (finds_if too_many rule.Constant (out-Expression e).offset) (λ _. g.value_as e s (is_scalar d) ty) (quiet_if too_many rule.Constant (out-Expression e).offset)
+        (λ _. value_as e ty (is_scalar d));
+    looked = quiet_looked s e;
+  }
+
+  list_as : (list : List g.Item) (at : ℕ) (ty : IntegerType) (d : Dimensions) (b : Bool) → AllByRecursion QuietItem list → IsQuiet (g.list_as list at b ty d)
+  list_as list at ty d true all = quiet_refused_item at (g.looked_items list) (quiet_looked_items list all)
+  list_as list at ty d false all = quiet_row ty (outermost d) (inner d) list all
+
+  list_item : (list : List g.Item) (at : ℕ) → AllByRecursion QuietItem list → QuietItem (record { values = g.list_item list at; looked = g.looked_items list })
+  list_item list at all = record {
+    values = λ too_many ty d.
+        quiet_then (finds_if too_many rule.Constant at) (λ _. g.list_as list at (is_scalar d) ty d) (quiet_if too_many rule.Constant at) (λ _. list_as list at ty d (is_scalar d) all);
+    looked = quiet_looked_items list all;
+  }
+
+  abbrev ClaimInitial : Initial → Type 0
+  ClaimInitial x = QuietItem (g.item s x)
+
+  abbrev SomeInitial : Type 0
+  SomeInitial = Such the_family (claims ClaimInitial) member-Initial
+
+  abbrev seen : Initial-F SomeInitial → Initial-F Initial
+  seen x = map-Initial SomeInitial Initial (λ e. e.0) x
+
+  each_item : (list : List SomeInitial) → AllByRecursion QuietItem (map (g.item s) (map (λ e. e.0) list))
+  each_item [] = tt
+  each_item (x ∷ list) = (x.1, each_item list)
+
+  initial_case : (x : Initial-F SomeInitial) → QuietItem (g.item_step s (map-Initial Initial g.Item (g.item s) (seen x)))
+  initial_case (Initial-F.Value e) = value_item e
+  initial_case (Initial-F.List list at) = list_item (map (g.item s) (map (λ e. e.0) list)) at (each_item list)
+
+  initial_induct : (x : Initial-F Initial) (t : Initial-F SomeInitial) → seen t ≡ x → ClaimInitial (roll-Initial x)
+  initial_induct x t e = subst (λ k. ClaimInitial (roll-Initial k)) e (subst QuietItem (sym (fold-roll-Initial g.Item (g.item_step s) (seen t))) (initial_case t))
+
+  quiet_item : (x : Initial) → QuietItem (g.item s x)
+  quiet_item = ind-Initial ClaimInitial initial_induct
+
+  quiet_items : (list : List Initial) → AllByRecursion QuietItem (map (g.item s) list)
+  quiet_items [] = tt
+  quiet_items (x ∷ list) = (quiet_item x, quiet_items list)
+
+quiet_array : (ty : IntegerType) (d : Dimensions) (list : List Initial) (s : Scope) → IsQuiet (g.array_values ty d list s)
+unfolding g.array_values
+quiet_array ty d list s =
+    quiet_either (g.is_by_rows list) (g.row_values ty (outermost d) (inner d) (map (g.item s) list)) (g.row_values ty (elements d) Scalar (map (g.item s) list))
+    (quiet_row ty (outermost d) (inner d) (map (g.item s) list) (quiet_items s list)) (quiet_row ty (elements d) Scalar (map (g.item s) list) (quiet_items s list))
+
+quiet_through_it : (i : Initializer) (s : Scope) → IsQuiet (g.looked_through i s)
+quiet_through_it (initial_as.Value e) s = quiet_looked s e
+quiet_through_it (initial_as.List list at) s = quiet_looked_items (map (g.item s) list) (quiet_items s list)
+quiet_through_it initial_as.Mutex s = quiet_pure tt
 
 quiet_refused : (name : Name) (i : Initializer) (s : Scope) → IsQuiet (g.refused name i s)
 unfolding g.refused
-quiet_refused name i s = quiet_then (finds rule.Kind name.offset) (λ _. g.looked i s) (quiet_finds rule.Kind name.offset) (λ _. quiet_looked i s)
+quiet_refused name i s = quiet_then (finds rule.Kind name.offset) (λ _. g.looked_through i s) (quiet_finds rule.Kind name.offset) (λ _. quiet_through_it i s)
 
 quiet_refused_values : (name : Name) (i : Initializer) (s : Scope) → IsQuiet (g.refused_values name i s)
 unfolding g.refused_values
 quiet_refused_values name i s = quiet_then (g.refused name i s) (λ _. pure []) (quiet_refused name i s) (λ _. quiet_pure [])
 
-quiet_initial_of : (name : Name) (ty : IntegerType) (size : Option ℕ) (i : Initializer) (s : Scope) → IsQuiet (g.initial_of name ty size i s)
-quiet_initial_of name ty None (initial_as.Value e) s =
-    quiet_then (g.initial_value ty e s) (λ x. pure (x ∷ [])) (quiet_initial_value ty e s) (λ x. quiet_pure (x ∷ []))
-quiet_initial_of name ty (Some size) (initial_as.List list) s = quiet_values ty size list s
-quiet_initial_of name ty None (initial_as.List list) s = quiet_refused_values name (initial_as.List list) s
-quiet_initial_of name ty None initial_as.Mutex s = quiet_refused_values name initial_as.Mutex s
-quiet_initial_of name ty (Some size) (initial_as.Value e) s = quiet_refused_values name (initial_as.Value e) s
-quiet_initial_of name ty (Some size) initial_as.Mutex s = quiet_refused_values name initial_as.Mutex s
+quiet_initial_of : (name : Name) (ty : IntegerType) (d : Dimensions) (b : Bool) (i : Initializer) (s : Scope) → IsQuiet (g.initial_of name ty d b i s)
+quiet_initial_of name ty d true (initial_as.Value e) s = quiet_one ty e s
+quiet_initial_of name ty d false (initial_as.List list at) s = quiet_array ty d list s
+quiet_initial_of name ty d true (initial_as.List list at) s = quiet_refused_values name (initial_as.List list at) s
+quiet_initial_of name ty d true initial_as.Mutex s = quiet_refused_values name initial_as.Mutex s
+quiet_initial_of name ty d false (initial_as.Value e) s = quiet_refused_values name (initial_as.Value e) s
+quiet_initial_of name ty d false initial_as.Mutex s = quiet_refused_values name initial_as.Mutex s
 
 quiet_initial : (name : Name) (v : Variable) (i : Option Initializer) (s : Scope) → IsQuiet (g.initial name v i s)
 quiet_initial name v None s = quiet_pure []
-quiet_initial name v (Some i) s = quiet_initial_of name (c_type v.ty) v.length i s
+quiet_initial name v (Some i) s = quiet_initial_of name (c_type v.ty) v.dimensions (is_scalar v.dimensions) i s
 
 quiet_initialised : (o : Object) (name : Name) (i : Option Initializer) (s : Scope) → IsQuiet (g.is_initialised o name i s)
 quiet_initialised o name None s = quiet_pure false
@@ -153,6 +237,6 @@ silent_as d meaning.Unusable = silent_going (g.unusable d) (none_unusable d)
 pub global_silent : (words : Spelled) (pointer : Bool) (d : GlobalDeclarator) → IsSilent (g.global words pointer d)
 unfolding g.global
 global_silent words pointer d x =
-    silent_then (going (finding (optional_length d.length))) (λ size. g.global_as d (g.global_meaning x.tables words pointer size))
-    (silent_finding (optional_length d.length) (λ s. k.quiet_optional_length d.length s))
+    silent_then (going (finding (dimensions d.lengths))) (λ size. g.global_as d (g.global_meaning x.tables words pointer size))
+    (silent_finding (dimensions d.lengths) (λ s. k.quiet_dimensions d.lengths s))
     (λ size. silent_as d (g.global_meaning x.tables words pointer size)) x

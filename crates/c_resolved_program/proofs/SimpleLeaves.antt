@@ -22,7 +22,7 @@ use Rattle.c_resolved_program.proofs.ValidSentences.{Gives, gives_as, gives_pure
 use Rattle.c_resolved_program.proofs.Tokens.{IsValidToken, name_valid}
 use Rattle.c_resolved_program.proofs.ExpressionGrammar as t
 use Rattle.c_resolved_program.proofs.ExpressionGrammar.{IsExpression}
-use Rattle.c_resolved_program.proofs.ExpressionLeaves.{Good, sign_gives, name_gives, any_gives, specifiers_gives, optional_index_gives, place_gives, arguments_gives, null_gives, converted_pointer_gives}
+use Rattle.c_resolved_program.proofs.ExpressionLeaves.{Good, sign_gives, name_gives, any_gives, specifiers_gives, indices_give, place_gives, arguments_gives, null_gives, converted_pointer_gives}
 use Rattle.c_resolved_program.proofs.Walks.{IfAny}
 
 pub any_part : {A : Type 0} (leaves : A → Leaves) (o : Option A) → IfAny (λ a. AreValid (leaves a)) o → AreValid (of_any leaves o)
@@ -56,7 +56,7 @@ module _ (cast expr : Phrase Expression) (of_cast : Good IsExpression cast) (of_
   assignment_gives : Good IsSimple (h.assignment cast expr)
   assignment_gives =
       gives_then IsValidToken _ _ name_gives
-      (λ _ x _. gives_then IsValidToken _ _ (optional_index_gives cast expr of_cast of_expr)
+      (λ _ x _. gives_then IsValidToken _ _ (indices_give cast expr of_cast of_expr)
       (λ _ i is. gives_then IsValidToken _ _ (any_gives assignment_at)
       (λ _ op _. gives_then IsValidToken _ _ of_expr
       (λ _ e so. gives_pure IsValidToken _ (all_both IsValidLeaf (place_leaves (tree.place x i)) (expression_leaves e) (t.place_is x i is) so)))))
@@ -64,7 +64,7 @@ module _ (cast expr : Phrase Expression) (of_cast : Good IsExpression cast) (of_
   step_behind_gives : Good IsSimple (h.step_behind cast expr)
   step_behind_gives =
       gives_then IsValidToken _ _ name_gives
-      (λ _ x _. gives_then IsValidToken _ _ (optional_index_gives cast expr of_cast of_expr)
+      (λ _ x _. gives_then IsValidToken _ _ (indices_give cast expr of_cast of_expr)
       (λ _ i is. gives_then IsValidToken _ _ (any_gives direction_of) (λ _ way _. gives_pure IsValidToken _ (t.place_is x i is))))
 
   step_before_gives : Good IsSimple (h.step_before cast expr)
@@ -99,10 +99,10 @@ module _ (cast expr : Phrase Expression) (of_cast : Good IsExpression cast) (of_
   declarator_gives : Gives IsValidToken (λ n d. AreValid (declarator_leaves d) × (1 ≤ n)) (h.declarator cast expr)
   declarator_gives =
       gives_then IsValidToken _ _ one_name
-      (λ a x one. gives_then IsValidToken _ _ (optional_index_gives cast expr of_cast of_expr)
+      (λ a x one. gives_then IsValidToken _ _ (indices_give cast expr of_cast of_expr)
       (λ b size is. gives_then IsValidToken _ _ optional_value_gives
       (λ c initial so. gives_pure IsValidToken _ (
-        all_both IsValidLeaf (of_any expression_leaves size) (of_any expression_leaves initial) (any_part expression_leaves size is) (any_part expression_leaves initial so),
+        all_both IsValidLeaf (of_each expression_leaves size) (of_any expression_leaves initial) (each_part expression_leaves size is) (any_part expression_leaves initial so),
         omega (arith, one.1),
       ))))
 

@@ -7,10 +7,14 @@ use Rattle.c_tree.specs.declared.statement.SimpleStatement.{SimpleStatement}
 use Rattle.c_tree.specs.declared.statement.ForStart.{ForStart}
 use Rattle.c_program.specs.Tree.{Statement}
 use Rattle.c_rules.specs.Names.{opened, closed}
-use Rattle.c_rules.specs.Walks.{pure, ◌>>=◌, ◌>>◌}
-use Rattle.c_expressions.specs.Expressions.{condition}
-use Rattle.c_resolution.specs.Sequences.{sequence}
-use Rattle.c_resolution.specs.Simple.{check_jump}
+use Rattle.hls_ints.specs.Types.{IntegerType, promoted}
+use Rattle.c_program.specs.Types.{type_of}
+use Rattle.c_rules.specs.declared.names.Scope.{Scope}
+use Rattle.c_rules.specs.Walks.{pure, through, ◌>>=◌, ◌>>◌}
+use Rattle.c_expressions.specs.Cuts.{free_from}
+use Rattle.c_expressions.specs.Expressions.{condition, value}
+use Rattle.c_expressions.specs.Sequences.{sequence}
+use Rattle.c_resolution.specs.Simple.{check_break, check_continue}
 use Rattle.c_resolution.specs.Locals.{declaration}
 use Rattle.c_resolution.specs.States.{Goes, finding, scoping}
 use Rattle.c_resolution.specs.Statements as y
@@ -64,24 +68,50 @@ pub branch_grows : (n m k : ℕ) (test : ExpressionTree) (consequent : Goes Stat
 branch_grows n m k test consequent alternative le h other =
     let out = λ (c : Statement) (a b : Statement). pure (y.if_of c a b) in
     let second = λ (c : Statement) (a : Statement). y.missing_is_done alternative >>= out c a in
-    in_turn n 0 n (finding (λ s. condition s test)) (λ c. consequent >>= second c) (omega arith) (grows_finding (λ s. condition s test))
+    in_turn n 0 n (finding (λ s. condition s test s.kept_from)) (λ c. consequent >>= second c) (omega arith) (grows_finding (λ s. condition s test s.kept_from))
     (λ c. in_turn n m k consequent (second c) le h
     (λ a. in_turn k k 0 (y.missing_is_done alternative) (out c a) (omega arith) other (λ b. grows_pure (y.if_of c a b))))
 
 pub while_loop_grows : (n : ℕ) (test : ExpressionTree) (body : Goes Statement) → Grows n body → Grows n (y.while_loop test body)
 while_loop_grows n test body h =
     let out = λ (c b : Statement). pure (y.while_of c b) in
-    in_turn n 0 n (finding (λ s. condition s test)) (λ c. y.loop_body body >>= out c) (omega arith) (grows_finding (λ s. condition s test))
+    in_turn n 0 n (finding (λ s. condition s test s.kept_from)) (λ c. y.loop_body body >>= out c) (omega arith) (grows_finding (λ s. condition s test s.kept_from))
     (λ c. in_turn n n 0 (y.loop_body body) (out c) (omega arith) (loop_body_grows n body h) (λ b. grows_pure (y.while_of c b)))
 
 pub do_while_grows : (n : ℕ) (body : Goes Statement) (test : ExpressionTree) → Grows n body → Grows n (y.do_while body test)
 do_while_grows n body test h =
     let out = λ (b c : Statement). pure (y.do_while_of b c) in
-    in_turn n n 0 (y.loop_body body) (λ b. finding (λ s. condition s test) >>= out b) (omega arith) (loop_body_grows n body h)
-    (λ b. in_turn 0 0 0 (finding (λ s. condition s test)) (out b) (omega arith) (grows_finding (λ s. condition s test)) (λ c. grows_pure (y.do_while_of b c)))
+    in_turn n n 0 (y.loop_body body) (λ b. finding (λ s. condition s test s.kept_from) >>= out b) (omega arith) (loop_body_grows n body h)
+    (λ b. in_turn 0 0 0 (finding (λ s. condition s test s.kept_from)) (out b) (omega arith) (grows_finding (λ s. condition s test s.kept_from)) (λ c. grows_pure (y.do_while_of b c)))
 
-pub jump_grows : (x : Statement) (at : ℕ) → Grows 0 (y.jump x at)
-jump_grows x at = in_turn 0 0 0 (finding (λ s. check_jump s at)) (λ _. pure x) (omega arith) (grows_finding (λ s. check_jump s at)) (λ _. grows_pure x)
+pub break_grows : (at : ℕ) → Grows 0 (y.break_at at)
+break_grows at = in_turn 0 0 0 (finding (λ s. check_break s at)) (λ _. pure Statement.Break) (omega arith) (grows_finding (λ s. check_break s at)) (λ _. grows_pure Statement.Break)
+
+pub continue_grows : (at : ℕ) → Grows 0 (y.continue_at at)
+continue_grows at =
+    in_turn 0 0 0 (finding (λ s. check_continue s at)) (λ _. pure Statement.Continue) (omega arith) (grows_finding (λ s. check_continue s at)) (λ _. grows_pure Statement.Continue)
+
+-- ---- switches
+
+pub next_statement_grows : (n : ℕ) (c : y.Cases) (x : Goes Statement) → Grows n x → Grows n (y.next_statement c x)
+next_statement_grows n c x h =
+    in_turn n n 0 x (λ step. pure (record c { steps = c.steps ++ step ∷ [] })) (omega arith) h (λ step. grows_pure (record c { steps = c.steps ++ step ∷ [] }))
+
+-- a switch grows as its groups do
+pub switch_grows : (n : ℕ) (e : ExpressionTree) (groups : List y.Groups) (at : ℕ) →
+    ((ty : IntegerType) → Grows n (through (λ c (g : y.Groups). g ty c) y.no_cases groups)) → Grows n (y.switch e groups at)
+unfolding y.switch y.switch_body
+switch_grows n e groups at h =
+    let add = λ (ty : IntegerType) (c : y.Cases) (g : y.Groups). g ty c in
+    let out = λ (c : y.Cases). scoping y.unswitched >> pure (sequence c.steps) in
+    let body = λ (ty : IntegerType). scoping y.switched >> (through (add ty) y.no_cases groups >>= out) in
+    let walk = λ (s : Scope). value s e at (free_from s.kept_from) in
+    in_turn n 0 n (finding walk) (λ x. body (promoted (type_of x.rest)) >>= (λ b. pure (y.switch_of at x b))) (omega arith) (grows_finding walk)
+    (λ x. in_turn n n 0 (body (promoted (type_of x.rest))) (λ b. pure (y.switch_of at x b)) (omega arith)
+    (in_turn n 0 n (scoping y.switched) (λ _. through (add (promoted (type_of x.rest))) y.no_cases groups >>= out) (omega arith) (grows_scoping y.switched (λ s. refl))
+    (λ _. in_turn n n 0 (through (add (promoted (type_of x.rest))) y.no_cases groups) out (omega arith) (h (promoted (type_of x.rest)))
+    (λ c. in_turn 0 0 0 (scoping y.unswitched) (λ _. pure (sequence c.steps)) (omega arith) (grows_scoping y.unswitched (λ s. refl)) (λ _. grows_pure (sequence c.steps)))))
+    (λ b. grows_pure (y.switch_of at x b)))
 
 pub with_step_grows : (n : ℕ) (x : Goes Statement) (steps : List Statement) → Grows n x → Grows n (y.with_step x steps)
 with_step_grows n x steps h = in_turn n n 0 x (λ step. pure (steps ++ step ∷ [])) (omega arith) h (λ step. grows_pure (steps ++ step ∷ []))

@@ -10,18 +10,21 @@ use Rattle.c_tree.specs.declared.statement.ForStart.{ForStart}
 use Rattle.c_tree.specs.declared.statement.Block.{Block as BlockTree}
 use Rattle.c_tree.specs.declared.statement.BlockItem.{BlockItem as BlockItemTree}
 use Rattle.c_tree.specs.declared.statement.BlockItem.TheVariants as block_item
+use Rattle.c_tree.specs.declared.statement.CaseLabel.{CaseLabel}
+use Rattle.c_tree.specs.declared.statement.Group.{Group as GroupTree}
 use Rattle.c_tree.specs.declared.statement.Statement.{Statement as StatementTree, roll-Statement}
 use Rattle.c_tree.specs.declared.statement.Statement.TheVariants as st
 use Rattle.c_tree.specs.declared.statement.BlockItem.TheOpen.{BlockItem-F, Statement-F}
-use Rattle.c_tree.specs.declared.statement.BlockItem.TheFolds.{map-Statement, fold-roll-BlockItem, fold-roll-Statement, fold-roll-Block}
+use Rattle.c_tree.specs.declared.statement.BlockItem.TheFolds.{map-Statement, fold-roll-BlockItem, fold-roll-Statement, fold-roll-Block, fold-roll-Group}
 use Rattle.c_tree.specs.Trees as tree
 use Rattle.c_rules.specs.Constants.{plus}
 use Rattle.c_rules.specs.Walks.{place_in_tree}
-use Rattle.c_resolution.specs.Declarators.{in_start, in_item, in_statement, in_block, block_declarators, statement_declarators, item_declarators}
-use Rattle.c_resolved_program.specs.Leaves.{Leaves, AreValid, IsValidLeaf, of_any, expression_leaves, simple_leaves, start_leaves, item_layer, statement_layer, block_layer, block_leaves}
+use Rattle.c_resolution.specs.Declarators.{in_start, in_item, in_statement, in_block, in_group, block_declarators, statement_declarators, item_declarators, group_declarators}
+use Rattle.c_resolved_program.specs.Leaves.{Leaves, AreValid, IsValidLeaf, all_of, of_any, expression_leaves, simple_leaves}
+use Rattle.c_resolved_program.specs.Leaves.{start_leaves, label_leaves, item_layer, statement_layer, block_layer, group_layer, block_leaves}
 use Rattle.c_resolved_program.proofs.Lists.{all_both}
 use Rattle.c_resolved_program.proofs.Walks.{IfAny}
-use Rattle.c_resolved_program.proofs.Statements.{item_leaves, statement_leaves}
+use Rattle.c_resolved_program.proofs.Statements.{item_leaves, statement_leaves, group_leaves}
 use Rattle.c_resolved_program.proofs.ExpressionGrammar.{IsExpression, all_parts}
 use Rattle.c_resolved_program.proofs.SimpleLeaves.{any_part, IsSimple, IsReturned, IsDeclaration}
 
@@ -54,18 +57,18 @@ place_most n = grind arith
 
 -- ---- statements by their parts
 
-abbrev leaves_in : Statement-F BlockItemTree StatementTree BlockTree → Statement-F Leaves Leaves Leaves
-leaves_in x = map-Statement BlockItemTree StatementTree BlockTree Leaves Leaves Leaves item_leaves statement_leaves block_leaves x
+abbrev leaves_in : Statement-F BlockItemTree StatementTree BlockTree GroupTree → Statement-F Leaves Leaves Leaves Leaves
+leaves_in x = map-Statement BlockItemTree StatementTree BlockTree GroupTree Leaves Leaves Leaves Leaves item_leaves statement_leaves block_leaves group_leaves x
 
-abbrev counts_in : Statement-F BlockItemTree StatementTree BlockTree → Statement-F ℕ ℕ ℕ
-counts_in x = map-Statement BlockItemTree StatementTree BlockTree ℕ ℕ ℕ item_declarators statement_declarators block_declarators x
+abbrev counts_in : Statement-F BlockItemTree StatementTree BlockTree GroupTree → Statement-F ℕ ℕ ℕ ℕ
+counts_in x = map-Statement BlockItemTree StatementTree BlockTree GroupTree ℕ ℕ ℕ ℕ item_declarators statement_declarators block_declarators group_declarators x
 
-statement_is : (n : ℕ) (x : Statement-F BlockItemTree StatementTree BlockTree) (s : StatementTree) → roll-Statement x ≡ s → AreValid (statement_layer (leaves_in x)) →
+statement_is : (n : ℕ) (x : Statement-F BlockItemTree StatementTree BlockTree GroupTree) (s : StatementTree) → roll-Statement x ≡ s → AreValid (statement_layer (leaves_in x)) →
     in_statement (counts_in x) ≤ n → IsStatement n s
 statement_is n x s e valid few =
     subst (IsStatement n) e (
-      subst AreValid (sym (fold-roll-Statement Leaves Leaves Leaves item_layer statement_layer block_layer x)) valid,
-      subst (λ k. k ≤ n) (sym (fold-roll-Statement ℕ ℕ ℕ in_item in_statement in_block x)) few,
+      subst AreValid (sym (fold-roll-Statement Leaves Leaves Leaves Leaves item_layer statement_layer block_layer group_layer x)) valid,
+      subst (λ k. k ≤ n) (sym (fold-roll-Statement ℕ ℕ ℕ ℕ in_item in_statement in_block in_group x)) few,
     )
 
 -- ---- blocks
@@ -84,23 +87,24 @@ item_counts m n i list one more k =
 
 pub block_is : (n : ℕ) (list : List BlockItemTree) (close : ℕ) → AreItems n list → IsBlock n (tree.block list close)
 block_is n list close is = (
-  subst AreValid (sym (fold-roll-Block Leaves Leaves Leaves item_layer statement_layer block_layer (record { items = list; close = close }))) (all_parts item_leaves list is.0),
-  subst (λ k. k ≤ n) (sym (fold-roll-Block ℕ ℕ ℕ in_item in_statement in_block (record { items = list; close = close }))) (from_nothing (fold plus 0 (map item_declarators list)) n (is.1 0)),
+  subst AreValid (sym (fold-roll-Block Leaves Leaves Leaves Leaves item_layer statement_layer block_layer group_layer (record { items = list; close = close }))) (all_parts item_leaves list is.0),
+  subst (λ k. k ≤ n) (sym (fold-roll-Block ℕ ℕ ℕ ℕ in_item in_statement in_block in_group (record { items = list; close = close })))
+      (from_nothing (fold plus 0 (map item_declarators list)) n (is.1 0)),
 )
 
 pub declaration_item : (n : ℕ) (d : Declaration) → IsDeclaration n d → IsItem n (block_item.Declaration d)
 declaration_item n d is =
     subst (IsItem n) (block_item.rolls-Declaration d) (
-      subst AreValid (sym (fold-roll-BlockItem Leaves Leaves Leaves item_layer statement_layer block_layer (BlockItem-F.Declaration d))) is.0,
-      subst (λ k. k ≤ n) (sym (fold-roll-BlockItem ℕ ℕ ℕ in_item in_statement in_block (BlockItem-F.Declaration d)))
+      subst AreValid (sym (fold-roll-BlockItem Leaves Leaves Leaves Leaves item_layer statement_layer block_layer group_layer (BlockItem-F.Declaration d))) is.0,
+      subst (λ k. k ≤ n) (sym (fold-roll-BlockItem ℕ ℕ ℕ ℕ in_item in_statement in_block in_group (BlockItem-F.Declaration d)))
           (le_trans (place_most (length d.declarators)) is.1),
     )
 
 pub statement_item : (n : ℕ) (s : StatementTree) → IsStatement n s → IsItem n (block_item.Statement s)
 statement_item n s is =
     subst (IsItem n) (block_item.rolls-Statement s) (
-      subst AreValid (sym (fold-roll-BlockItem Leaves Leaves Leaves item_layer statement_layer block_layer (BlockItem-F.Statement s))) is.0,
-      subst (λ k. k ≤ n) (sym (fold-roll-BlockItem ℕ ℕ ℕ in_item in_statement in_block (BlockItem-F.Statement s))) is.1,
+      subst AreValid (sym (fold-roll-BlockItem Leaves Leaves Leaves Leaves item_layer statement_layer block_layer group_layer (BlockItem-F.Statement s))) is.0,
+      subst (λ k. k ≤ n) (sym (fold-roll-BlockItem ℕ ℕ ℕ ℕ in_item in_statement in_block in_group (BlockItem-F.Statement s))) is.1,
     )
 
 -- ---- statements
@@ -162,3 +166,46 @@ for_is n m k begin c step body le first test last is =
     (all_both IsValidLeaf (of_any expression_leaves c) tail (any_part expression_leaves c test)
     (all_both IsValidLeaf (of_any simple_leaves step) (statement_leaves body) (any_part simple_leaves step last) is.0)))
     (plus_most (in_start begin) (statement_declarators body) m k n first.1 is.1 le)
+
+-- ---- switches
+
+abbrev pub IsLabel : CaseLabel → Type 0
+IsLabel x = AreValid (label_leaves x)
+
+abbrev pub IsGroup : ℕ → GroupTree → Type 0
+IsGroup n x = AreValid (group_leaves x) × (group_declarators x ≤ n)
+
+-- parts with so many declarators at most
+abbrev Counts : {A : Type 0} → (A → ℕ) → ℕ → List A → Type 0
+Counts count n list = (k : ℕ) → fold plus k (map count list) ≤ k + n
+
+counts_more : {A : Type 0} (count : A → ℕ) (m n : ℕ) (a : A) (list : List A) → count a ≤ m → Counts count n list → Counts count (m + n) (a ∷ list)
+counts_more count m n a list one more k =
+    let p = plus k (count a) in
+    one_more (fold plus p (map count list)) p k m n (more p) (plus_most k (count a) k m (k + m) (omega arith) one (omega arith))
+
+abbrev pub AreStatements : ℕ → List StatementTree → Type 0
+AreStatements n list = AllByRecursion (λ i. AreValid (statement_leaves i)) list × Counts statement_declarators n list
+
+pub statements_more : (m n : ℕ) (x : StatementTree) (list : List StatementTree) → IsStatement m x → AreStatements n list → AreStatements (m + n) (x ∷ list)
+statements_more m n x list one more = ((one.0, more.0), counts_more statement_declarators m n x list one.1 more.1)
+
+abbrev pub AreGroups : ℕ → List GroupTree → Type 0
+AreGroups n list = AllByRecursion (λ i. AreValid (group_leaves i)) list × Counts group_declarators n list
+
+pub groups_more : (m n : ℕ) (x : GroupTree) (list : List GroupTree) → IsGroup m x → AreGroups n list → AreGroups (m + n) (x ∷ list)
+groups_more m n x list one more = ((one.0, more.0), counts_more group_declarators m n x list one.1 more.1)
+
+pub group_is : (n : ℕ) (label : CaseLabel) (list : List StatementTree) → IsLabel label → AreStatements n list → IsGroup n (tree.group label list)
+group_is n label list is all = (
+  subst AreValid (sym (fold-roll-Group Leaves Leaves Leaves Leaves item_layer statement_layer block_layer group_layer (record { label = label; statements = list })))
+      (all_both IsValidLeaf (label_leaves label) (all_of (map statement_leaves list)) is (all_parts statement_leaves list all.0)),
+  subst (λ k. k ≤ n) (sym (fold-roll-Group ℕ ℕ ℕ ℕ in_item in_statement in_block in_group (record { label = label; statements = list })))
+      (from_nothing (fold plus 0 (map statement_declarators list)) n (all.1 0)),
+)
+
+pub switch_is : (n m : ℕ) (c : Expression) (list : List GroupTree) (at : ℕ) → m ≤ n → IsExpression c → AreGroups m list → IsStatement n (st.Switch c list at)
+switch_is n m c list at le test all =
+    statement_is n (Statement-F.Switch c list at) (st.Switch c list at) (st.rolls-Switch c list at)
+    (all_both IsValidLeaf (expression_leaves c) (all_of (map group_leaves list)) test (all_parts group_leaves list all.0))
+    (le_trans (from_nothing (fold plus 0 (map group_declarators list)) m (all.1 0)) le)

@@ -6,6 +6,7 @@ use Rattle.std.specs.Str.{bytes_eq}
 use Rattle.c_tree.specs.declared.expression.Name.{Name}
 use Rattle.c_program.specs.declared.tree.LocalVariable.{LocalVariable}
 use Rattle.c_program.specs.Tree.{Function, Program}
+use Rattle.c_program.specs.Resolved as r
 use Rattle.c_rules.specs.declared.fault.Rule.TheVariants as rule
 use Rattle.c_rules.specs.declared.findings.Findings.{Findings}
 use Rattle.c_rules.specs.declared.names.Meaning.{Meaning}
@@ -20,7 +21,7 @@ use Rattle.c_resolved_program.specs.Orders.{left, given, declared_in, IsMeant, A
 use Rattle.c_resolved_program.proofs.Walks.{Shows, shows_broken, outcome, turn, IfAny, all_more}
 use Rattle.std.proofs.lemmas.Option.{slice_get_within, none-some}
 use Rattle.lists.proofs.Places.{get_middle}
-use Rattle.c_resolved_program.proofs.Arguments.{element_is}
+use Rattle.c_resolved_program.proofs.Elements.{element_is}
 
 -- ---- fronts of lists
 
@@ -64,8 +65,8 @@ pub record DoesIn (whole : Findings) (f : Function) (H : State → Type 0) {A : 
   pub forth : (x : State) → IsAhead whole f (left (w x)) → Before → H x → H (left (w x)) × Is (given (w x))
 
 -- a part of the body of the function of that number
-abbrev pub Does : Findings → Program → ℕ → Function → Bool → {A : Type 0} → Type 0 → (A → Type 0) → Goes A → Type 0
-Does whole P number f in_loop Before Is w = DoesIn whole f (Holds P number f in_loop) Before Is w
+abbrev pub Does : Findings → Program → ℕ → Function → r.Around → {A : Type 0} → Type 0 → (A → Type 0) → Goes A → Type 0
+Does whole P number f around Before Is w = DoesIn whole f (Holds P number f around) Before Is w
 
 pub in_scope_is : {A : Type 0} (s : Scope) (o : Outcome Findings A) → in_scope s o ≡ Outcome.Gives (given o) (state s (left o))
 in_scope_is s (Outcome.Gives a found) = refl
@@ -94,11 +95,11 @@ closed_ahead : (whole : Findings) (f : Function) (level : Option Names) (s : Sco
 closed_ahead whole f None s found ahead = ahead
 closed_ahead whole f (Some level) s found ahead = record { found = ahead.found; locals = ahead.locals }
 
-closed_holds : (P : Program) (number : ℕ) (f : Function) (in_loop : Bool) (level : Option Names) (s : Scope) (found : Findings) → IfAny (AreMeant P f) level →
-    Holds P number f in_loop (state s found) →
-    Holds P number f in_loop (state (closed_to level s) found)
-closed_holds P number f in_loop None s found are holds = holds
-closed_holds P number f in_loop (Some level) s found are holds =
+closed_holds : (P : Program) (number : ℕ) (f : Function) (around : r.Around) (level : Option Names) (s : Scope) (found : Findings) → IfAny (AreMeant P f) level →
+    Holds P number f around (state s found) →
+    Holds P number f around (state (closed_to level s) found)
+closed_holds P number f around None s found are holds = holds
+closed_holds P number f around (Some level) s found are holds =
     let order = holds.orderly in
     record {
       orderly = record {
@@ -109,6 +110,7 @@ closed_holds P number f in_loop (Some level) s found are holds =
         gives = order.gives;
         kept = order.kept;
       };
+      exits = holds.exits;
       loops = holds.loops;
       lengths = holds.lengths;
     }
@@ -170,37 +172,37 @@ module _ {whole : Findings} {f : Function} {H : State → Type 0} where
             (later.forth (left o) behind (before.0, half.1) half.0);
       }
 
-module _ {whole : Findings} {P : Program} {number : ℕ} {f : Function} {in_loop : Bool} where
+module _ {whole : Findings} {P : Program} {number : ℕ} {f : Function} {around : r.Around} where
   -- a part that declares nothing
   pub does_finding : {A : Type 0} {Before : Type 0} {Is : A → Type 0} (walk : Scope → Finds A) →
-      ((s : Scope) → Shows whole (Before × IsOrderly P number f s) Is (walk s)) → Does whole P number f in_loop Before Is (finding walk)
+      ((s : Scope) → Shows whole (Before × IsOrderly P number f s) Is (walk s)) → Does whole P number f around Before Is (finding walk)
   does_finding {Is = Is} walk h = record {
     back = λ x ahead.
         let found = subst (λ o. IsAhead whole f (left o)) (in_scope_is x.scope (walk x.scope x.found)) ahead in
         record { found = (h x.scope).back x.found found.found; locals = found.locals };
     forth = λ x ahead before holds.
         let found = subst (λ o. IsAhead whole f (left o)) (in_scope_is x.scope (walk x.scope x.found)) ahead in
-        subst (λ o. Holds P number f in_loop (left o) × Is (given o)) (sym (in_scope_is x.scope (walk x.scope x.found)))
-        (record { orderly = holds.orderly; loops = holds.loops; lengths = holds.lengths }, (h x.scope).forth x.found found.found (before, holds.orderly));
+        subst (λ o. Holds P number f around (left o) × Is (given o)) (sym (in_scope_is x.scope (walk x.scope x.found)))
+        (record { orderly = holds.orderly; exits = holds.exits; loops = holds.loops; lengths = holds.lengths }, (h x.scope).forth x.found found.found (before, holds.orderly));
   }
 
   -- the same of what a scope shows besides
   pub does_finding_in : {A : Type 0} {Before : Type 0} {Is : A → Type 0} (Seen : Scope → A → Type 0) (walk : Scope → Finds A) →
       ((s : Scope) → Shows whole (Before × IsOrderly P number f s) (Seen s) (walk s)) →
-      ((x : State) (a : A) → Holds P number f in_loop x → Seen x.scope a → Is a) → Does whole P number f in_loop Before Is (finding walk)
+      ((x : State) (a : A) → Holds P number f around x → Seen x.scope a → Is a) → Does whole P number f around Before Is (finding walk)
   does_finding_in {Is = Is} Seen walk h seen = record {
     back = λ x ahead.
         let found = subst (λ o. IsAhead whole f (left o)) (in_scope_is x.scope (walk x.scope x.found)) ahead in
         record { found = (h x.scope).back x.found found.found; locals = found.locals };
     forth = λ x ahead before holds.
         let found = subst (λ o. IsAhead whole f (left o)) (in_scope_is x.scope (walk x.scope x.found)) ahead in
-        subst (λ o. Holds P number f in_loop (left o) × Is (given o)) (sym (in_scope_is x.scope (walk x.scope x.found))) (
-          record { orderly = holds.orderly; loops = holds.loops; lengths = holds.lengths },
+        subst (λ o. Holds P number f around (left o) × Is (given o)) (sym (in_scope_is x.scope (walk x.scope x.found))) (
+          record { orderly = holds.orderly; exits = holds.exits; loops = holds.loops; lengths = holds.lengths },
           seen x (given (walk x.scope x.found)) holds ((h x.scope).forth x.found found.found (before, holds.orderly)),
         );
   }
 
-  pub does_opened : {Before : Type 0} → Does whole P number f in_loop Before (λ _. ⊤) (scoping opened)
+  pub does_opened : {Before : Type 0} → Does whole P number f around Before (λ _. ⊤) (scoping opened)
   unfolding opened
   does_opened = record {
     back = λ x ahead. record { found = ahead.found; locals = ahead.locals };
@@ -215,6 +217,7 @@ module _ {whole : Findings} {P : Program} {number : ℕ} {f : Function} {in_loop
               gives = order.gives;
               kept = order.kept;
             };
+            exits = holds.exits;
             loops = holds.loops;
             lengths = holds.lengths;
           },
@@ -222,12 +225,12 @@ module _ {whole : Findings} {P : Program} {number : ℕ} {f : Function} {in_loop
         );
   }
 
-  pub does_closed : {Before : Type 0} → Does whole P number f in_loop Before (λ _. ⊤) (scoping closed)
+  pub does_closed : {Before : Type 0} → Does whole P number f around Before (λ _. ⊤) (scoping closed)
   unfolding closed
   does_closed = record {
     back = λ x ahead. closed_ahead whole f (slice_get x.scope.outer (length x.scope.outer - 1)) x.scope x.found ahead;
     forth = λ x ahead before holds. (
-      closed_holds P number f in_loop (slice_get x.scope.outer (length x.scope.outer - 1)) x.scope x.found
+      closed_holds P number f around (slice_get x.scope.outer (length x.scope.outer - 1)) x.scope x.found
           (element_is (AreMeant P f) x.scope.outer (length x.scope.outer - 1) holds.orderly.outer) holds,
       tt,
     );
@@ -235,7 +238,7 @@ module _ {whole : Findings} {P : Program} {number : ℕ} {f : Function} {in_loop
 
   -- ---- a name in the innermost scope
 
-  declaring_does : {Before : Type 0} (name : List ℕ) (m : Meaning) → (Before → IsMeant P f m) → Does whole P number f in_loop Before (λ _. ⊤) (scoping (declaring name m))
+  declaring_does : {Before : Type 0} (name : List ℕ) (m : Meaning) → (Before → IsMeant P f m) → Does whole P number f around Before (λ _. ⊤) (scoping (declaring name m))
   unfolding declaring
   declaring_does name m is = record {
     back = λ x ahead. record { found = ahead.found; locals = ahead.locals };
@@ -250,6 +253,7 @@ module _ {whole : Findings} {P : Program} {number : ℕ} {f : Function} {in_loop
               gives = order.gives;
               kept = order.kept;
             };
+            exits = holds.exits;
             loops = holds.loops;
             lengths = holds.lengths;
           },
@@ -257,18 +261,18 @@ module _ {whole : Findings} {P : Program} {number : ℕ} {f : Function} {in_loop
         );
   }
 
-  twice_does : {Before : Type 0} (at : ℕ) → Does whole P number f in_loop Before (λ _. ⊤) (finding (λ s. finds rule.Twice at))
+  twice_does : {Before : Type 0} (at : ℕ) → Does whole P number f around Before (λ _. ⊤) (finding (λ s. finds rule.Twice at))
   twice_does at = does_finding (λ s. finds rule.Twice at) (λ s. shows_broken {Is = λ _. ⊤} rule.Twice at)
 
   -- by a test of the state
   either_holds : {A : Type 0} (Is : A → Type 0) (b : Bool) (v w : Goes A) (x : State) →
-      (IsAhead whole f (left (v x)) → Holds P number f in_loop (left (v x)) × Is (given (v x))) →
-      (IsAhead whole f (left (w x)) → Holds P number f in_loop (left (w x)) × Is (given (w x))) →
-      IsAhead whole f (left (if b then v x else w x)) → Holds P number f in_loop (left (if b then v x else w x)) × Is (given (if b then v x else w x))
+      (IsAhead whole f (left (v x)) → Holds P number f around (left (v x)) × Is (given (v x))) →
+      (IsAhead whole f (left (w x)) → Holds P number f around (left (w x)) × Is (given (w x))) →
+      IsAhead whole f (left (if b then v x else w x)) → Holds P number f around (left (if b then v x else w x)) × Is (given (if b then v x else w x))
   either_holds Is true v w x hv hw ahead = hv ahead
   either_holds Is false v w x hv hw ahead = hw ahead
 
-  pub declare_does : {Before : Type 0} (name : Name) (m : Meaning) → (Before → IsMeant P f m) → Does whole P number f in_loop Before (λ _. ⊤) (declare name m)
+  pub declare_does : {Before : Type 0} (name : Name) (m : Meaning) → (Before → IsMeant P f m) → Does whole P number f around Before (λ _. ⊤) (declare name m)
   unfolding declare
   declare_does {Before} name m is =
       let v : Goes (Unit {0}) = finding (λ s. finds rule.Twice name.offset) in

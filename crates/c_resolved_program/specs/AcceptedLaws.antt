@@ -7,15 +7,16 @@ use Rattle.c_program.specs.Resolved.{IsResolved}
 use Rattle.c_resolution.specs.Resolving.{Spells}
 use Rattle.c_accepted.specs.Profile.{IsTreeOf, IsAccepted}
 use Rattle.c_resolved_program.specs.Leaves.{HasValidLeaves}
-use Rattle.c_resolved_program.specs.Laws.{IsNumbered}
+use Rattle.c_resolved_program.specs.Laws.{HasElements, IsNumbered}
 
 -- each leaf of the tree of a text is as the lexer makes it
 abbrev pub TreeHasValidLeaves : Type 0
 TreeHasValidLeaves = (text : Bytes) (tree : TranslationUnit) → IsTreeOf text tree → HasValidLeaves tree
 
--- the declarations of a program that the tree of a text spells have numbers of 32 bits
+-- the declarations of a program that the tree of a text spells have numbers of 32 bits, where the elements of each array can be
+-- counted
 abbrev pub TreeIsNumbered : Type 0
-TreeIsNumbered = (text : Bytes) (tree : TranslationUnit) (P : Program) → IsTreeOf text tree → Spells tree P → IsNumbered P
+TreeIsNumbered = (text : Bytes) (tree : TranslationUnit) (P : Program) → IsTreeOf text tree → Spells tree P → HasElements P → IsNumbered P
 
 -- the program of a text that is accepted is resolved
 abbrev pub AcceptedIsResolved : Type 0

@@ -1,10 +1,11 @@
--- The leaves of a tree that its program keeps: constants, string literals, and the names of functions and globals; and what
--- the lexer and the grammar make of them (C99 6.4.2, 6.4.4, 6.4.5).
-use Rattle.std.specs.Prelude.{ℕ, List, [], ◌∷◌, ◌++◌, Option, Some, None, pos, IsTrue, ⊤}
+-- The leaves of a tree that its program keeps: constants, string literals, the names of functions and globals, and the binary
+-- operators that stand side by side; and what the lexer and the grammar make of them (C99 6.4.2, 6.4.4, 6.4.5, 6.5).
+use Rattle.std.specs.Prelude.{◌≡◌, ℕ, List, [], ◌∷◌, ◌++◌, Option, Some, None, pos, IsTrue, ⊤}
 use Rattle.std.specs.List.{AllByRecursion}
 use Rattle.hls_ints.specs.Types.{HasType}
 use Rattle.c_token.specs.declared.constant.Constant.{Constant as ConstantToken}
 use Rattle.c_token.specs.declared.constant.Constant.TheVariants as constant
+use Rattle.c_tree.specs.declared.expression.BinaryOperator.{BinaryOperator}
 use Rattle.c_tree.specs.declared.expression.Expression.{Expression}
 use Rattle.c_tree.specs.declared.expression.Form.{Form}
 use Rattle.c_tree.specs.declared.expression.Choice.{Choice}
@@ -25,9 +26,13 @@ use Rattle.c_tree.specs.declared.statement.Returned.TheVariants as returned
 use Rattle.c_tree.specs.declared.statement.ForStart.{ForStart}
 use Rattle.c_tree.specs.declared.statement.ForStart.TheVariants as start
 use Rattle.c_tree.specs.declared.statement.Block.{Block}
-use Rattle.c_tree.specs.declared.statement.BlockItem.TheOpen.{Block-F, BlockItem-F, Statement-F}
+use Rattle.c_tree.specs.declared.statement.CaseLabel.{CaseLabel}
+use Rattle.c_tree.specs.declared.statement.BlockItem.TheOpen.{Block-F, BlockItem-F, Group-F, Statement-F}
 use Rattle.c_tree.specs.declared.statement.BlockItem.TheFolds.{fold-Block}
 use Rattle.c_tree.specs.declared.declaration.Function.{Function}
+use Rattle.c_tree.specs.declared.declaration.Initial.{Initial}
+use Rattle.c_tree.specs.declared.declaration.Initial.TheOpen.{Initial-F}
+use Rattle.c_tree.specs.declared.declaration.Initial.TheFolds.{fold-Initial}
 use Rattle.c_tree.specs.declared.declaration.Initializer.{Initializer}
 use Rattle.c_tree.specs.declared.declaration.Initializer.TheVariants as initial
 use Rattle.c_tree.specs.declared.declaration.GlobalDeclarator.{GlobalDeclarator}
@@ -36,6 +41,7 @@ use Rattle.c_tree.specs.declared.declaration.ExternalDeclaration.TheVariants as 
 use Rattle.c_tree.specs.declared.declaration.TranslationUnit.{TranslationUnit}
 use Rattle.c_program.specs.Resolved.{IsName, is_text_byte}
 use Rattle.c_rules.specs.Constants.{constant_type}
+use Rattle.c_expressions.specs.Expressions.{is_short_circuit}
 
 pub data Leaf : Type 0 where
   Constant : (value : ConstantToken) → Leaf
@@ -43,16 +49,24 @@ pub data Leaf : Type 0 where
   Text : (bytes : List ℕ) → Leaf
   -- the name of a function or a global
   Name : (bytes : List ℕ) → Leaf
+  -- the binary operators that stand side by side
+  Operators : (operators : List BinaryOperator) → Leaf
 
 -- the number is one of the constant's type
 abbrev pub IsValidConstant : ConstantToken → Type 0
 IsValidConstant (constant.Typed value ty) = HasType (constant_type ty) (pos value)
 IsValidConstant constant.TooLarge = ⊤
 
+-- one or more, which are short circuits all or none of them (6.5.5 to 6.5.14)
+abbrev pub AreOfOneLevel : List BinaryOperator → Type 0
+AreOfOneLevel [] = ⊥
+AreOfOneLevel (first ∷ more) = AllByRecursion (λ operator. is_short_circuit operator ≡ is_short_circuit first) more
+
 abbrev pub IsValidLeaf : Leaf → Type 0
 IsValidLeaf (Leaf.Constant value) = IsValidConstant value
 IsValidLeaf (Leaf.Text bytes) = AllByRecursion (λ byte. IsTrue (is_text_byte byte)) bytes
 IsValidLeaf (Leaf.Name bytes) = IsName bytes
+IsValidLeaf (Leaf.Operators operators) = AreOfOneLevel operators
 
 abbrev pub Leaves : Type 0
 Leaves = List Leaf
@@ -78,83 +92,99 @@ of_any leaves (Some a) = leaves a
 
 -- ---- expressions
 
-abbrev pub argument_layer : Argument-F Leaves Leaves Leaves Leaves Leaves Leaves Leaves Leaves → Leaves
+-- an operator, and the leaves of its right operand
+pub record Operated : Type 0 where
+  pub operator : BinaryOperator
+  pub leaves : Leaves
+
+abbrev pub operators_of : List Operated → List BinaryOperator
+operators_of [] = []
+operators_of (t ∷ more) = t.operator ∷ operators_of more
+
+abbrev pub operands_of : List Operated → Leaves
+operands_of [] = []
+operands_of (t ∷ more) = t.leaves ++ operands_of more
+
+abbrev pub argument_layer : Argument-F Leaves Leaves Leaves Leaves Leaves Leaves Leaves Operated → Leaves
 argument_layer (Argument-F.Value e) = e
 argument_layer (Argument-F.Text bytes at) = Leaf.Text bytes ∷ []
 argument_layer (Argument-F.Address p at) = p
 argument_layer (Argument-F.Pointer p) = p
 
-abbrev pub form_layer : Form-F Leaves Leaves Leaves Leaves Leaves Leaves Leaves Leaves → Leaves
+abbrev pub form_layer : Form-F Leaves Leaves Leaves Leaves Leaves Leaves Leaves Operated → Leaves
 form_layer (Form-F.Constant value at) = Leaf.Constant value ∷ []
 form_layer (Form-F.Place p) = p
 form_layer (Form-F.Call c) = c
 form_layer (Form-F.Unary operator e) = e
 form_layer (Form-F.Cast words e) = e
-form_layer (Form-F.Binary first terms) = first ++ all_of terms
+form_layer (Form-F.Binary first terms) = Leaf.Operators (operators_of terms) ∷ (first ++ operands_of terms)
 form_layer (Form-F.Conditional first choices) = first ++ all_of choices
 
-abbrev pub call_layer : Call-F Leaves Leaves Leaves Leaves Leaves Leaves Leaves Leaves → Leaves
+abbrev pub call_layer : Call-F Leaves Leaves Leaves Leaves Leaves Leaves Leaves Operated → Leaves
 call_layer c = all_of c.arguments
 
-abbrev pub choice_layer : Choice-F Leaves Leaves Leaves Leaves Leaves Leaves Leaves Leaves → Leaves
+abbrev pub choice_layer : Choice-F Leaves Leaves Leaves Leaves Leaves Leaves Leaves Operated → Leaves
 choice_layer c = c.condition ++ c.otherwise
 
-abbrev pub expression_layer : Expression-F Leaves Leaves Leaves Leaves Leaves Leaves Leaves Leaves → Leaves
+abbrev pub expression_layer : Expression-F Leaves Leaves Leaves Leaves Leaves Leaves Leaves Operated → Leaves
 expression_layer e = e.form
 
-abbrev pub place_layer : Place-F Leaves Leaves Leaves Leaves Leaves Leaves Leaves Leaves → Leaves
-place_layer p = if_any p.index
+abbrev pub place_layer : Place-F Leaves Leaves Leaves Leaves Leaves Leaves Leaves Operated → Leaves
+place_layer p = all_of p.indices
 
-abbrev pub pointer_layer : Pointer-F Leaves Leaves Leaves Leaves Leaves Leaves Leaves Leaves → Leaves
+abbrev pub pointer_layer : Pointer-F Leaves Leaves Leaves Leaves Leaves Leaves Leaves Operated → Leaves
 pointer_layer p = if_any p.operand
 
-abbrev pub term_layer : Term-F Leaves Leaves Leaves Leaves Leaves Leaves Leaves Leaves → Leaves
-term_layer t = t.operand
+abbrev pub term_layer : Term-F Leaves Leaves Leaves Leaves Leaves Leaves Leaves Operated → Operated
+term_layer t = record { operator = t.operator; leaves = t.operand }
 
 abbrev pub expression_leaves : Expression → Leaves
 expression_leaves =
-    fold-Expression Leaves Leaves Leaves Leaves Leaves Leaves Leaves Leaves
+    fold-Expression Leaves Leaves Leaves Leaves Leaves Leaves Leaves Operated
     argument_layer form_layer call_layer choice_layer expression_layer place_layer pointer_layer term_layer
 
 abbrev pub form_leaves : Form → Leaves
 form_leaves =
-    fold-Form Leaves Leaves Leaves Leaves Leaves Leaves Leaves Leaves
+    fold-Form Leaves Leaves Leaves Leaves Leaves Leaves Leaves Operated
     argument_layer form_layer call_layer choice_layer expression_layer place_layer pointer_layer term_layer
 
 abbrev pub choice_leaves : Choice → Leaves
 choice_leaves =
-    fold-Choice Leaves Leaves Leaves Leaves Leaves Leaves Leaves Leaves
+    fold-Choice Leaves Leaves Leaves Leaves Leaves Leaves Leaves Operated
+    argument_layer form_layer call_layer choice_layer expression_layer place_layer pointer_layer term_layer
+
+abbrev pub operated : Term → Operated
+operated =
+    fold-Term Leaves Leaves Leaves Leaves Leaves Leaves Leaves Operated
     argument_layer form_layer call_layer choice_layer expression_layer place_layer pointer_layer term_layer
 
 abbrev pub term_leaves : Term → Leaves
-term_leaves =
-    fold-Term Leaves Leaves Leaves Leaves Leaves Leaves Leaves Leaves
-    argument_layer form_layer call_layer choice_layer expression_layer place_layer pointer_layer term_layer
+term_leaves t = (operated t).leaves
 
 abbrev pub argument_leaves : Argument → Leaves
 argument_leaves =
-    fold-Argument Leaves Leaves Leaves Leaves Leaves Leaves Leaves Leaves
+    fold-Argument Leaves Leaves Leaves Leaves Leaves Leaves Leaves Operated
     argument_layer form_layer call_layer choice_layer expression_layer place_layer pointer_layer term_layer
 
 abbrev pub place_leaves : Place → Leaves
 place_leaves =
-    fold-Place Leaves Leaves Leaves Leaves Leaves Leaves Leaves Leaves
+    fold-Place Leaves Leaves Leaves Leaves Leaves Leaves Leaves Operated
     argument_layer form_layer call_layer choice_layer expression_layer place_layer pointer_layer term_layer
 
 abbrev pub call_leaves : Call → Leaves
 call_leaves =
-    fold-Call Leaves Leaves Leaves Leaves Leaves Leaves Leaves Leaves
+    fold-Call Leaves Leaves Leaves Leaves Leaves Leaves Leaves Operated
     argument_layer form_layer call_layer choice_layer expression_layer place_layer pointer_layer term_layer
 
 abbrev pub pointer_leaves : Pointer → Leaves
 pointer_leaves =
-    fold-Pointer Leaves Leaves Leaves Leaves Leaves Leaves Leaves Leaves
+    fold-Pointer Leaves Leaves Leaves Leaves Leaves Leaves Leaves Operated
     argument_layer form_layer call_layer choice_layer expression_layer place_layer pointer_layer term_layer
 
 -- ---- statements
 
 abbrev pub declarator_leaves : Declarator → Leaves
-declarator_leaves d = of_any expression_leaves d.length ++ of_any expression_leaves d.initializer
+declarator_leaves d = of_each expression_leaves d.lengths ++ of_any expression_leaves d.initializer
 
 abbrev pub declaration_leaves : Declaration → Leaves
 declaration_leaves d = of_each declarator_leaves d.declarators
@@ -177,11 +207,11 @@ start_leaves start.Nothing = []
 start_leaves (start.Declaration d) = declaration_leaves d
 start_leaves (start.Simple x) = simple_leaves x
 
-abbrev pub item_layer : BlockItem-F Leaves Leaves Leaves → Leaves
+abbrev pub item_layer : BlockItem-F Leaves Leaves Leaves Leaves → Leaves
 item_layer (BlockItem-F.Declaration d) = declaration_leaves d
 item_layer (BlockItem-F.Statement x) = x
 
-abbrev pub statement_layer : Statement-F Leaves Leaves Leaves → Leaves
+abbrev pub statement_layer : Statement-F Leaves Leaves Leaves Leaves → Leaves
 statement_layer (Statement-F.Block body) = body
 statement_layer Statement-F.Empty = []
 statement_layer (Statement-F.Simple x) = simple_leaves x
@@ -193,22 +223,37 @@ statement_layer (Statement-F.DoWhile body test) = body ++ expression_leaves test
 statement_layer (Statement-F.For begin test step body) =
     start_leaves begin ++ (of_any expression_leaves test ++ (of_any simple_leaves step ++ body))
 statement_layer (Statement-F.Return x at) = returned_leaves x
+statement_layer (Statement-F.Switch e groups at) = expression_leaves e ++ all_of groups
 
-abbrev pub block_layer : Block-F Leaves Leaves Leaves → Leaves
+abbrev pub block_layer : Block-F Leaves Leaves Leaves Leaves → Leaves
 block_layer b = all_of b.items
 
+abbrev pub label_leaves : CaseLabel → Leaves
+label_leaves label = of_any expression_leaves label.value
+
+abbrev pub group_layer : Group-F Leaves Leaves Leaves Leaves → Leaves
+group_layer g = label_leaves g.label ++ all_of g.statements
+
 abbrev pub block_leaves : Block → Leaves
-block_leaves = fold-Block Leaves Leaves Leaves item_layer statement_layer block_layer
+block_leaves = fold-Block Leaves Leaves Leaves Leaves item_layer statement_layer block_layer group_layer
 
 -- ---- declarations at file scope
 
+-- a value, or what stands in braces
+abbrev pub initial_layer : Initial-F Leaves → Leaves
+initial_layer (Initial-F.Value e) = expression_leaves e
+initial_layer (Initial-F.List list at) = all_of list
+
+abbrev pub initial_leaves : Initial → Leaves
+initial_leaves = fold-Initial Leaves initial_layer
+
 abbrev pub initializer_leaves : Initializer → Leaves
 initializer_leaves (initial.Value e) = expression_leaves e
-initializer_leaves (initial.List list) = of_each expression_leaves list
+initializer_leaves (initial.List list at) = of_each initial_leaves list
 initializer_leaves initial.Mutex = []
 
 abbrev pub global_leaves : GlobalDeclarator → Leaves
-global_leaves d = Leaf.Name d.name.bytes ∷ (of_any expression_leaves d.length ++ of_any initializer_leaves d.initializer)
+global_leaves d = Leaf.Name d.name.bytes ∷ (of_each expression_leaves d.lengths ++ of_any initializer_leaves d.initializer)
 
 abbrev pub function_leaves : Function → Leaves
 function_leaves f = Leaf.Name f.name.bytes ∷ of_any block_leaves f.body

@@ -1,6 +1,6 @@
 -- When a scope within a function of a program is in order: each name stands for a declaration of the program that is as the
 -- name says, and each header for a function that is as the header says.
-use Rattle.std.specs.Prelude.{◌≡◌, ℕ, ◌<◌, ◌≤◌, ◌+◌, Bool, true, false, List, ◌++◌, length, take, Option, Some, None, slice_get, unwrap_or, Contains, ⊤}
+use Rattle.std.specs.Prelude.{◌≡◌, ℕ, ◌<◌, ◌≤◌, ◌+◌, Bool, true, false, max, List, [], ◌∷◌, ◌++◌, length, take, Option, Some, None, slice_get, unwrap_or, Contains, ⊤}
 use Rattle.std.specs.List.{AllByRecursion}
 use Rattle.hls_ints.specs.Types.{long_int}
 use Rattle.c_program.specs.declared.tree.Storage.TheVariants.{Automatic}
@@ -10,10 +10,13 @@ use Rattle.c_program.specs.declared.tree.LocalVariable.{LocalVariable}
 use Rattle.c_program.specs.declared.tree.ThreadObject.{ThreadObject}
 use Rattle.c_program.specs.Tree.{Statement, Function, Program}
 use Rattle.c_program.specs.Calls.{calls_of}
+use Rattle.c_program.specs.Weight.{statement_weight}
 use Rattle.c_program.specs.Resolved.{IsObject, IsSlot, Around, IsCondition, IsStatement, creates_of, thread_length, mutex_length, barrier_length}
 use Rattle.c_rules.specs.declared.findings.Findings.{Findings}
 use Rattle.c_rules.specs.declared.findings.CallSite.{CallSite}
 use Rattle.c_rules.specs.declared.findings.Creation.{Creation}
+use Rattle.c_rules.specs.declared.dimensions.Dimensions.{Dimensions}
+use Rattle.c_rules.specs.declared.dimensions.Dimensions.TheVariants.{Scalar, One, Two, Three}
 use Rattle.c_rules.specs.declared.names.ObjectKind.{ObjectKind}
 use Rattle.c_rules.specs.declared.names.ObjectKind.TheVariants.{Thread, Mutex, Barrier}
 use Rattle.c_rules.specs.declared.names.Meaning.{Meaning}
@@ -22,6 +25,7 @@ use Rattle.c_rules.specs.declared.names.Header.{Header}
 use Rattle.c_rules.specs.declared.names.Gives.{Gives}
 use Rattle.c_rules.specs.declared.names.Gives.TheVariants as gives
 use Rattle.c_rules.specs.declared.names.Scope.{Scope}
+use Rattle.c_rules.specs.Dimensions.{elements}
 use Rattle.c_rules.specs.Names.{Names}
 use Rattle.c_rules.specs.Specifiers.{c_type}
 use Rattle.c_rules.specs.Walks.{Outcome}
@@ -38,8 +42,18 @@ object_length P Mutex number = mutex_length (slice_get P.mutexes number)
 object_length P Barrier number = barrier_length (slice_get P.barriers number)
 
 -- what a name stands for is declared so in the program or the function
+-- a length is a positive number of 64 bits
+abbrev pub IsLength : ℕ → Type 0
+IsLength n = (0 < n) × (n ≤ 0xffff_ffff_ffff_ffff)
+
+abbrev pub AreLengths : Dimensions → Type 0
+AreLengths Scalar = ⊤
+AreLengths (One a) = IsLength a
+AreLengths (Two a b) = IsLength a × IsLength b
+AreLengths (Three a b c) = IsLength a × IsLength b × IsLength c
+
 abbrev pub IsMeant : Program → Function → Meaning → Type 0
-IsMeant P f (meaning.Variable v) = IsObject P f v.storage v.number (unwrap_or v.length 1) (c_type v.ty)
+IsMeant P f (meaning.Variable v) = IsObject P f v.storage v.number (elements v.dimensions) (c_type v.ty) × AreLengths v.dimensions
 IsMeant P f meaning.Argument = IsObject P f Automatic 0 1 long_int
 IsMeant P f (meaning.Object o) = object_length P o.kind o.number ≡ Some (unwrap_or o.length 1)
 IsMeant P f (meaning.Function number) = ⊤
@@ -130,34 +144,40 @@ pub record IsAhead (whole : Findings) (f : Function) (x : State) : Type 0 where
   pub found : IsPartOf whole x.found
   pub locals : IsFront x.scope.locals (declared_in f)
 
--- the scope is in order, in a loop or not
-pub record Holds (P : Program) (number : ℕ) (f : Function) (in_loop : Bool) (x : State) : Type 0 where
+-- the scope is in order, and what stands round it is a loop, a switch or neither
+pub record Holds (P : Program) (number : ℕ) (f : Function) (a : Around) (x : State) : Type 0 where
   pub orderly : IsOrderly P number f x.scope
-  pub loops : in_loop ≡ false → x.scope.loops ≡ 0
+  pub exits : a.leaves ≡ false → x.scope.exits ≡ 0
+  pub loops : a.turns ≡ false → x.scope.loops ≡ 0
   pub lengths : AllByRecursion (λ (l : LocalVariable). 0 < l.length) x.scope.locals
 
 -- ---- statements
+
+-- the number behind the last local in which one of some statements keeps a value
+abbrev pub list_end : List Statement → ℕ
+list_end [] = 0
+list_end (x ∷ more) = max (slots_end x) (list_end more)
 
 -- the function has the locals in which a statement keeps values
 abbrev pub HasSlots : Function → Statement → Type 0
 HasSlots f x = slots_end x ≤ length f.locals
 
--- a loop, or nothing, stands round a statement
-abbrev pub around : Bool → Around
-around in_loop = record { labels = None; leaves = in_loop; turns = in_loop }
+-- what stands round a statement that is no label: whether break and continue may stand there
+abbrev pub around : Bool → Bool → Around
+around leaves turns = record { labels = None; leaves = leaves; turns = turns }
 
--- a statement of the function of that number: in order in a loop or not, with each call and create found, and with at most one value
--- kept at a time
-pub record IsInOrder (whole : Findings) (P : Program) (number : ℕ) (f : Function) (in_loop : Bool) (x : Statement) : Type 0 where
-  pub is : HasSlots f x → IsStatement P f (around in_loop) x
-  pub few : slots_end x ≤ f.declared_locals + 1
+-- a statement of the function of that number: in order within what stands round it, with each call and create found, and with no
+-- more values kept at a time than it weighs, and three
+pub record IsInOrder (whole : Findings) (P : Program) (number : ℕ) (f : Function) (a : Around) (x : Statement) : Type 0 where
+  pub is : HasSlots f x → IsStatement P f a x
+  pub few : slots_end x ≤ f.declared_locals + (statement_weight x + 3)
   pub calls : AreFound whole number (calls_of x)
   pub creates : (thread routine : ℕ) → Contains (creates_of x) (thread, routine) → IsPointerAt P routine × IsFoundCreation whole thread routine
 
--- the same of a condition, in which no create stands
-pub record IsAsked (whole : Findings) (P : Program) (number : ℕ) (f : Function) (x : Statement) : Type 0 where
+-- the same of a condition, in which no create stands, and which keeps values in the locals from n on
+pub record IsAsked (whole : Findings) (P : Program) (number : ℕ) (f : Function) (n : ℕ) (x : Statement) : Type 0 where
   pub is : HasSlots f x → IsCondition P f x
-  pub few : slots_end x ≤ f.declared_locals + 1
+  pub few : slots_end x ≤ n + (statement_weight x + 1)
   pub calls : AreFound whole number (calls_of x)
 
 -- a create that is found has given its routine to its thread object
