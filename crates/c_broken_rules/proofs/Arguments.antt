@@ -1,7 +1,7 @@
 -- What the walk over an argument finds, by its parts.
-use Rattle.std.proofs.Common.{◌≡◌, refl, sym, subst, ap, ◌∙◌, ℕ, Bool, true, false, List, [], ◌∷◌, ◌++◌, Option, Some, None}
-use Rattle.std.proofs.lemmas.Bool.{false≢true}
-use Rattle.std.specs.Prelude.{not, is_none, if◌then◌else◌, option_map}
+use Rattle.std.proofs.Common.{◌≡◌, refl, sym, subst, ap, ◌∙◌, ℕ, suc, Bool, true, false, List, [], ◌∷◌, ◌++◌, map, length, Option, Some, None, arith}
+use Rattle.std.proofs.lemmas.Bool.{false≢true, eqb-true}
+use Rattle.std.specs.Prelude.{not, nat_eq, is_none, if◌then◌else◌, option_map}
 use Rattle.std.proofs.lemmas.Option.{same_Some, none-some}
 use Rattle.c_tree.specs.declared.expression.Name.{Name}
 use Rattle.c_tree.specs.declared.expression.Form.{out-Form}
@@ -10,37 +10,46 @@ use Rattle.c_tree.specs.declared.expression.Place.{Place as PlaceTree, out-Place
 use Rattle.c_tree.specs.declared.expression.Pointer.{Pointer as PointerTree, out-Pointer}
 use Rattle.c_tree.specs.declared.expression.Argument.{Argument as ArgumentTree, out-Argument}
 use Rattle.c_tree.specs.declared.expression.Argument.TheOpen.{Argument-F, Form-F}
+use Rattle.c_program.specs.Tree.{Expression}
 use Rattle.c_rules.specs.declared.fault.Rule.TheVariants as rule
 use Rattle.c_rules.specs.declared.names.ObjectKind.{ObjectKind}
 use Rattle.c_rules.specs.declared.names.ObjectKind.TheVariants.{Thread}
 use Rattle.c_rules.specs.declared.names.Header.{Header}
 use Rattle.c_rules.specs.declared.names.Scope.{Scope}
 use Rattle.c_rules.specs.Names.{look_up}
-use Rattle.c_rules.specs.Walks.{◌>>◌, pure, finds, finds_if}
+use Rattle.c_rules.specs.Walks.{Finds, ◌>>=◌, ◌>>◌, pure, finds, finds_if}
+use Rattle.c_expressions.specs.Cuts.{Cuts, Cut, cut}
 use Rattle.c_expressions.specs.Expressions as e
 use Rattle.c_calls.specs.Arguments as a
 use Rattle.c_broken_rules.specs.Sight.{Where}
 use Rattle.c_broken_rules.specs.Parts as p
-use Rattle.c_broken_rules.specs.Parts.{Part, Parts, if_any, of_any}
-use Rattle.c_broken_rules.proofs.Ledgers.{Ledger, Good, nothing_new, good_pure, good_then, good_before, good_with, good_each}
+use Rattle.c_broken_rules.specs.Parts.{Part, Parts, all_of, of_any}
+use Rattle.c_broken_rules.proofs.Ledgers.{Ledger, Good, nothing_new, good_pure, good_then, good_before, good_with}
 use Rattle.c_broken_rules.proofs.Events.{Events}
-use Rattle.c_broken_rules.proofs.Unrolled.{argument_is, expression_is, pointer_is, place_name, place_index, argument_of, form_of}
-use Rattle.c_broken_rules.proofs.Values.{good_argument, good_value, good_index}
+use Rattle.c_broken_rules.proofs.Unrolled.{argument_is, expression_is, pointer_is, place_name, place_indices, argument_of, form_of}
+use Rattle.c_broken_rules.proofs.Values.{good_argument, good_value, good_number}
 
 module _ (L : Ledger) (s : Scope) (w : Where) (events : Events L s w) where
+  -- what stands for a value or an object, at any place and behind any cuts
+  abbrev GoodAt : {A : Type 0} → (ℕ → Cuts → Finds (Cut A)) → Parts → Type 0
+  GoodAt walk ps = (at : ℕ) (cuts : Cuts) → Good L (walk at cuts) ps
+
+  looked_argument : (x : ArgumentTree) → Good L (e.looked_argument s x) (p.argument_parts w x)
+  looked_argument x = (good_argument L s w events x).looked
+
   pub refused : (x : ArgumentTree) → Good L (a.refused s x) (p.argument_parts w x)
   unfolding a.refused
   refused x =
-      good_then L (finds rule.Kind (a.argument_offset x)) (λ _. e.argument s x) [] (p.argument_parts w x) (events.other rule.Kind (a.argument_offset x) tt)
-      (λ _. good_argument L s w events x)
+      good_then L (finds rule.Kind (e.argument_offset x)) (λ _. e.looked_argument s x) [] (p.argument_parts w x) (events.other rule.Kind (e.argument_offset x) tt)
+      (λ _. looked_argument x)
 
-  refused_value : (x : ArgumentTree) → Good L (a.refused_value s x) (p.argument_parts w x)
+  refused_value : (x : ArgumentTree) (cuts : Cuts) → Good L (a.refused_value s x cuts) (p.argument_parts w x)
   unfolding a.refused_value
-  refused_value x = good_before L (a.refused s x) (λ _. pure a.null) (p.argument_parts w x) (refused x) (λ _. good_pure L a.null)
+  refused_value x cuts = good_before L (a.refused s x) (λ _. pure (cut cuts a.null)) (p.argument_parts w x) (refused x) (λ _. good_pure L (cut cuts a.null))
 
-  refused_object : (x : ArgumentTree) → Good L (a.refused_object s x) (p.argument_parts w x)
+  refused_object : (x : ArgumentTree) (cuts : Cuts) → Good L (a.refused_object s x cuts) (p.argument_parts w x)
   unfolding a.refused_object
-  refused_object x = good_before L (a.refused s x) (λ _. pure a.no_object) (p.argument_parts w x) (refused x) (λ _. good_pure L a.no_object)
+  refused_object x cuts = good_before L (a.refused s x) (λ _. pure (cut cuts a.no_object)) (p.argument_parts w x) (refused x) (λ _. good_pure L (cut cuts a.no_object))
 
   kind_if : (b : Bool) (at : ℕ) → Good L (finds_if b rule.Kind at) []
   kind_if true at = record { writes = (events.other rule.Kind at tt).writes }
@@ -49,42 +58,39 @@ module _ (L : Ledger) (s : Scope) (w : Where) (events : Events L s w) where
   refused_routine : (is_other : Bool) (x : ArgumentTree) → Good L (a.refused_routine s is_other x) (p.argument_parts w x)
   unfolding a.refused_routine
   refused_routine is_other x =
-      good_then L (finds_if is_other rule.Kind (a.argument_offset x)) (λ _. e.argument s x >> pure None) [] (p.argument_parts w x) (kind_if is_other (a.argument_offset x))
-      (λ _. good_before L (e.argument s x) (λ _. pure None) (p.argument_parts w x) (good_argument L s w events x) (λ _. good_pure L None))
+      good_then L (finds_if is_other rule.Kind (e.argument_offset x)) (λ _. e.looked_argument s x >> pure None) [] (p.argument_parts w x) (kind_if is_other (e.argument_offset x))
+      (λ _. good_before L (e.looked_argument s x) (λ _. pure None) (p.argument_parts w x) (looked_argument x) (λ _. good_pure L None))
 
   -- ---- values and pointers
 
-  value_by : (x : ArgumentTree) (l : a.ArgumentLayer) → p.argument_parts w x ≡ argument_of w l → Good L (a.value_in s x l) (p.argument_parts w x)
-  value_by x (Argument-F.Value v) is = subst (λ ps. Good L (e.value s v) ps) (sym is) (good_value L s w events v)
-  value_by x (Argument-F.Text bytes at) is = refused_value x
-  value_by x (Argument-F.Address q at) is = refused_value x
-  value_by x (Argument-F.Pointer q) is = refused_value x
+  value_by : (x : ArgumentTree) (l : a.ArgumentLayer) → p.argument_parts w x ≡ argument_of w l → GoodAt (a.value_in s x l) (p.argument_parts w x)
+  value_by x (Argument-F.Value v) is at cuts = subst (λ ps. Good L (e.value s v at cuts) ps) (sym is) (good_value L s w events v at cuts)
+  value_by x (Argument-F.Text bytes offset) is at cuts = refused_value x cuts
+  value_by x (Argument-F.Address q offset) is at cuts = refused_value x cuts
+  value_by x (Argument-F.Pointer q) is at cuts = refused_value x cuts
 
-  pub value_argument : (x : ArgumentTree) → Good L (a.value_argument s x) (p.argument_parts w x)
+  pub value_argument : (x : ArgumentTree) → GoodAt (a.value_argument s x) (p.argument_parts w x)
   unfolding a.value_argument
-  value_argument x = value_by x (out-Argument x) (argument_is w x)
+  value_argument x at cuts = value_by x (out-Argument x) (argument_is w x) at cuts
 
-  pub value_arguments : (list : List ArgumentTree) → Good L (a.value_arguments s list) (p.arguments_parts w list)
-  unfolding a.value_arguments
-  value_arguments list = good_each L (a.value_argument s) (p.argument_parts w) value_argument list
+  operand_value : (o : Option ExpressionTree) → GoodAt (a.operand_value s o) (of_any (p.expression_parts w) o)
+  operand_value None at cuts = good_pure L (cut cuts a.null)
+  operand_value (Some v) at cuts = good_value L s w events v at cuts
 
-  operand_value : (o : Option ExpressionTree) → Good L (a.operand_value s o) (of_any (p.expression_parts w) o)
-  operand_value None = good_pure L a.null
-  operand_value (Some v) = good_value L s w events v
-
-  pub pointer_value : (q : PointerTree) → Good L (a.pointer_value s q) (p.pointer_parts w q)
+  pub pointer_value : (q : PointerTree) → GoodAt (a.pointer_value s q) (p.pointer_parts w q)
   unfolding a.pointer_value
-  pointer_value q = subst (λ ps. Good L (a.operand_value s (out-Pointer q).operand) ps) (sym (pointer_is w q)) (operand_value (out-Pointer q).operand)
+  pointer_value q at cuts =
+      subst (λ ps. Good L (a.operand_value s (out-Pointer q).operand at cuts) ps) (sym (pointer_is w q)) (operand_value (out-Pointer q).operand at cuts)
 
-  pointer_by : (x : ArgumentTree) (l : a.ArgumentLayer) → p.argument_parts w x ≡ argument_of w l → Good L (a.pointer_in s x l) (p.argument_parts w x)
-  pointer_by x (Argument-F.Pointer q) is = subst (λ ps. Good L (a.pointer_value s q) ps) (sym is) (pointer_value q)
-  pointer_by x (Argument-F.Value v) is = refused_value x
-  pointer_by x (Argument-F.Text bytes at) is = refused_value x
-  pointer_by x (Argument-F.Address q at) is = refused_value x
+  pointer_by : (x : ArgumentTree) (l : a.ArgumentLayer) → p.argument_parts w x ≡ argument_of w l → GoodAt (a.pointer_in s x l) (p.argument_parts w x)
+  pointer_by x (Argument-F.Pointer q) is at cuts = subst (λ ps. Good L (a.pointer_value s q at cuts) ps) (sym is) (pointer_value q at cuts)
+  pointer_by x (Argument-F.Value v) is at cuts = refused_value x cuts
+  pointer_by x (Argument-F.Text bytes offset) is at cuts = refused_value x cuts
+  pointer_by x (Argument-F.Address q offset) is at cuts = refused_value x cuts
 
-  pub pointer_argument : (x : ArgumentTree) → Good L (a.pointer_argument s x) (p.argument_parts w x)
+  pub pointer_argument : (x : ArgumentTree) → GoodAt (a.pointer_argument s x) (p.argument_parts w x)
   unfolding a.pointer_argument
-  pointer_argument x = pointer_by x (out-Argument x) (argument_is w x)
+  pointer_argument x at cuts = pointer_by x (out-Argument x) (argument_is w x) at cuts
 
   operand_null : (o : Option ExpressionTree) → is_none o ≡ true → of_any (p.expression_parts w) o ≡ []
   operand_null None is = refl
@@ -106,21 +112,26 @@ module _ (L : Ledger) (s : Scope) (w : Where) (events : Events L s w) where
 
   -- ---- objects
 
-  object_place : (kind : ObjectKind) (q : PlaceTree) (at : ℕ) → Good L (a.object_place s kind q at) (p.place_parts w q)
+  object_place : (kind : ObjectKind) (q : PlaceTree) (offset : ℕ) → GoodAt (a.object_place s kind q offset) (p.place_parts w q)
   unfolding a.object_place
-  object_place kind q at =
-      good_then L (e.index s q) (λ i. a.object_named kind (look_up s (out-Place q).name.bytes) (out-Place q).name.offset at i)
-      (if_any (p.indexed w q).index) (Part.Use w (out-Place q).name ∷ []) (good_index L s w events q) (λ i. events.object kind (out-Place q).name at i)
+  object_place kind q offset at cuts =
+      let name = (out-Place q).name in
+      let count = length (out-Place q).indices in
+      let d = a.object_dimensions (a.object_of kind (look_up s name.bytes)) in
+      let object = λ (i : Cut (Option Expression)). a.object_named kind (look_up s name.bytes) name.offset offset count i.rest in
+      good_then L (e.place_number s d q at cuts) (λ i. object i >>= (λ o. pure (cut i.cuts o))) (all_of (p.indexed w q).indices) (Part.Use w name ∷ [])
+      (good_number L s w events d q at cuts)
+      (λ i. good_before L (object i) (λ o. pure (cut i.cuts o)) (Part.Use w name ∷ []) (events.object kind name offset count i.rest) (λ o. good_pure L (cut i.cuts o)))
 
-  address_by : (kind : ObjectKind) (x : ArgumentTree) (l : a.ArgumentLayer) → Good L (a.address_in s kind x l) (p.object_layer w x l)
-  address_by kind x (Argument-F.Address q at) = object_place kind q at
-  address_by kind x (Argument-F.Text bytes at) = refused_object x
-  address_by kind x (Argument-F.Value v) = refused_object x
-  address_by kind x (Argument-F.Pointer q) = refused_object x
+  address_by : (kind : ObjectKind) (x : ArgumentTree) (l : a.ArgumentLayer) → GoodAt (a.address_in s kind x l) (p.object_layer w x l)
+  address_by kind x (Argument-F.Address q offset) at cuts = object_place kind q offset at cuts
+  address_by kind x (Argument-F.Text bytes offset) at cuts = refused_object x cuts
+  address_by kind x (Argument-F.Value v) at cuts = refused_object x cuts
+  address_by kind x (Argument-F.Pointer q) at cuts = refused_object x cuts
 
-  pub address_argument : (kind : ObjectKind) (x : ArgumentTree) → Good L (a.address_argument s kind x) (p.object_parts w x)
+  pub address_argument : (kind : ObjectKind) (x : ArgumentTree) → GoodAt (a.address_argument s kind x) (p.object_parts w x)
   unfolding a.address_argument
-  address_argument kind x = address_by kind x (out-Argument x)
+  address_argument kind x at cuts = address_by kind x (out-Argument x) at cuts
 
   -- the place that an argument is, with and without its own
   form_place : (at : ℕ) (f : a.FormLayer) → option_map (λ (r : PlaceTree × ℕ). r.0) (a.place_in_form at f) ≡ p.place_in_form w f
@@ -141,14 +152,14 @@ module _ (L : Ledger) (s : Scope) (w : Where) (events : Events L s w) where
   pub argument_place : (x : ArgumentTree) → option_map (λ (r : PlaceTree × ℕ). r.0) (a.place_in_argument x) ≡ p.place_in w x
   argument_place x = layer_place (out-Argument x)
 
-  thread_by : (x : ArgumentTree) (o : Option (PlaceTree × ℕ)) → Good L (a.thread_from s x o) (p.thread_by w x (option_map (λ (r : PlaceTree × ℕ). r.0) o))
-  thread_by x (Some r) = object_place Thread r.0 r.1
-  thread_by x None = refused_object x
+  thread_by : (x : ArgumentTree) (o : Option (PlaceTree × ℕ)) → GoodAt (a.thread_from s x o) (p.thread_by w x (option_map (λ (r : PlaceTree × ℕ). r.0) o))
+  thread_by x (Some r) at cuts = object_place Thread r.0 r.1 at cuts
+  thread_by x None at cuts = refused_object x cuts
 
-  pub thread_argument : (x : ArgumentTree) → Good L (a.thread_argument s x) (p.thread_parts w x)
+  pub thread_argument : (x : ArgumentTree) → GoodAt (a.thread_argument s x) (p.thread_parts w x)
   unfolding a.thread_argument
-  thread_argument x =
-      subst (λ o. Good L (a.thread_from s x (a.place_in_argument x)) (p.thread_by w x o)) (argument_place x) (thread_by x (a.place_in_argument x))
+  thread_argument x at cuts =
+      subst (λ o. Good L (a.thread_from s x (a.place_in_argument x) at cuts) (p.thread_by w x o)) (argument_place x) (thread_by x (a.place_in_argument x) at cuts)
 
   -- ---- start routines
 
@@ -158,7 +169,7 @@ module _ (L : Ledger) (s : Scope) (w : Where) (events : Events L s w) where
   named_routine x name at is_other (Some h) is parts = subst (λ ps. Good L (a.routine h name.offset at) (Part.Routine w name ∷ ps)) (sym parts) (events.routine name h at is)
   named_routine x name at is_other None is parts = good_with L (Part.Routine w name) (p.argument_parts w x) (events.no_routine name is) (refused_routine is_other x)
 
-  routine_place : (x : ArgumentTree) (q : PlaceTree) (at : ℕ) (is_other b : Bool) → is_none (out-Place q).index ≡ b →
+  routine_place : (x : ArgumentTree) (q : PlaceTree) (at : ℕ) (is_other b : Bool) → a.is_alone q ≡ b →
       (b ≡ true → p.argument_parts w x ≡ Part.Use w (out-Place q).name ∷ Part.Read w (out-Place q).name ∷ []) →
       Good L (a.routine_from s x (if b then a.header_of s (look_up s (out-Place q).name.bytes) else None) is_other (out-Place q).name.offset at)
       (p.routine_by w (if b then Some (out-Place q).name else None) ++ p.argument_parts w x)
@@ -166,19 +177,22 @@ module _ (L : Ledger) (s : Scope) (w : Where) (events : Events L s w) where
   routine_place x q at is_other false is parts = refused_routine is_other x
 
   -- the parts of a name alone
-  two_parts : (n m : Name) (i : Option Parts) → n ≡ m → i ≡ None → (p.place_by w n i).parts ≡ Part.Use w m ∷ Part.Read w m ∷ []
-  two_parts n m i e f = ap (λ j. (p.place_by w n j).parts) f ∙ ap (λ k. Part.Use w k ∷ Part.Read w k ∷ []) e
+  two_parts : (n m : Name) (list : List Parts) → n ≡ m → list ≡ [] → (p.place_by w n list).parts ≡ Part.Use w m ∷ Part.Read w m ∷ []
+  two_parts n m list e f = ap (λ j. (p.place_by w n j).parts) f ∙ ap (λ k. Part.Use w k ∷ Part.Read w k ∷ []) e
 
   abbrev place_alone : PlaceTree → Parts
-  place_alone q = (p.place_by w (p.indexed w q).name (p.indexed w q).index).parts
+  place_alone q = (p.place_by w (p.indexed w q).name (p.indexed w q).indices).parts
 
-  no_index : (o : Option ExpressionTree) → is_none o ≡ true → option_map (λ (v : ExpressionTree). p.expression_parts w v) o ≡ None
-  no_index None is = refl
-  no_index (Some v) is = absurd (false≢true is)
+  not_none : (n : ℕ) → suc n ≡ 0 → ⊥
+  not_none n h = omega arith
 
-  name_parts : (q : PlaceTree) → is_none (out-Place q).index ≡ true → place_alone q ≡ Part.Use w (out-Place q).name ∷ Part.Read w (out-Place q).name ∷ []
+  no_index : (list : List ExpressionTree) → nat_eq (length list) 0 ≡ true → map (p.expression_parts w) list ≡ []
+  no_index [] is = refl
+  no_index (v ∷ list) is = absurd (not_none (length list) (eqb-true (suc (length list)) 0 is))
+
+  name_parts : (q : PlaceTree) → a.is_alone q ≡ true → place_alone q ≡ Part.Use w (out-Place q).name ∷ Part.Read w (out-Place q).name ∷ []
   name_parts q is =
-      two_parts (p.indexed w q).name (out-Place q).name (p.indexed w q).index (place_name w q) (place_index w q ∙ no_index (out-Place q).index is)
+      two_parts (p.indexed w q).name (out-Place q).name (p.indexed w q).indices (place_name w q) (place_indices w q ∙ no_index (out-Place q).indices is)
 
   alone_form : (at : ℕ) (f : a.FormLayer) (r : PlaceTree × ℕ) → a.place_in_form at f ≡ Some r → (form_of w f).parts ≡ place_alone r.0
   alone_form at (Form-F.Place q) r is = ap (λ (z : PlaceTree × ℕ). place_alone z.0) (same_Some (q, at) r is)
@@ -199,7 +213,7 @@ module _ (L : Ledger) (s : Scope) (w : Where) (events : Events L s w) where
   routine_by : (x : ArgumentTree) (o : Option (PlaceTree × ℕ)) → a.place_in_argument x ≡ o →
       Good L (a.routine_at s x o) (p.routine_by w (p.name_by w (option_map (λ (r : PlaceTree × ℕ). r.0) o)) ++ p.argument_parts w x)
   routine_by x (Some r) is =
-      routine_place x r.0 r.1 (not (a.is_unnamed s r.0)) (is_none (out-Place r.0).index) refl
+      routine_place x r.0 r.1 (not (a.is_unnamed s r.0)) (a.is_alone r.0) refl
       (λ none. argument_is w x ∙ alone_layer (out-Argument x) r is ∙ name_parts r.0 none)
   routine_by x None is = refused_routine true x
 

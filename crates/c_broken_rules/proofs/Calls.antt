@@ -1,15 +1,11 @@
--- What the walk over a call that is a statement, or a right side, finds, by its parts.
-use Rattle.std.proofs.Common.{◌≡◌, refl, sym, subst, ap, ◌∙◌, inl, inr, ℕ, suc, Bool, true, false, List, [], ◌∷◌, ◌++◌, length, Option, Some, None, arith}
-use Rattle.std.specs.Prelude.{not, nat_eq, slice_get, if◌then◌else◌}
+-- What the walk over a call that is a statement finds, by its parts.
+use Rattle.std.proofs.Common.{◌≡◌, refl, sym, subst, ap, ◌∙◌, inl, inr, ℕ, suc, Bool, false, List, [], ◌∷◌, ◌++◌, length, Option, Some, None, arith}
+use Rattle.std.specs.Prelude.{not, nat_eq, if◌then◌else◌}
 use Rattle.std.proofs.lemmas.Bool.Decides.{nat_tests}
-use Rattle.std.proofs.lemmas.Option.{same_Some, none-some}
 use Rattle.std.proofs.lemmas.List.{append-nil}
 use Rattle.c_tree.specs.declared.expression.Name.{Name}
-use Rattle.c_tree.specs.declared.expression.Form.{out-Form}
-use Rattle.c_tree.specs.declared.expression.Expression.{Expression as ExpressionTree, out-Expression}
 use Rattle.c_tree.specs.declared.expression.Call.{Call as CallTree, out-Call}
 use Rattle.c_tree.specs.declared.expression.Argument.{Argument as ArgumentTree, out-Argument}
-use Rattle.c_tree.specs.declared.expression.Argument.TheOpen.{Form-F}
 use Rattle.c_program.specs.Tree.{Expression, ObjectPlace, ThreadCall, Statement}
 use Rattle.c_program.specs.Resolved.{object_of}
 use Rattle.c_rules.specs.declared.fault.Rule.TheVariants as rule
@@ -25,18 +21,18 @@ use Rattle.c_rules.specs.Library.{function_named, takes}
 use Rattle.c_rules.specs.Names.{look_up, declared, known_by, from_declaration}
 use Rattle.c_rules.specs.Walks.{Finds, pure, finds, finds_if, creates, ◌>>=◌, ◌>>◌}
 use Rattle.c_expressions.specs.Callees as c
+use Rattle.c_expressions.specs.Cuts.{Cuts, Cut}
 use Rattle.c_expressions.specs.Expressions as e
+use Rattle.c_expressions.specs.Sequences.{behind_cuts}
 use Rattle.c_calls.specs.Arguments as a
-use Rattle.c_calls.specs.Cuts.{uncut}
 use Rattle.c_calls.specs.Calls as k
 use Rattle.c_broken_rules.specs.Sight.{Where}
 use Rattle.c_broken_rules.specs.Parts as p
 use Rattle.c_broken_rules.specs.Parts.{Part, Parts, all_of, of_each}
-use Rattle.c_broken_rules.proofs.Ledgers.{Ledger, Entered, Good, good_pure, good_then, good_before, good_none, nothing_new}
+use Rattle.c_broken_rules.proofs.Ledgers.{Ledger, Entered, Good, good_pure, good_then, good_before, good_none}
 use Rattle.c_broken_rules.proofs.Events.{Events, Creates}
-use Rattle.c_broken_rules.proofs.Unrolled.{expression_is, call_is, form_of}
-use Rattle.c_broken_rules.proofs.Values.{good_argument, good_arguments, good_value}
-use Rattle.c_broken_rules.proofs.Arguments.{value_argument, value_arguments, null_argument, pointer_argument, address_argument, thread_argument, routine_argument}
+use Rattle.c_broken_rules.proofs.Values.{good_argument, good_arguments, good_passed}
+use Rattle.c_broken_rules.proofs.Arguments.{value_argument, null_argument, pointer_argument, address_argument, thread_argument, routine_argument}
 
 not_four : (n : ℕ) → nat_eq 4 (suc (suc (suc (suc (suc n))))) ≡ false
 not_four n = grind (arith, nat_tests)
@@ -70,40 +66,44 @@ module _ (L : Ledger) (s : Scope) (w : Where) (events : Events L s w) where
   no_creation none (Some t) None x h = h
   no_creation none None r x h = h
 
-  created : ((thread routine at : ℕ) → Good L (creates thread routine at) []) → (at : ℕ) (t : ObjectPlace) (v : Expression) (r : Option (ℕ × ℕ)) → Good L (k.created at t v r) []
+  abbrev thread_call : ℕ → Cuts → ThreadCall → Statement
+  thread_call at cuts call = k.thread_call at cuts call
+
+  created : ((thread routine at : ℕ) → Good L (creates thread routine at) []) → (at : ℕ) (t : ObjectPlace) (v : Cut Expression) (r : Option (ℕ × ℕ)) → Good L (k.created at t v r) []
   unfolding k.created
   created quiet at t v None = good_pure L Statement.Empty
   created quiet at t v (Some r) =
-      good_before L (creates (object_of t) r.0 r.1) (λ _. pure (Statement.Thread at (ThreadCall.Create t r.0 v))) [] (quiet (object_of t) r.0 r.1)
-      (λ _. good_pure L (Statement.Thread at (ThreadCall.Create t r.0 v)))
+      good_before L (creates (object_of t) r.0 r.1) (λ _. pure (thread_call at v.cuts (ThreadCall.Create t r.0 v.rest))) [] (quiet (object_of t) r.0 r.1)
+      (λ _. good_pure L (thread_call at v.cuts (ThreadCall.Create t r.0 v.rest)))
 
   pub no_creates : ((thread routine at : ℕ) → Good L (creates thread routine at) []) → ((thread name : Name) (x : L.Entry) → L.At (Part.Creation w thread name) x → ⊥) →
       Creates L s w
   unfolding k.create
   no_creates quiet none at thread attributes routine value =
-      let t = a.address_argument s Thread thread in
+      let t = a.address_argument s Thread thread at (k.no_cuts s) in
       let n = a.null_argument s attributes in
       let r = a.routine_argument s routine in
-      let v = a.pointer_argument s value in
+      let v = λ (o : Cut ObjectPlace). a.pointer_argument s value at o.cuts in
       let ns = p.argument_parts w attributes in
       let rs = p.routine_by w (p.name_alone w routine) ++ p.argument_parts w routine in
       let vs = p.argument_parts w value in
       let cs = p.creation_by w (p.named_object w (out-Argument thread)) (p.name_alone w routine) in
-      good_then L t (λ o. n >> (r >>= (λ f. v >>= (λ x. k.created at o x f)))) (p.object_parts w thread) (ns ++ (rs ++ (vs ++ cs))) (address_argument L s w events Thread thread)
-      (λ o. good_then L n (λ _. r >>= (λ f. v >>= (λ x. k.created at o x f))) ns (rs ++ (vs ++ cs)) (null_argument L s w events attributes)
-      (λ _. good_then L r (λ f. v >>= (λ x. k.created at o x f)) rs (vs ++ cs) (routine_argument L s w events routine)
-      (λ f. good_then L v (λ x. k.created at o x f) vs cs (pointer_argument L s w events value)
-      (λ x. good_none L cs (no_creation none (p.named_object w (out-Argument thread)) (p.name_alone w routine)) (created quiet at o x f)))))
+      good_then L t (λ o. n >> (r >>= (λ f. v o >>= (λ x. k.created at o.rest x f)))) (p.object_parts w thread) (ns ++ (rs ++ (vs ++ cs)))
+      (address_argument L s w events Thread thread at (k.no_cuts s))
+      (λ o. good_then L n (λ _. r >>= (λ f. v o >>= (λ x. k.created at o.rest x f))) ns (rs ++ (vs ++ cs)) (null_argument L s w events attributes)
+      (λ _. good_then L r (λ f. v o >>= (λ x. k.created at o.rest x f)) rs (vs ++ cs) (routine_argument L s w events routine)
+      (λ f. good_then L (v o) (λ x. k.created at o.rest x f) vs cs (pointer_argument L s w events value at o.cuts)
+      (λ x. good_none L cs (no_creation none (p.named_object w (out-Argument thread)) (p.name_alone w routine)) (created quiet at o.rest x f)))))
 
   -- ---- the other calls
 
   join : (at : ℕ) (thread outcome : ArgumentTree) → Good L (k.join s at thread outcome) (p.join_parts w (thread ∷ outcome ∷ []))
   unfolding k.join
   join at thread outcome =
-      good_then L (a.thread_argument s thread) (λ t. a.null_argument s outcome >> pure (Statement.Thread at (ThreadCall.Join t))) (p.thread_parts w thread)
-      (p.argument_parts w outcome ++ []) (thread_argument L s w events thread)
-      (λ t. good_then L (a.null_argument s outcome) (λ _. pure (Statement.Thread at (ThreadCall.Join t))) (p.argument_parts w outcome) [] (null_argument L s w events outcome)
-      (λ _. good_pure L (Statement.Thread at (ThreadCall.Join t))))
+      let made = λ (t : Cut ObjectPlace). thread_call at t.cuts (ThreadCall.Join t.rest) in
+      good_then L (a.thread_argument s thread at (k.no_cuts s)) (λ t. a.null_argument s outcome >> pure (made t)) (p.thread_parts w thread)
+      (p.argument_parts w outcome ++ []) (thread_argument L s w events thread at (k.no_cuts s))
+      (λ t. good_then L (a.null_argument s outcome) (λ _. pure (made t)) (p.argument_parts w outcome) [] (null_argument L s w events outcome) (λ _. good_pure L (made t)))
 
   join_call : (at : ℕ) (list : List ArgumentTree) → Good L (k.join_call s at list) (if takes library.Join (length list) then p.join_parts w list else p.arguments_parts w list)
   unfolding k.join_call
@@ -115,8 +115,9 @@ module _ (L : Ledger) (s : Scope) (w : Where) (events : Events L s w) where
   exit : (at : ℕ) (x : ArgumentTree) → Good L (k.exit s at x) (p.arguments_parts w (x ∷ []))
   unfolding k.exit
   exit at x =
-      good_then L (a.pointer_argument s x) (λ v. pure (Statement.Return at (Some v))) (p.argument_parts w x) [] (pointer_argument L s w events x)
-      (λ v. good_pure L (Statement.Return at (Some v)))
+      let made = λ (v : Cut Expression). behind_cuts v.cuts.before (Statement.Return at (Some v.rest)) in
+      good_then L (a.pointer_argument s x at (k.no_cuts s)) (λ v. pure (made v)) (p.argument_parts w x) [] (pointer_argument L s w events x at (k.no_cuts s))
+      (λ v. good_pure L (made v))
 
   exit_call : (at : ℕ) (list : List ArgumentTree) → Good L (k.exit_call s at list) (if takes library.Exit (length list) then p.arguments_parts w list else p.arguments_parts w list)
   unfolding k.exit_call
@@ -127,10 +128,10 @@ module _ (L : Ledger) (s : Scope) (w : Where) (events : Events L s w) where
   mutex_init : (at : ℕ) (x y : ArgumentTree) → Good L (k.mutex_init s at x y) (p.first_object_parts w (x ∷ y ∷ []))
   unfolding k.mutex_init
   mutex_init at x y =
-      good_then L (a.address_argument s Mutex x) (λ m. a.null_argument s y >> pure (Statement.Thread at (ThreadCall.MutexInit m))) (p.object_parts w x)
-      (p.argument_parts w y ++ []) (address_argument L s w events Mutex x)
-      (λ m. good_then L (a.null_argument s y) (λ _. pure (Statement.Thread at (ThreadCall.MutexInit m))) (p.argument_parts w y) [] (null_argument L s w events y)
-      (λ _. good_pure L (Statement.Thread at (ThreadCall.MutexInit m))))
+      let made = λ (m : Cut ObjectPlace). thread_call at m.cuts (ThreadCall.MutexInit m.rest) in
+      good_then L (a.address_argument s Mutex x at (k.no_cuts s)) (λ m. a.null_argument s y >> pure (made m)) (p.object_parts w x)
+      (p.argument_parts w y ++ []) (address_argument L s w events Mutex x at (k.no_cuts s))
+      (λ m. good_then L (a.null_argument s y) (λ _. pure (made m)) (p.argument_parts w y) [] (null_argument L s w events y) (λ _. good_pure L (made m)))
 
   mutex_init_call : (at : ℕ) (list : List ArgumentTree) →
       Good L (k.mutex_init_call s at list) (if takes library.MutexInit (length list) then p.first_object_parts w list else p.arguments_parts w list)
@@ -144,12 +145,13 @@ module _ (L : Ledger) (s : Scope) (w : Where) (events : Events L s w) where
   barrier_init : (at : ℕ) (x y z : ArgumentTree) → Good L (k.barrier_init s at x y z) (p.first_object_parts w (x ∷ y ∷ z ∷ []))
   unfolding k.barrier_init
   barrier_init at x y z =
-      let last = λ (b : ObjectPlace). a.value_argument s z >>= (λ n. pure (Statement.Thread at (ThreadCall.BarrierInit b n))) in
-      good_then L (a.address_argument s Barrier x) (λ b. a.null_argument s y >> last b) (p.object_parts w x)
-      (p.argument_parts w y ++ (p.argument_parts w z ++ [])) (address_argument L s w events Barrier x)
+      let made = λ (b : Cut ObjectPlace) (n : Cut Expression). thread_call at n.cuts (ThreadCall.BarrierInit b.rest n.rest) in
+      let last = λ (b : Cut ObjectPlace). a.value_argument s z at b.cuts >>= (λ n. pure (made b n)) in
+      good_then L (a.address_argument s Barrier x at (k.no_cuts s)) (λ b. a.null_argument s y >> last b) (p.object_parts w x)
+      (p.argument_parts w y ++ (p.argument_parts w z ++ [])) (address_argument L s w events Barrier x at (k.no_cuts s))
       (λ b. good_then L (a.null_argument s y) (λ _. last b) (p.argument_parts w y) (p.argument_parts w z ++ []) (null_argument L s w events y)
-      (λ _. good_then L (a.value_argument s z) (λ n. pure (Statement.Thread at (ThreadCall.BarrierInit b n))) (p.argument_parts w z) [] (value_argument L s w events z)
-      (λ n. good_pure L (Statement.Thread at (ThreadCall.BarrierInit b n)))))
+      (λ _. good_then L (a.value_argument s z at b.cuts) (λ n. pure (made b n)) (p.argument_parts w z) [] (value_argument L s w events z at b.cuts)
+      (λ n. good_pure L (made b n))))
 
   barrier_init_call : (at : ℕ) (list : List ArgumentTree) →
       Good L (k.barrier_init_call s at list) (if takes library.BarrierInit (length list) then p.first_object_parts w list else p.arguments_parts w list)
@@ -164,8 +166,9 @@ module _ (L : Ledger) (s : Scope) (w : Where) (events : Events L s w) where
   object_statement : (f : LibraryFunction) (at : ℕ) (x : ArgumentTree) → Good L (k.object_statement s f at x) (p.first_object_parts w (x ∷ []))
   unfolding k.object_statement
   object_statement f at x =
-      good_then L (a.address_argument s (k.object_kind f) x) (λ o. pure (Statement.Thread at (k.on_object f o))) (p.object_parts w x) []
-      (address_argument L s w events (k.object_kind f) x) (λ o. good_pure L (Statement.Thread at (k.on_object f o)))
+      let made = λ (o : Cut ObjectPlace). thread_call at o.cuts (k.on_object f o.rest) in
+      good_then L (a.address_argument s (k.object_kind f) x at (k.no_cuts s)) (λ o. pure (made o)) (p.object_parts w x) []
+      (address_argument L s w events (k.object_kind f) x at (k.no_cuts s)) (λ o. good_pure L (made o))
 
   object_call : (f : LibraryFunction) (at : ℕ) (list : List ArgumentTree) →
       Good L (k.object_call s f at list) (if nat_eq 1 (length list) then p.first_object_parts w list else p.arguments_parts w list)
@@ -180,13 +183,14 @@ module _ (L : Ledger) (s : Scope) (w : Where) (events : Events L s w) where
       Good L (k.print_arguments s at first values) (Part.Print name (first ∷ values) ∷ p.arguments_parts w (first ∷ values))
   unfolding k.print_arguments
   print_arguments at name first values =
-      let look = e.argument s first in
-      let rest = λ (_ : Unit {0}). a.value_arguments s values >>= (λ v. pure (k.printed at (k.format first) v)) in
+      let look = e.looked_argument s first in
+      let all = e.all_passed s values at (k.no_cuts s) in
+      let rest = λ (_ : Unit {0}). all >>= (λ v. pure (k.printed at (k.format first) v)) in
       let vs = p.arguments_parts w values in
-      good_then L (finds_if (not (k.takes (k.format first) (length values))) rule.Format (a.argument_offset first)) (λ _. look >>= rest) (Part.Print name (first ∷ values) ∷ [])
+      good_then L (finds_if (not (k.takes (k.format first) (length values))) rule.Format (e.argument_offset first)) (λ _. look >>= rest) (Part.Print name (first ∷ values) ∷ [])
       (p.argument_parts w first ++ vs) (events.print name first values)
-      (λ _. good_then L look rest (p.argument_parts w first) vs (good_argument L s w events first)
-      (λ _. good_before L (a.value_arguments s values) (λ v. pure (k.printed at (k.format first) v)) vs (value_arguments L s w events values)
+      (λ _. good_then L look rest (p.argument_parts w first) vs (good_argument L s w events first).looked
+      (λ _. good_before L all (λ v. pure (k.printed at (k.format first) v)) vs (good_passed L s w events values at (k.no_cuts s))
       (λ v. good_pure L (k.printed at (k.format first) v))))
 
   print_call : (at : ℕ) (name : Name) (list : List ArgumentTree) → Good L (k.print_call s at name.offset list) (Part.Print name list ∷ p.arguments_parts w list)
@@ -197,36 +201,23 @@ module _ (L : Ledger) (s : Scope) (w : Where) (events : Events L s w) where
 
   -- ---- functions of the text
 
-  pub function_call : (number : ℕ) (is_value : Bool) (name : Name) (list : List ArgumentTree) → look_up s name.bytes ≡ known.Declared (meaning.Function number) →
-      Good L (k.function_call s number is_value name.offset list) (Part.Call w name ∷ p.arguments_parts w list)
-  unfolding k.function_call
-  function_call number is_value name list is =
-      let vs = p.arguments_parts w list in
-      good_then L (c.function_name s number (length list) is_value name.offset) (λ d. a.value_arguments s list >>= (λ v. pure (d, v))) (Part.Call w name ∷ []) vs
-      (events.function name number (length list) is_value is)
-      (λ d. good_before L (a.value_arguments s list) (λ v. pure (d, v)) vs (value_arguments L s w events list) (λ v. good_pure L (d, v)))
-
   function_statement : (number at : ℕ) (name : Name) (list : List ArgumentTree) → look_up s name.bytes ≡ known.Declared (meaning.Function number) →
       Good L (k.function_statement s number at name.offset list) (Part.Call w name ∷ p.arguments_parts w list)
   unfolding k.function_statement
   function_statement number at name list is =
-      good_before L (k.function_call s number false name.offset list) (λ r. pure (k.called at r.0 r.1)) (Part.Call w name ∷ p.arguments_parts w list)
-      (function_call number false name list is) (λ r. good_pure L (k.called at r.0 r.1))
+      let vs = p.arguments_parts w list in
+      let all = e.all_passed s list at (k.no_cuts s) in
+      good_then L (c.function_name s number (length list) false name.offset) (λ d. all >>= (λ v. pure (k.called at d v))) (Part.Call w name ∷ []) vs
+      (events.function name number (length list) false is)
+      (λ d. good_before L all (λ v. pure (k.called at d v)) vs (good_passed L s w events list at (k.no_cuts s)) (λ v. good_pure L (k.called at d v)))
 
-  other_if : (b : Bool) (at : ℕ) → Good L (finds_if b rule.Kind at) []
-  other_if true at = record { writes = (events.other rule.Kind at tt).writes }
-  other_if false at = record { writes = λ found. nothing_new L found }
-
-  no_function : (name : Name) (list : List ArgumentTree) → k.number_of (look_up s name.bytes) ≡ None →
+  no_function : (name : Name) (list : List ArgumentTree) → c.number_of (look_up s name.bytes) ≡ None →
       ((f : LibraryFunction) → look_up s name.bytes ≡ known.Library f → ⊥) →
-      Good L (k.no_function s (look_up s name.bytes) name.offset list) (Part.Call w name ∷ p.arguments_parts w list)
-  unfolding k.no_function
+      Good L (k.other_call s (look_up s name.bytes) name.offset list) (Part.Call w name ∷ p.arguments_parts w list)
+  unfolding k.other_call
   no_function name list none own =
-      let x = look_up s name.bytes in
-      let ps = p.arguments_parts w list in
-      good_then L (finds_if (a.is_unknown x) rule.Unknown name.offset) (λ _. finds_if (a.is_usable x) rule.Kind name.offset >> k.looked_call s list) (Part.Call w name ∷ []) ps
-      (events.no_function name none own)
-      (λ _. good_then L (finds_if (a.is_usable x) rule.Kind name.offset) (λ _. k.looked_call s list) [] ps (other_if (a.is_usable x) name.offset) (λ _. looked_call list))
+      good_then L (c.no_function (look_up s name.bytes) name.offset) (λ _. k.looked_call s list) (Part.Call w name ∷ []) (p.arguments_parts w list)
+      (events.no_function name none own) (λ _. looked_call list)
 
   -- ---- any call
 
@@ -247,11 +238,11 @@ module _ (L : Ledger) (s : Scope) (w : Where) (events : Events L s w) where
   abbrev CallOf : ℕ → Name → List ArgumentTree → Known → Type 0
   CallOf at name list x = Good L (k.call_of s x at name.offset list) (Part.Call w name ∷ p.arguments_parts w list)
 
-  other_name : (at : ℕ) (name : Name) (list : List ArgumentTree) (x : Known) → look_up s name.bytes ≡ x → k.number_of x ≡ None → ((f : LibraryFunction) → x ≡ known.Library f → ⊥) →
-      Good L (k.no_function s x name.offset list) (Part.Call w name ∷ p.arguments_parts w list)
+  other_name : (at : ℕ) (name : Name) (list : List ArgumentTree) (x : Known) → look_up s name.bytes ≡ x → c.number_of x ≡ None → ((f : LibraryFunction) → x ≡ known.Library f → ⊥) →
+      Good L (k.other_call s x name.offset list) (Part.Call w name ∷ p.arguments_parts w list)
   other_name at name list x is none own =
-      subst (λ y. Good L (k.no_function s y name.offset list) (Part.Call w name ∷ p.arguments_parts w list)) is
-      (no_function name list (ap k.number_of is ∙ none) (λ f e. own f (sym is ∙ e)))
+      subst (λ y. Good L (k.other_call s y name.offset list) (Part.Call w name ∷ p.arguments_parts w list)) is
+      (no_function name list (ap c.number_of is ∙ none) (λ f e. own f (sym is ∙ e)))
 
   own_name : (at : ℕ) (name : Name) (list : List ArgumentTree) (m : Option Meaning) → look_up s name.bytes ≡ from_declaration m → CallOf at name list (from_declaration m)
   unfolding k.call_of
@@ -261,49 +252,6 @@ module _ (L : Ledger) (s : Scope) (w : Where) (events : Events L s w) where
   own_name at name list (Some meaning.Argument) is = other_name at name list (known.Declared meaning.Argument) is refl (no_library meaning.Argument)
   own_name at name list (Some (meaning.Object o)) is = other_name at name list (known.Declared (meaning.Object o)) is refl (no_library (meaning.Object o))
   own_name at name list (Some meaning.Unusable) is = other_name at name list (known.Declared meaning.Unusable) is refl (no_library meaning.Unusable)
-
-  -- ---- values that may be calls
-
-  pub right_call : (at slot number : ℕ) (x : CallTree) → look_up s (out-Call x).name.bytes ≡ known.Declared (meaning.Function number) →
-      Good L (k.right_call s at slot number x) (Part.Call w (out-Call x).name ∷ p.arguments_parts w (out-Call x).arguments)
-  unfolding k.right_call
-  right_call at slot number x is =
-      let made = λ (r : Option ℕ × List Expression). k.called_value at slot (k.value_type (slice_get s.headers number)) r.0 r.1 in
-      good_before L (k.function_call s number true (out-Call x).name.offset (out-Call x).arguments) (λ r. pure (made r))
-      (Part.Call w (out-Call x).name ∷ p.arguments_parts w (out-Call x).arguments) (function_call number true (out-Call x).name (out-Call x).arguments is)
-      (λ r. good_pure L (made r))
-
-  right_value : (v : ExpressionTree) → Good L (k.right_value s v) (p.expression_parts w v)
-  unfolding k.right_value
-  right_value v = good_before L (e.value s v) (λ x. pure (uncut x)) (p.expression_parts w v) (good_value L s w events v) (λ x. good_pure L (uncut x))
-
-  number_known : (x : Known) (n : ℕ) → k.number_of x ≡ Some n → x ≡ known.Declared (meaning.Function n)
-  number_known (known.Declared (meaning.Function m)) n is = ap (λ j. known.Declared (meaning.Function j)) (same_Some m n is)
-  number_known (known.Declared (meaning.Variable v)) n is = absurd (none-some n is)
-  number_known (known.Declared meaning.Argument) n is = absurd (none-some n is)
-  number_known (known.Declared (meaning.Object o)) n is = absurd (none-some n is)
-  number_known (known.Declared meaning.Unusable) n is = absurd (none-some n is)
-  number_known known.Unknown n is = absurd (none-some n is)
-  number_known (known.Library f) n is = absurd (none-some n is)
-
-  with_number : (at slot : ℕ) (x : CallTree) (o : Option ℕ) → k.number_of (look_up s (out-Call x).name.bytes) ≡ o → (v : ExpressionTree) →
-      p.expression_parts w v ≡ Part.Call w (out-Call x).name ∷ p.arguments_parts w (out-Call x).arguments → Good L (k.right_from s at slot v (k.with_call s x o)) (p.expression_parts w v)
-  with_number at slot x None is v parts = right_value v
-  with_number at slot x (Some n) is v parts =
-      subst (λ ps. Good L (k.right_call s at slot n x) ps) (sym parts) (right_call at slot n x (number_known (look_up s (out-Call x).name.bytes) n is))
-
-  right_by : (at slot : ℕ) (v : ExpressionTree) (f : a.FormLayer) → p.expression_parts w v ≡ (form_of w f).parts → Good L (k.right_from s at slot v (k.call_in s f)) (p.expression_parts w v)
-  right_by at slot v (Form-F.Call x) parts = with_number at slot x (k.number_of (look_up s (out-Call x).name.bytes)) refl v (parts ∙ call_is w x)
-  right_by at slot v (Form-F.Constant c place) parts = right_value v
-  right_by at slot v (Form-F.Place q) parts = right_value v
-  right_by at slot v (Form-F.Unary o x) parts = right_value v
-  right_by at slot v (Form-F.Cast words x) parts = right_value v
-  right_by at slot v (Form-F.Binary x terms) parts = right_value v
-  right_by at slot v (Form-F.Conditional x choices) parts = right_value v
-
-  pub right_side : (at slot : ℕ) (v : ExpressionTree) → Good L (k.right_side s at slot v) (p.expression_parts w v)
-  unfolding k.right_side
-  right_side at slot v = right_by at slot v (out-Form (out-Expression v).form) (ap (λ (q : p.Parted). q.parts) (expression_is w v))
 
 -- ---- calls of the library, and any call
 

@@ -1,6 +1,6 @@
 -- Creates, in a whole text.
 use Rattle.std.proofs.Common.{◌≡◌, refl, sym, subst, ap, ◌∙◌, ℕ, zero, suc, ◌<◌, Bool, true, false, List, [], ◌∷◌, ◌++◌, length, Option, Some, None, append_assoc, append-nil, arith}
-use Rattle.std.specs.Prelude.{◌-◌, ◌&&◌, not, is_some, if◌then◌else◌, slice_get, remove}
+use Rattle.std.specs.Prelude.{◌-◌, ◌&&◌, not, nat_le, is_some, if◌then◌else◌, slice_get, remove}
 use Rattle.std.specs.List.{flat_map}
 use Rattle.std.specs.Str.{bytes_eq}
 use Rattle.std.proofs.lemmas.Slice.Eq.{bytes_eq-Decides}
@@ -20,7 +20,10 @@ use Rattle.c_rules.specs.declared.findings.Findings.{Findings}
 use Rattle.c_rules.specs.declared.specifiers.BaseType.{BaseType}
 use Rattle.c_rules.specs.declared.specifiers.BaseType.TheVariants as base
 use Rattle.c_rules.specs.declared.specifiers.Spelled.{Spelled}
-use Rattle.c_rules.specs.declared.names.ObjectKind.TheVariants.{Thread}
+use Rattle.c_rules.specs.declared.dimensions.Dimensions.{Dimensions}
+use Rattle.c_rules.specs.declared.dimensions.Dimensions.TheVariants.{Scalar, One, Two, Three}
+use Rattle.c_rules.specs.declared.names.ObjectKind.{ObjectKind}
+use Rattle.c_rules.specs.declared.names.ObjectKind.TheVariants.{Thread, Mutex, Barrier}
 use Rattle.c_rules.specs.declared.names.Object.{Object}
 use Rattle.c_rules.specs.declared.names.Meaning.{Meaning}
 use Rattle.c_rules.specs.declared.names.Meaning.TheVariants as meaning
@@ -34,7 +37,7 @@ use Rattle.c_rules.specs.Names as names
 use Rattle.c_rules.specs.Names.{look_up, same_kind, is_taken, declaring, opened, closed, closed_to}
 use Rattle.c_rules.specs.Specifiers.{base_of, spelled_by}
 use Rattle.c_rules.specs.Walks.{Outcome, finds, through, place_in_tree}
-use Rattle.c_calls.specs.Arguments as a
+use Rattle.c_expressions.specs.Expressions as e
 use Rattle.c_calls.specs.Calls as k
 use Rattle.c_resolution.specs.States.{State, finding, scoping, in_scope}
 use Rattle.c_resolution.specs.Files.{File, Tables}
@@ -49,7 +52,7 @@ use Rattle.c_broken_rules.specs.Breaks.{innermost}
 use Rattle.c_broken_rules.specs.Parts.{Part, parts, at_first, names_of, number_behind, object_names}
 use Rattle.c_broken_rules.proofs.Ledgers.{Ledger, Writes, given, left, after_one, writes_with, quiet}
 use Rattle.c_broken_rules.proofs.Events.{Events}
-use Rattle.c_broken_rules.proofs.Walks.{Scoping, IsUsual, IsParameter, Adds, is_thread, is_thread_base}
+use Rattle.c_broken_rules.proofs.Walks.{Scoping, IsUsual, IsParameter, Adds, is_small, is_thread, is_thread_base}
 use Rattle.c_broken_rules.proofs.Functions.{text_is, declaration_is, declaration_holds}
 use Rattle.c_broken_rules.proofs.Sights.{Agrees, named_inserted}
 use Rattle.c_broken_rules.proofs.NameScope as n
@@ -89,20 +92,32 @@ no_variable v m e h = subst IsUsual e h
 same_object : (x y : Object) → meaning.Object x ≡ meaning.Object y → x ≡ y
 same_object x y h = cc
 
-no_kind : (x : Object) (v : Object) → x ≡ v → same_kind Thread x.kind ≡ false → same_kind Thread v.kind ≡ true → ⊥
-no_kind x v e out is = false≢true (sym out ∙ ap (λ (z : Object). same_kind Thread z.kind) e ∙ is)
+-- an object of one dimension at most, of its kind and number
+numbered : (kind : ObjectKind) (count : ℕ) (dimensions : Dimensions) (v : Object) → g.object kind count dimensions ≡ meaning.Object v →
+    (is_small dimensions ≡ true) × (v.number ≡ place_in_tree count) × (v.kind ≡ kind)
+numbered kind count Scalar v e = let same = same_object _ v e in (refl, sym (ap (λ (z : Object). z.number) same), sym (ap (λ (z : Object). z.kind) same))
+numbered kind count (One n) v e = let same = same_object _ v e in (refl, sym (ap (λ (z : Object). z.number) same), sym (ap (λ (z : Object). z.kind) same))
+numbered kind count (Two a b) v e = absurd (not_object v meaning.Unusable tt e)
+numbered kind count (Three a b c) v e = absurd (not_object v meaning.Unusable tt e)
+
+other_kind : (kind : ObjectKind) (v : Object) → v.kind ≡ kind → same_kind Thread kind ≡ false → same_kind Thread v.kind ≡ true → ⊥
+other_kind kind v e out is = false≢true (sym out ∙ sym (ap (same_kind Thread) e) ∙ is)
 
 -- the number of a thread object that is declared
-thread_is : (tables : Tables) (words : Spelled) (size : Option ℕ) (b : Bool) (kind : BaseType) (v : Object) →
-    (if b then meaning.Unusable else g.meaning_by tables words size kind) ≡ meaning.Object v → same_kind Thread v.kind ≡ true →
-    (v.number ≡ place_in_tree (length tables.threads)) × ((not b && is_thread_base kind) ≡ true)
-thread_is tables words size true kind v e is = absurd (not_object v meaning.Unusable tt e)
-thread_is tables words size false base.Thread v e is = (sym (ap (λ (z : Object). z.number) (same_object _ v e)), refl)
-thread_is tables words size false base.Mutex v e is = absurd (no_kind _ v (same_object _ v e) refl is)
-thread_is tables words size false base.Barrier v e is = absurd (no_kind _ v (same_object _ v e) refl is)
-thread_is tables words size false (base.Integer ty) v e is = absurd (no_variable v _ e tt)
-thread_is tables words size false base.Void v e is = absurd (no_variable v meaning.Unusable e tt)
-thread_is tables words size false base.Unlisted v e is = absurd (no_variable v meaning.Unusable e tt)
+thread_is : (tables : Tables) (words : Spelled) (dimensions : Dimensions) (few b : Bool) (kind : BaseType) (v : Object) → is_small dimensions ≡ few →
+    (if b then meaning.Unusable else g.meaning_by tables words dimensions kind) ≡ meaning.Object v → same_kind Thread v.kind ≡ true →
+    (v.number ≡ place_in_tree (length tables.threads)) × ((not b && (is_thread_base kind && few)) ≡ true)
+thread_is tables words dimensions few true kind v small e is = absurd (not_object v meaning.Unusable tt e)
+thread_is tables words dimensions few false base.Thread v small e is =
+    let h = numbered Thread (length tables.threads) dimensions v e in
+    (h.1, sym small ∙ h.0)
+thread_is tables words dimensions few false base.Mutex v small e is =
+    absurd (other_kind Mutex v (numbered Mutex (length tables.mutexes) dimensions v e).2 refl is)
+thread_is tables words dimensions few false base.Barrier v small e is =
+    absurd (other_kind Barrier v (numbered Barrier (length tables.barriers) dimensions v e).2 refl is)
+thread_is tables words dimensions few false (base.Integer ty) v small e is = absurd (no_variable v _ e tt)
+thread_is tables words dimensions few false base.Void v small e is = absurd (no_variable v meaning.Unusable e tt)
+thread_is tables words dimensions few false base.Unlisted v small e is = absurd (no_variable v meaning.Unusable e tt)
 
 -- ---- what the tables hold
 
@@ -161,10 +176,11 @@ module _ (T : List (List ℕ)) (all : Names) where
   Placing w name m = (v : Object) → m ≡ meaning.Object v → same_kind Thread v.kind ≡ true → Next w name.bytes v
 
   module _ (is : threads_of all ≡ T) where
-    next_object : (tables : Tables) (w : Where) (words : Specifiers) (pointer : Bool) (d : GlobalDeclarator) (size : Option ℕ) (later : Names) →
-        Held tables w (object_names words pointer d ++ later) → Placing w d.name (g.global_meaning tables (spelled_by words) pointer size)
-    next_object tables w words pointer d size later h v e kind =
-        let f = thread_is tables (spelled_by words) size pointer (base_of words.words) v e kind in
+    next_object : (tables : Tables) (w : Where) (words : Specifiers) (pointer : Bool) (d : GlobalDeclarator) (dimensions : Dimensions) (later : Names) →
+        is_small dimensions ≡ nat_le (length d.lengths) 1 → Held tables w (object_names words pointer d ++ later) →
+        Placing w d.name (g.global_meaning tables (spelled_by words) pointer dimensions)
+    next_object tables w words pointer d dimensions later small h v e kind =
+        let f = thread_is tables (spelled_by words) dimensions (nat_le (length d.lengths) 1) pointer (base_of words.words) v small e kind in
         let here = sym (ap innermost h.scopes) in
         let names = object_names words pointer d in
         let whole =
@@ -289,31 +305,30 @@ module _ (D : List (List ℕ × ℕ)) (T : List (List ℕ)) where
       record {
         other = o;
         constant = λ v at. quiet L (Part.Constant v at) (λ x h. h.1) (q.constant_is L constants v at);
-        used = λ name index. quiet L (Part.Use w name) (λ x h. h.1) (q.named_value L o (look_up s name.bytes) name.offset (Some index) (λ _. unknown) (λ _ _. threads));
+        used = λ name more. quiet L (Part.Use w name) (λ x h. h.1) (q.misuse_quiet L o (look_up s name.bytes) (suc more) name.offset (λ _. unknown) (λ _ _. threads));
         read = λ name. quiet L (Part.Use w name) (λ x h. h.1)
-            (quiet L (Part.Read w name) (λ x h. h.1) (q.named_value L o (look_up s name.bytes) name.offset None (λ _. unknown) (λ _ _. threads)));
-        converted = λ name h. quiet L (Part.Use w name) (λ x h. h.1) (q.named_value L o (look_up s name.bytes) name.offset None (λ _. unknown) (λ _ _. threads));
+            (quiet L (Part.Read w name) (λ x h. h.1) (q.misuse_quiet L o (look_up s name.bytes) 0 name.offset (λ _. unknown) (λ _ _. threads)));
+        converted = λ name h. quiet L (Part.Use w name) (λ x h. h.1) (q.misuse_quiet L o (look_up s name.bytes) 0 name.offset (λ _. unknown) (λ _ _. threads));
         argument = λ name h x k. k.1;
-        target = λ name indexed. quiet L (Part.Use w name) (λ x h. h.1) (q.target_quiet L o (look_up s name.bytes) indexed name.offset (λ _. unknown));
-        object = λ kind name at index. quiet L (Part.Use w name) (λ x h. h.1) (q.object_named L o kind (look_up s name.bytes) name.offset at index (λ _. unknown));
+        target = λ name indices. quiet L (Part.Use w name) (λ x h. h.1) (q.target_quiet L o (look_up s name.bytes) indices name.offset (λ _. unknown));
+        object = λ kind name at indices number. quiet L (Part.Use w name) (λ x h. h.1)
+            (q.object_named L o kind (look_up s name.bytes) name.offset at indices number (λ _. unknown));
         routine = λ name h at is. quiet L (Part.Routine w name) (λ x h. h.1)
             (quiet L (Part.Use w name) (λ x h. h.1) (quiet L (Part.Read w name) (λ x h. h.1) (q.routine_quiet L o unknown h name.offset at)));
         no_routine = λ name is x k. k.1;
-        misplaced = λ name count. quiet L (Part.Call w name) (λ x h. h.1)
-            (q.misplaced_quiet L o unknown threads (c.calls_quiet D T) s (look_up s name.bytes) count name.offset);
+        misplaced = λ name count none. quiet L (Part.Call w name) (λ x h. h.1) (q.misplaced_quiet L o unknown threads s (look_up s name.bytes) count name.offset);
         library = λ name function count is. quiet L (Part.Call w name) (λ x h. h.1) (q.library_quiet L o unknown threads s function count name.offset);
         function = λ name number count is_value is. quiet L (Part.Call w name) (λ x h. h.1)
             (q.function_quiet L o unknown threads (c.calls_quiet D T) s number count is_value name.offset);
-        no_function = λ name none own. quiet L (Part.Call w name) (λ x h. h.1)
-            (q.broken_if L (a.is_unknown (look_up s name.bytes)) rule.Unknown name.offset unknown);
+        no_function = λ name none own. quiet L (Part.Call w name) (λ x h. h.1) (q.no_function_quiet L o unknown threads (look_up s name.bytes) name.offset);
         print = λ name first values. quiet L (Part.Print name (first ∷ values)) (λ x h. h.1)
-            (q.broken_if L (not (k.takes (k.format first) (length values))) rule.Format (a.argument_offset first) formats);
+            (q.broken_if L (not (k.takes (k.format first) (length values))) rule.Format (e.argument_offset first) formats);
         no_print = λ name. quiet L (Part.Print name []) (λ x h. h.1) (formats name.offset);
         length = λ v. quiet L (Part.Length v) (λ x h. h.1) (q.length_is L constants (constancy v) (out-Expression v).offset);
         local = λ words at is. quiet L (Part.Local words at) (λ x h. h.1) (q.local_quiet L o threads words at);
         no_local = λ words at ty is x k. k.1;
         initial = λ ty v. quiet L (Part.Initial v) (λ x h. h.1) (q.initial_is L constants ty (constancy v) (out-Expression v).offset);
-        listed = λ size v n index is. quiet L (Part.Listed size index v) (λ x h. h.1) (q.broken_if L _ rule.Constant (out-Expression v).offset constants);
+        listed = λ lengths n index at is. quiet L (Part.Listed lengths index at) (λ x h. h.1) (q.broken_if L _ rule.Constant at constants);
       }
 
   module _ (few : length T < cap) (all : Names) (is : threads_of all ≡ T) where
@@ -332,7 +347,7 @@ module _ (D : List (List ℕ × ℕ)) (T : List (List ℕ)) where
           is_open = λ s w h. N.is_open s w h.names;
           closed = λ s scope w opening h. record { names = N.closed s scope w opening h.names; numbers = numbered_closed s h.numbers };
           no_names = λ s w h. record { names = N.no_names s w h.names; numbers = h.numbers };
-          loops = λ s w count h. record { names = N.loops s w count h.names; numbers = record { inner = h.numbers.inner; outer = h.numbers.outer } };
+          loops = λ s w count exits h. record { names = N.loops s w count exits h.names; numbers = record { inner = h.numbers.inner; outer = h.numbers.outer } };
           local = λ s w v h. record { names = N.local s w v h.names; numbers = record { inner = h.numbers.inner; outer = h.numbers.outer } };
           declares = λ x w name d o h means.
               let still = q.declare_is L (c.others D T) twice name o x in
@@ -344,12 +359,17 @@ module _ (D : List (List ℕ × ℕ)) (T : List (List ℕ)) where
                 };
                 value = tt;
               };
-          variable = λ w words d m h. (h, λ v e kind. absurd (not_object v m h e));
-          parameter = λ w name p m h. (h, λ v e kind. absurd (no_parameter p.is_pointer m v h e));
+          variable = λ w words d m h ty. ((h, ty), λ v e kind. absurd (not_object v m h e));
+          parameter = λ w name p m h ty. ((h, ty), λ v e kind. absurd (no_parameter p.is_pointer m v h e));
+          IsSwitched = λ w over ty. Unit {0};
+          switched = λ s w over at cuts found h. tt;
+          case = λ s w over ty before l v z h is noted some. quiet L (Part.Label w over before l) (λ x k. k.1)
+              (q.noted_quiet L twice (c.broken D T rule.Constant) ty (constancy v) (out-Expression v).offset z);
+          default = λ s w over ty before l z h is noted none. quiet L (Part.Label w over before l) (λ x k. k.1) (q.default_quiet L twice l.offset z);
           Held = Held T all;
-          object = λ tables w words pointer d size later h.
-              (n.global_is D tables words pointer d size, next_object T all is tables w words pointer d size later h);
-          held_object = λ x z w words pointer d later added h. held_one T all (is_thread words pointer) x z w d.name.bytes (Declared.OfObject words pointer d) later refl added h;
+          object = λ tables w words pointer d dimensions later small h.
+              (n.global_is D tables words pointer d dimensions small, next_object T all is tables w words pointer d dimensions later small h);
+          held_object = λ x z w words pointer d later added h. held_one T all (is_thread words pointer d) x z w d.name.bytes (Declared.OfObject words pointer d) later refl added h;
           held_function = λ x z w f later same h. held_one T all false x z w f.name.bytes (Declared.OfFunction f) later refl same h;
           held_none = held_none T all;
           At = λ w count list. Unit {0};

@@ -1,7 +1,7 @@
 -- Creates: what a walk notes of them, in the order of the text.
 use Rattle.std.proofs.Common.{◌≡◌, refl, sym, subst, ap, ◌∙◌, inl, inr, ℕ, ◌<◌, Bool, true, false, List, [], ◌∷◌, ◌++◌, length, Option, Some, None}
 use Rattle.std.proofs.Common.{append_assoc, append-nil, arith}
-use Rattle.std.specs.Prelude.{fold, not, is_none, nat_eq, if◌then◌else◌, option_map}
+use Rattle.std.specs.Prelude.{fold, not, nat_eq, if◌then◌else◌, option_map}
 use Rattle.std.proofs.lemmas.Option.{same_Some, none-some}
 use Rattle.std.proofs.lemmas.Bool.{eq-eqb, false≢true}
 use Rattle.c_tree.specs.declared.expression.Name.{Name}
@@ -29,6 +29,7 @@ use Rattle.c_rules.specs.Library.{function_named}
 use Rattle.c_rules.specs.Names as n
 use Rattle.c_rules.specs.Names.{or_else, look_up, declared, declared_outside, known_by, same_kind}
 use Rattle.c_rules.specs.Walks.{Outcome, Finds, pure, finds_if, creates, place_in_tree, ◌>>=◌, ◌>>◌}
+use Rattle.c_expressions.specs.Cuts.{Cuts, Cut, cut}
 use Rattle.c_expressions.specs.Expressions as e
 use Rattle.c_calls.specs.Arguments as a
 use Rattle.c_calls.specs.Calls as k
@@ -89,7 +90,7 @@ module _ (D : List (List ℕ × ℕ)) (T : List (List ℕ)) where
   abbrev pub object_number : Option LibraryFunction → Option Declared → List ℕ → Option ℕ
   object_number (Some f) d key = None
   object_number None None key = None
-  object_number None (Some (Declared.OfObject words pointer d)) key = if is_thread words pointer then Some (first_index T key) else None
+  object_number None (Some (Declared.OfObject words pointer d)) key = if is_thread words pointer d then Some (first_index T key) else None
   object_number None (Some other) key = None
 
   -- the number of the thread object that a name stands for
@@ -216,55 +217,64 @@ module _ (D : List (List ℕ × ℕ)) (T : List (List ℕ)) where
   number_by None = cap
   number_by (Some o) = o.number
 
-  object_at : (at : ℕ) (o : Object) (size : Option ℕ) (index : Option Expression) (found : Findings) → object_of (given (a.object_at at o size index found)) ≡ o.number
+  placed_number : (o : Object) (size : Option ℕ) (number : Option Expression) → object_of (a.placed o size number) ≡ o.number
+  placed_number o None number = refl
+  placed_number o (Some size) (Some number) = refl
+  placed_number o (Some size) None = refl
+
+  object_at : (at : ℕ) (o : Object) (indices : ℕ) (number : Option Expression) (found : Findings) → object_of (given (a.object_at at o indices number found)) ≡ o.number
   unfolding a.object_at
-  object_at at o None None found = refl
-  object_at at o (Some size) (Some index) found = refl
-  object_at at o None (Some index) found = refl
-  object_at at o (Some size) None found = refl
+  object_at at o indices number found = placed_number o o.length number
 
   misused : (x : Known) (name_at at : ℕ) (found : Findings) → object_of (given (a.misused_object x name_at at found)) ≡ cap
   unfolding a.misused_object
   misused x name_at at found = refl
 
-  object_from : (o : Option Object) (x : Known) (name_at at : ℕ) (index : Option Expression) (found : Findings) →
-      object_of (given (a.object_from o x name_at at index found)) ≡ number_by o
-  object_from (Some o) x name_at at index found = object_at name_at o o.length index found
-  object_from None x name_at at index found = misused x name_at at found
+  object_from : (o : Option Object) (x : Known) (name_at at indices : ℕ) (number : Option Expression) (found : Findings) →
+      object_of (given (a.object_from o x name_at at indices number found)) ≡ number_by o
+  object_from (Some o) x name_at at indices number found = object_at name_at o indices number found
+  object_from None x name_at at indices number found = misused x name_at at found
 
-  object_named : (x : Known) (name_at at : ℕ) (index : Option Expression) (found : Findings) →
-      object_of (given (a.object_named Thread x name_at at index found)) ≡ number_by (a.object_of Thread x)
+  object_named : (x : Known) (name_at at indices : ℕ) (number : Option Expression) (found : Findings) →
+      object_of (given (a.object_named Thread x name_at at indices number found)) ≡ number_by (a.object_of Thread x)
   unfolding a.object_named
-  object_named x name_at at index found = object_from (a.object_of Thread x) x name_at at index found
+  object_named x name_at at indices number found = object_from (a.object_of Thread x) x name_at at indices number found
 
-  object_place : (s : Scope) (place : PlaceTree) (at : ℕ) (found : Findings) →
-      object_of (given (a.object_place s Thread place at found)) ≡ number_by (a.object_of Thread (look_up s (out-Place place).name.bytes))
+  -- the number of the object of an argument
+  abbrev given_number : Outcome Findings (Cut ObjectPlace) → ℕ
+  given_number o = object_of (given o).rest
+
+  object_place : (s : Scope) (place : PlaceTree) (offset at : ℕ) (cuts : Cuts) (found : Findings) →
+      given_number (a.object_place s Thread place offset at cuts found) ≡ number_by (a.object_of Thread (look_up s (out-Place place).name.bytes))
   unfolding a.object_place
-  object_place s place at found =
+  object_place s place offset at cuts found =
       let x = look_up s (out-Place place).name.bytes in
-      let o = e.index s place found in
-      ap (λ (z : Outcome Findings ObjectPlace). object_of (given z)) (turn o (λ i. a.object_named Thread x (out-Place place).name.offset at i))
-      ∙ object_named x (out-Place place).name.offset at (given o) (left o)
+      let count = length (out-Place place).indices in
+      let object = λ (i : Cut (Option Expression)). a.object_named Thread x (out-Place place).name.offset offset count i.rest in
+      let last = λ (i : Cut (Option Expression)) (o : ObjectPlace). pure (cut i.cuts o) in
+      let o = e.place_number s (a.object_dimensions (a.object_of Thread x)) place at cuts found in
+      ap given_number (turn o (λ i. object i >>= (λ z. last i z))) ∙ ap given_number (turn (object (given o) (left o)) (λ z. last (given o) z))
+      ∙ object_named x (out-Place place).name.offset offset count (given o).rest (left o)
 
-  refused_object : (s : Scope) (x : ArgumentTree) (found : Findings) → object_of (given (a.refused_object s x found)) ≡ cap
+  refused_object : (s : Scope) (x : ArgumentTree) (cuts : Cuts) (found : Findings) → given_number (a.refused_object s x cuts found) ≡ cap
   unfolding a.refused_object
-  refused_object s x found = ap (λ (z : Outcome Findings ObjectPlace). object_of (given z)) (turn (a.refused s x found) (λ _. pure a.no_object))
+  refused_object s x cuts found = ap given_number (turn (a.refused s x found) (λ _. pure (cut cuts a.no_object)))
 
   abbrev address_number : Scope → Option Name → ℕ
   address_number s None = cap
   address_number s (Some name) = number_by (a.object_of Thread (look_up s name.bytes))
 
-  address_by : (s : Scope) (w : Where) (x : ArgumentTree) (l : a.ArgumentLayer) (found : Findings) →
-      object_of (given (a.address_in s Thread x l found)) ≡ address_number s (p.named_object w l)
-  address_by s w x (Argument-F.Address place at) found = object_place s place at found
-  address_by s w x (Argument-F.Text bytes at) found = refused_object s x found
-  address_by s w x (Argument-F.Value v) found = refused_object s x found
-  address_by s w x (Argument-F.Pointer v) found = refused_object s x found
+  address_by : (s : Scope) (w : Where) (x : ArgumentTree) (l : a.ArgumentLayer) (at : ℕ) (cuts : Cuts) (found : Findings) →
+      given_number (a.address_in s Thread x l at cuts found) ≡ address_number s (p.named_object w l)
+  address_by s w x (Argument-F.Address place offset) at cuts found = object_place s place offset at cuts found
+  address_by s w x (Argument-F.Text bytes offset) at cuts found = refused_object s x cuts found
+  address_by s w x (Argument-F.Value v) at cuts found = refused_object s x cuts found
+  address_by s w x (Argument-F.Pointer v) at cuts found = refused_object s x cuts found
 
-  address : (s : Scope) (w : Where) (x : ArgumentTree) (found : Findings) →
-      object_of (given (a.address_argument s Thread x found)) ≡ address_number s (p.named_object w (out-Argument x))
+  address : (s : Scope) (w : Where) (x : ArgumentTree) (at : ℕ) (cuts : Cuts) (found : Findings) →
+      given_number (a.address_argument s Thread x at cuts found) ≡ address_number s (p.named_object w (out-Argument x))
   unfolding a.address_argument
-  address s w x found = address_by s w x (out-Argument x) found
+  address s w x at cuts found = address_by s w x (out-Argument x) at cuts found
 
   -- ---- the routines of creates
 
@@ -279,9 +289,9 @@ module _ (D : List (List ℕ × ℕ)) (T : List (List ℕ)) where
   refused_routine : (s : Scope) (is_other : Bool) (x : ArgumentTree) (found : Findings) → given (a.refused_routine s is_other x found) ≡ None
   unfolding a.refused_routine
   refused_routine s is_other x found =
-      let first = finds_if is_other rule.Kind (a.argument_offset x) found in
-      ap (λ (z : Outcome Findings (Option (ℕ × ℕ))). given z) (turn first (λ _. e.argument s x >> pure None))
-      ∙ ap (λ (z : Outcome Findings (Option (ℕ × ℕ))). given z) (turn (e.argument s x (left first)) (λ _. pure None))
+      let first = finds_if is_other rule.Kind (e.argument_offset x) found in
+      ap (λ (z : Outcome Findings (Option (ℕ × ℕ))). given z) (turn first (λ _. e.looked_argument s x >> pure None))
+      ∙ ap (λ (z : Outcome Findings (Option (ℕ × ℕ))). given z) (turn (e.looked_argument s x (left first)) (λ _. pure None))
 
   one_routine : (h : Header) (name_at at : ℕ) (found : Findings) → given (a.routine h name_at at found) ≡ option_map (λ (number : ℕ). (number, name_at)) h.definition
   unfolding a.routine
@@ -299,7 +309,7 @@ module _ (D : List (List ℕ × ℕ)) (T : List (List ℕ)) where
 
   routine_at : (s : Scope) (w : Where) (x : ArgumentTree) (o : Option (PlaceTree × ℕ)) (found : Findings) →
       given (a.routine_at s x o found) ≡ routine_given s (p.name_by w (option_map (λ (r : PlaceTree × ℕ). r.0) o))
-  routine_at s w x (Some r) found = alone s x (out-Place r.0).name r.1 (not (a.is_unnamed s r.0)) (is_none (out-Place r.0).index) found
+  routine_at s w x (Some r) found = alone s x (out-Place r.0).name r.1 (not (a.is_unnamed s r.0)) (a.is_alone r.0) found
   routine_at s w x None found = refused_routine s true x found
 
   routine : (s : Scope) (w : Where) (events : Events L s w) (x : ArgumentTree) (found : Findings) → given (a.routine_argument s x found) ≡ routine_given s (p.name_alone w x)
@@ -315,7 +325,7 @@ module _ (D : List (List ℕ × ℕ)) (T : List (List ℕ)) where
   pub index_of : (key : List ℕ) (f : Option LibraryFunction) (d : Option Declared) (k : ℕ) → object_number f d key ≡ Some k → k ≡ first_index T key
   index_of key (Some f) d k e = absurd (none-some k e)
   index_of key None None k e = absurd (none-some k e)
-  index_of key None (Some (Declared.OfObject words pointer d)) k e = index_if (is_thread words pointer) key k e
+  index_of key None (Some (Declared.OfObject words pointer d)) k e = index_if (is_thread words pointer d) key k e
   index_of key None (Some (Declared.OfFunction f)) k e = absurd (none-some k e)
   index_of key None (Some (Declared.OfParameter v)) k e = absurd (none-some k e)
   index_of key None (Some (Declared.OfVariable words d)) k e = absurd (none-some k e)
@@ -359,12 +369,12 @@ module _ (D : List (List ℕ × ℕ)) (T : List (List ℕ)) where
     by_declared s (Declared.OfFunction f) (meaning.Object o) key means num = absurd means
     by_declared s (Declared.OfFunction f) meaning.Argument key means num = absurd means
     by_declared s (Declared.OfFunction f) meaning.Unusable key means num = absurd means
-    by_declared s (Declared.OfParameter v) m key means num = ap number_by (parameter v.is_pointer m means)
-    by_declared s (Declared.OfVariable words d) m key means num = ap number_by (usual m means)
+    by_declared s (Declared.OfParameter v) m key means num = ap number_by (parameter v.is_pointer m means.0)
+    by_declared s (Declared.OfVariable words d) m key means num = ap number_by (usual m means.0)
     by_declared s (Declared.OfObject words pointer d) (meaning.Object o) key means num =
-        one_object o key (same_kind Thread o.kind) (is_thread words pointer) refl means.1 num
-    by_declared s (Declared.OfObject words pointer d) (meaning.Variable v) key means num = other_object key (is_thread words pointer) means.1
-    by_declared s (Declared.OfObject words pointer d) meaning.Unusable key means num = other_object key (is_thread words pointer) means.1
+        one_object o key (same_kind Thread o.kind) (is_thread words pointer d) refl means.1 num
+    by_declared s (Declared.OfObject words pointer d) (meaning.Variable v) key means num = other_object key (is_thread words pointer d) means.1
+    by_declared s (Declared.OfObject words pointer d) meaning.Unusable key means num = other_object key (is_thread words pointer d) means.1
     by_declared s (Declared.OfObject words pointer d) meaning.Argument key means num = absurd means.0
     by_declared s (Declared.OfObject words pointer d) (meaning.Function k) key means num = absurd means.0
 
@@ -417,8 +427,8 @@ module _ (D : List (List ℕ × ℕ)) (T : List (List ℕ)) where
     routine_declared s (Declared.OfFunction f) (meaning.Object o) at means = absurd means
     routine_declared s (Declared.OfFunction f) meaning.Argument at means = absurd means
     routine_declared s (Declared.OfFunction f) meaning.Unusable at means = absurd means
-    routine_declared s (Declared.OfParameter v) m at means = no_header s m at (no_parameter_header v.is_pointer m means)
-    routine_declared s (Declared.OfVariable words d) m at means = no_header s m at (no_usual_header m means)
+    routine_declared s (Declared.OfParameter v) m at means = no_header s m at (no_parameter_header v.is_pointer m means.0)
+    routine_declared s (Declared.OfVariable words d) m at means = no_header s m at (no_usual_header m means.0)
     routine_declared s (Declared.OfObject words pointer d) (meaning.Object o) at means = refl
     routine_declared s (Declared.OfObject words pointer d) (meaning.Variable v) at means = refl
     routine_declared s (Declared.OfObject words pointer d) meaning.Unusable at means = refl
@@ -481,18 +491,18 @@ module _ (D : List (List ℕ × ℕ)) (T : List (List ℕ)) where
       };
     }
 
-    noted : {ps : Parts} (at : ℕ) (o : ObjectPlace) (v : Expression) (r : ℕ × ℕ) → Good L (creates (object_of o) r.0 r.1) ps → Good L (k.created at o v (Some r)) ps
+    noted : {ps : Parts} (at : ℕ) (o : ObjectPlace) (v : Cut Expression) (r : ℕ × ℕ) → Good L (creates (object_of o) r.0 r.1) ps → Good L (k.created at o v (Some r)) ps
     unfolding k.created
     noted {ps = ps} at o v r h =
-        good_before L (creates (object_of o) r.0 r.1) (λ _. pure (Statement.Thread at (ThreadCall.Create o r.0 v))) ps h
-        (λ _. good_pure L (Statement.Thread at (ThreadCall.Create o r.0 v)))
+        let made = k.thread_call at v.cuts (ThreadCall.Create o r.0 v.rest) in
+        good_before L (creates (object_of o) r.0 r.1) (λ _. pure made) ps h (λ _. good_pure L made)
 
-    unnoted : (at : ℕ) (o : ObjectPlace) (v : Expression) (r : Option (ℕ × ℕ)) → r ≡ None → Good L (k.created at o v r) []
+    unnoted : (at : ℕ) (o : ObjectPlace) (v : Cut Expression) (r : Option (ℕ × ℕ)) → r ≡ None → Good L (k.created at o v r) []
     unfolding k.created
     unnoted at o v None e = good_pure L Statement.Empty
     unnoted at o v (Some r) e = absurd (none-some r (sym e))
 
-    phantom_create : (at : ℕ) (o : ObjectPlace) (v : Expression) (r : Option (ℕ × ℕ)) → object_of o ≡ cap → Good L (k.created at o v r) []
+    phantom_create : (at : ℕ) (o : ObjectPlace) (v : Cut Expression) (r : Option (ℕ × ℕ)) → object_of o ≡ cap → Good L (k.created at o v r) []
     phantom_create at o v None e = unnoted at o v None refl
     phantom_create at o v (Some r) e = noted at o v r (phantom (object_of o) r.0 r.1 e)
 
@@ -500,7 +510,7 @@ module _ (D : List (List ℕ × ℕ)) (T : List (List ℕ)) where
     no_made None at h = h
     no_made (Some t) at h = h
 
-    both_named : (at : ℕ) (o : ObjectPlace) (v : Expression) (r : Option (ℕ × ℕ)) (w : Where) (thread name : Name) (t m : Option ℕ) → thread_number w thread ≡ t →
+    both_named : (at : ℕ) (o : ObjectPlace) (v : Cut Expression) (r : Option (ℕ × ℕ)) (w : Where) (thread name : Name) (t m : Option ℕ) → thread_number w thread ≡ t →
         routine_number w name ≡ m → Numbers (object_of o) t → (Has (made t m name.offset) → first_index T thread.bytes < length T) → r ≡ numbered_at name.offset m →
         Good L (k.created at o v r) (Part.Creation w thread name ∷ [])
     both_named at o v r w thread name t None e f numbers below given_is =
@@ -521,7 +531,7 @@ module _ (D : List (List ℕ × ℕ)) (T : List (List ℕ)) where
         let same : t ≡ first_index T thread.bytes = index_of thread.bytes (function_named thread.bytes) (declaration_in w.scopes thread.bytes) t e in
         omega arith
 
-    created : (s : Scope) (w : Where) → Stands s w → (at : ℕ) (o : ObjectPlace) (v : Expression) (r : Option (ℕ × ℕ)) (thread name : Option Name) →
+    created : (s : Scope) (w : Where) → Stands s w → (at : ℕ) (o : ObjectPlace) (v : Cut Expression) (r : Option (ℕ × ℕ)) (thread name : Option Name) →
         object_of o ≡ address_number s thread → r ≡ routine_given s name → Good L (k.created at o v r) (p.creation_by w thread name)
     created s w stands at o v r (Some thread) (Some name) object_is routine_is =
         let numbers = seen_number s w thread (sees D s w thread.bytes stands.names) stands.numbers in
@@ -535,20 +545,21 @@ module _ (D : List (List ℕ × ℕ)) (T : List (List ℕ)) where
     pub creates_are : (s : Scope) (w : Where) → Events L s w → Stands s w → Creates L s w
     unfolding k.create
     creates_are s w events stands at thread attributes routine_tree value =
-        let t = a.address_argument s Thread thread in
+        let t = a.address_argument s Thread thread at (k.no_cuts s) in
         let n = a.null_argument s attributes in
         let r = a.routine_argument s routine_tree in
-        let v = a.pointer_argument s value in
+        let v = λ (o : Cut ObjectPlace). a.pointer_argument s value at o.cuts in
         let ns = p.argument_parts w attributes in
         let rs = p.routine_by w (p.name_alone w routine_tree) ++ p.argument_parts w routine_tree in
         let vs = p.argument_parts w value in
         let who = p.named_object w (out-Argument thread) in
         let what = p.name_alone w routine_tree in
         let cs = p.creation_by w who what in
-        good_then_is t (λ o. n >> (r >>= (λ f. v >>= (λ x. k.created at o x f)))) (p.object_parts w thread) (ns ++ (rs ++ (vs ++ cs))) (λ o. object_of o ≡ address_number s who)
-        (address_argument L s w events Thread thread) (λ found. address s w thread found)
-        (λ o object_is. good_then L n (λ _. r >>= (λ f. v >>= (λ x. k.created at o x f))) ns (rs ++ (vs ++ cs)) (null_argument L s w events attributes)
-        (λ _. good_then_is r (λ f. v >>= (λ x. k.created at o x f)) rs (vs ++ cs) (λ f. f ≡ routine_given s what) (routine_argument L s w events routine_tree)
+        good_then_is t (λ o. n >> (r >>= (λ f. v o >>= (λ x. k.created at o.rest x f)))) (p.object_parts w thread) (ns ++ (rs ++ (vs ++ cs)))
+        (λ o. object_of o.rest ≡ address_number s who)
+        (address_argument L s w events Thread thread at (k.no_cuts s)) (λ found. address s w thread at (k.no_cuts s) found)
+        (λ o object_is. good_then L n (λ _. r >>= (λ f. v o >>= (λ x. k.created at o.rest x f))) ns (rs ++ (vs ++ cs)) (null_argument L s w events attributes)
+        (λ _. good_then_is r (λ f. v o >>= (λ x. k.created at o.rest x f)) rs (vs ++ cs) (λ f. f ≡ routine_given s what) (routine_argument L s w events routine_tree)
         (λ found. routine s w events routine_tree found)
-        (λ f routine_is. good_then L v (λ x. k.created at o x f) vs cs (pointer_argument L s w events value)
-        (λ x. created s w stands at o x f who what object_is routine_is))))
+        (λ f routine_is. good_then L (v o) (λ x. k.created at o.rest x f) vs cs (pointer_argument L s w events value at o.cuts)
+        (λ x. created s w stands at o.rest x f who what object_is routine_is))))

@@ -4,6 +4,7 @@ use Rattle.std.specs.Prelude.{if◌then◌else◌, not, is_some}
 use Rattle.std.specs.List.{flat_map}
 use Rattle.std.proofs.lemmas.List.{append-nil}
 use Rattle.lists.proofs.Places.{length_more}
+use Rattle.hls_ints.specs.Types.{int_type}
 use Rattle.c_tree.specs.declared.expression.Name.{Name}
 use Rattle.c_tree.specs.declared.statement.Block.{Block}
 use Rattle.c_tree.specs.declared.declaration.Function.{Function}
@@ -15,6 +16,7 @@ use Rattle.c_program.specs.Tree.{Statement}
 use Rattle.c_rules.specs.declared.fault.Rule.TheVariants as rule
 use Rattle.c_rules.specs.declared.specifiers.BasicType.{BasicType}
 use Rattle.c_rules.specs.declared.specifiers.BasicType.TheVariants.{Long}
+use Rattle.c_rules.specs.declared.dimensions.Dimensions.TheVariants.{Scalar}
 use Rattle.c_rules.specs.declared.names.Meaning.{Meaning}
 use Rattle.c_rules.specs.declared.names.Meaning.TheVariants as meaning
 use Rattle.c_rules.specs.declared.names.Header.{Header}
@@ -23,7 +25,7 @@ use Rattle.c_rules.specs.declared.findings.Findings.{Findings}
 use Rattle.c_rules.specs.Names.{is_start_routine, is_taken, opened, closed, declaring}
 use Rattle.c_rules.specs.Levels.{named_in}
 use Rattle.c_rules.specs.Library.{function_named}
-use Rattle.c_rules.specs.Specifiers.{plain, spelled_by}
+use Rattle.c_rules.specs.Specifiers.{c_type, plain, spelled_by}
 use Rattle.c_rules.specs.Walks.{Outcome, Finds, pure, finds, finds_if, through, place_in_tree, ◌>>=◌, ◌>>◌}
 use Rattle.c_resolution.specs.States.{State, state, Goes, finding, scoping, in_scope}
 use Rattle.c_resolution.specs.Statements.{items}
@@ -34,12 +36,13 @@ use Rattle.c_resolution.specs.Texts as t
 use Rattle.c_broken_rules.specs.Sight.{Declared, Names, Where, behind, inside}
 use Rattle.c_broken_rules.specs.Parts as p
 use Rattle.c_broken_rules.specs.Parts.{Part, Parts}
+use Rattle.c_broken_rules.specs.Typing.{plain_type, type_of_plain}
 use Rattle.c_broken_rules.proofs.Ledgers.{Ledger, Good, Writes, given, left, turn, after_one, nothing_new, writes_both, writes_with}
 use Rattle.c_broken_rules.proofs.Events.{Events}
-use Rattle.c_broken_rules.proofs.Locals.{new_local, refused_usual}
+use Rattle.c_broken_rules.proofs.Locals.{IsLocal, new_local, refused_local}
 use Rattle.c_broken_rules.proofs.Statements.{block}
 use Rattle.c_broken_rules.proofs.Globals.{Files, Filed, file_then, file_going, going_tables, then_tables, objects}
-use Rattle.c_broken_rules.proofs.Walks.{Scoping, open_behind, Right, Goes_right, IsUsual, IsParameter, within, right_pure, right_then, right_before}
+use Rattle.c_broken_rules.proofs.Walks.{Scoping, open_behind, Right, Goes_right, IsUsual, IsParameter, type_of_meaning, within, right_pure, right_then, right_before}
 use Rattle.c_broken_rules.proofs.Walks.{right_finding, right_finding_is, right_scoping, right_as, behind_both}
 
 -- ---- what a function gives stays
@@ -181,34 +184,41 @@ module _ (L : Ledger) (S : Scoping L) where
   other_if b at w = right_finding L S (λ s. finds_if b rule.Kind at) [] w (λ s agrees. kind_if s w b at (S.events s w agrees))
 
   parameter_local : (q : Parameter) (at : ℕ) (w : Where) (o : Option BasicType) → plain (spelled_by q.specifiers).is_static (spelled_by q.specifiers).base ≡ o →
-      Goes_right L S w (y.parameter_of (spelled_by q.specifiers) at o) IsUsual (Part.Local q.specifiers at ∷ []) w
+      Goes_right L S w (y.parameter_of (spelled_by q.specifiers) at o) (IsLocal q.specifiers) (Part.Local q.specifiers at ∷ []) w
   parameter_local q at w (Some ty) is x agrees =
-      let h = new_local L S (spelled_by q.specifiers) None ty w x agrees in
+      let h = new_local L S (spelled_by q.specifiers) Scalar ty w x agrees in
       record {
         writes = writes_with L (Part.Local q.specifiers at) ((S.events x.scope w agrees).no_local q.specifiers at ty is) h.writes;
         agrees = h.agrees;
-        value = h.value;
+        value = (h.value.0, h.value.1 ∙ sym (ap type_of_plain is));
       }
   parameter_local q at w None is x agrees =
-      right_finding_is L S (λ s. l.refused_local (spelled_by q.specifiers) at) IsUsual (Part.Local q.specifiers at ∷ []) w
-      (λ s agrees. (S.events s w agrees).local q.specifiers at is) (λ s found. refused_usual (spelled_by q.specifiers) at found) x agrees
+      right_finding_is L S (λ s. l.refused_local (spelled_by q.specifiers) at) (IsLocal q.specifiers) (Part.Local q.specifiers at ∷ []) w
+      (λ s agrees. (S.events s w agrees).local q.specifiers at is) (λ s found. refused_local q.specifiers at found is) x agrees
 
   pointer_is : (q : Parameter) (routine : Bool) (at : ℕ) (w : Where) →
       Goes_right L S w (y.pointer_parameter (spelled_by q.specifiers) routine at) (λ m. m ≡ meaning.Argument) [] w
   pointer_is q routine at w =
-      right_then L S (finding (λ s. finds_if (not routine) rule.Kind at)) (λ _. l.new_local (spelled_by q.specifiers) None Long >> pure meaning.Argument) (λ _. Unit {0})
+      let IsNew = λ (m : Meaning). IsUsual m × (type_of_meaning m ≡ c_type Long) in
+      right_then L S (finding (λ s. finds_if (not routine) rule.Kind at)) (λ _. l.new_local (spelled_by q.specifiers) Scalar Long >> pure meaning.Argument) (λ _. Unit {0})
       (λ m. m ≡ meaning.Argument) [] [] w w w (other_if (not routine) at w)
-      (λ _ _. right_then L S (l.new_local (spelled_by q.specifiers) None Long) (λ _. pure meaning.Argument) IsUsual (λ m. m ≡ meaning.Argument) [] [] w w w
-      (new_local L S (spelled_by q.specifiers) None Long w) (λ _ _. right_pure L S (λ m. m ≡ meaning.Argument) meaning.Argument w refl))
+      (λ _ _. right_then L S (l.new_local (spelled_by q.specifiers) Scalar Long) (λ _. pure meaning.Argument) IsNew (λ m. m ≡ meaning.Argument) [] [] w w w
+      (new_local L S (spelled_by q.specifiers) Scalar Long w) (λ _ _. right_pure L S (λ m. m ≡ meaning.Argument) meaning.Argument w refl))
+
+  -- what a parameter stands for, which has a * or not
+  abbrev IsPassed : Parameter → Bool → Meaning → Type 0
+  IsPassed q b m = IsParameter b m × (type_of_meaning m ≡ (if b then int_type else plain_type q.specifiers))
 
   meaning_by : (q : Parameter) (routine : Bool) (at : ℕ) (w : Where) (b : Bool) →
       Goes_right L S w (if b then y.pointer_parameter (spelled_by q.specifiers) routine at
-      else y.parameter_of (spelled_by q.specifiers) at (plain (spelled_by q.specifiers).is_static (spelled_by q.specifiers).base)) (IsParameter b)
+      else y.parameter_of (spelled_by q.specifiers) at (plain (spelled_by q.specifiers).is_static (spelled_by q.specifiers).base)) (IsPassed q b)
       (if b then [] else Part.Local q.specifiers at ∷ []) w
-  meaning_by q routine at w true = pointer_is q routine at w
+  meaning_by q routine at w true =
+      right_as L S (y.pointer_parameter (spelled_by q.specifiers) routine at) (λ m. m ≡ meaning.Argument) (IsPassed q true) [] w w w (λ m is. (is, ap type_of_meaning is))
+      (λ s agrees. agrees) (pointer_is q routine at w)
   meaning_by q routine at w false = parameter_local q at w (plain (spelled_by q.specifiers).is_static (spelled_by q.specifiers).base) refl
 
-  meaning_is : (q : Parameter) (routine : Bool) (at : ℕ) (w : Where) → Goes_right L S w (y.parameter_meaning q routine at) (IsParameter q.is_pointer) (p.local_of q at) w
+  meaning_is : (q : Parameter) (routine : Bool) (at : ℕ) (w : Where) → Goes_right L S w (y.parameter_meaning q routine at) (IsPassed q q.is_pointer) (p.local_of q at) w
   unfolding y.parameter_meaning
   meaning_is q routine at w = meaning_by q routine at w q.is_pointer
 
@@ -216,13 +226,13 @@ module _ (L : Ledger) (S : Scoping L) where
       Goes_right L S w (y.named_parameter q routine has_body o) (λ _. Unit {0}) (p.parameter_by w q o) (behind (p.named_parameter q o) w)
   named_is q routine has_body (Some name) w =
       let v = behind (p.named_parameter q (Some name)) w in
-      right_then L S (y.parameter_meaning q routine name.offset) (λ m. l.declare name m) (IsParameter q.is_pointer) (λ _. Unit {0}) (p.local_of q name.offset)
+      right_then L S (y.parameter_meaning q routine name.offset) (λ m. l.declare name m) (IsPassed q q.is_pointer) (λ _. Unit {0}) (p.local_of q name.offset)
       (Part.Declares w name (Declared.OfParameter q) ∷ []) w w v (meaning_is q routine name.offset w)
-      (λ m is x agrees. S.declares x w name (Declared.OfParameter q) m agrees (S.parameter w name q m is))
+      (λ m is x agrees. S.declares x w name (Declared.OfParameter q) m agrees (S.parameter w name q m is.0 is.1))
   named_is q routine has_body None w =
       right_as L S (y.named_parameter q routine has_body None) (λ _. Unit {0}) (λ _. Unit {0}) (p.local_of q q.specifiers.offset) w w (behind [] w) (λ _ u. u)
       (λ s agrees. S.no_names s w agrees)
-      (right_before L S (y.parameter_meaning q routine q.specifiers.offset) (λ _. finding (λ s. finds_if has_body rule.Kind q.specifiers.offset)) (IsParameter q.is_pointer)
+      (right_before L S (y.parameter_meaning q routine q.specifiers.offset) (λ _. finding (λ s. finds_if has_body rule.Kind q.specifiers.offset)) (IsPassed q q.is_pointer)
       (λ _. Unit {0}) (p.local_of q q.specifiers.offset) w w w (meaning_is q routine q.specifiers.offset w) (λ _ _. other_if has_body q.specifiers.offset w))
 
   parameter_is : (routine has_body : Bool) (q : Parameter) (w : Where) →

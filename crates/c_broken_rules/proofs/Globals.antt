@@ -1,22 +1,21 @@
 -- What declarations of objects at file scope write.
-use Rattle.std.proofs.Common.{◌≡◌, refl, sym, subst, ap, ◌∙◌, ℕ, suc, Bool, true, false, List, [], ◌∷◌, ◌++◌, Option, Some, None, length, append_assoc, ℤ}
+use Rattle.std.proofs.Common.{◌≡◌, refl, sym, subst, ap, ◌∙◌, ℕ, Bool, true, false, List, [], ◌∷◌, ◌++◌, Option, Some, None, length, append_assoc}
 use Rattle.std.proofs.lemmas.Bool.{false≢true}
-use Rattle.std.specs.Prelude.{unwrap_or, if◌then◌else◌, not, ◌&&◌, nat_le}
+use Rattle.std.specs.Prelude.{unwrap_or, if◌then◌else◌, not, ◌&&◌}
 use Rattle.std.proofs.lemmas.List.{append-nil}
-use Rattle.lists.proofs.Places.{length_more}
-use Rattle.hls_ints.specs.Types.{IntegerType}
 use Rattle.c_tree.specs.declared.expression.Name.{Name}
 use Rattle.c_tree.specs.declared.expression.Specifiers.{Specifiers}
-use Rattle.c_tree.specs.declared.expression.Expression.{Expression as ExpressionTree, out-Expression}
+use Rattle.c_tree.specs.declared.expression.Expression.{Expression as ExpressionTree}
 use Rattle.c_tree.specs.declared.declaration.Initializer.{Initializer}
 use Rattle.c_tree.specs.declared.declaration.Initializer.TheVariants as initial_as
 use Rattle.c_tree.specs.declared.declaration.GlobalDeclarator.{GlobalDeclarator}
 use Rattle.c_tree.specs.declared.declaration.GlobalDeclaration.{GlobalDeclaration}
+use Rattle.c_program.specs.declared.tree.ThreadObject.{ThreadObject}
 use Rattle.c_rules.specs.declared.fault.Rule.TheVariants as rule
 use Rattle.c_rules.specs.declared.specifiers.BaseType.{BaseType}
 use Rattle.c_rules.specs.declared.specifiers.BaseType.TheVariants as base
-use Rattle.c_rules.specs.declared.constants.Constancy.{Constancy}
-use Rattle.c_rules.specs.declared.constants.Constancy.TheVariants as is
+use Rattle.c_rules.specs.declared.dimensions.Dimensions.{Dimensions}
+use Rattle.c_rules.specs.declared.dimensions.Dimensions.TheVariants.{Scalar, One, Two, Three}
 use Rattle.c_rules.specs.declared.names.Meaning.{Meaning}
 use Rattle.c_rules.specs.declared.names.Meaning.TheVariants as meaning
 use Rattle.c_rules.specs.declared.names.Variable.{Variable}
@@ -25,153 +24,48 @@ use Rattle.c_rules.specs.declared.names.ObjectKind.{ObjectKind}
 use Rattle.c_rules.specs.declared.names.ObjectKind.TheVariants.{Thread, Mutex, Barrier}
 use Rattle.c_rules.specs.declared.names.Scope.{Scope}
 use Rattle.c_rules.specs.declared.findings.Findings.{Findings}
-use Rattle.c_rules.specs.Constants.{constancy}
 use Rattle.c_rules.specs.Names.{same_kind}
 use Rattle.c_rules.specs.Specifiers.{c_type, spelled_by, base_of}
-use Rattle.c_rules.specs.Walks.{Outcome, Finds, pure, finds, finds_if, through, place_in_tree, ◌>>=◌, ◌>>◌}
-use Rattle.c_expressions.specs.Expressions as e
-use Rattle.c_resolution.specs.States.{State, state, Goes, finding}
+use Rattle.c_rules.specs.Walks.{Outcome, pure, finds, through, place_in_tree, ◌>>=◌, ◌>>◌}
+use Rattle.c_resolution.specs.States.{State, state, Goes, finding, in_scope}
 use Rattle.c_resolution.specs.Locals as l
 use Rattle.c_resolution.specs.Files.{File, Tables, Declares, in_file, going, tabling}
 use Rattle.c_resolution.specs.Globals as g
 use Rattle.c_broken_rules.specs.Sight.{Declared, Names, Where, behind}
 use Rattle.c_broken_rules.specs.Parts as p
-use Rattle.c_broken_rules.specs.Parts.{Part, Parts, of_any}
-use Rattle.c_broken_rules.proofs.Ledgers.{Ledger, Good, Writes, given, left, turn, after_one, good_pure, good_then, good_before, good_visited}
+use Rattle.c_broken_rules.specs.Parts.{Part, Parts, of_any, of_each}
+use Rattle.c_broken_rules.proofs.Ledgers.{Ledger, Good, Writes, given, left, turn, after_one, good_pure, good_before}
 use Rattle.c_broken_rules.proofs.Ledgers.{nothing_new, writes_both}
-use Rattle.c_broken_rules.proofs.Events.{Events, length_given, length_by}
-use Rattle.c_broken_rules.proofs.Values.{good_value}
-use Rattle.c_broken_rules.proofs.Locals.{optional_length}
-use Rattle.c_broken_rules.proofs.Walks.{Scoping, Right, Goes_right, Adds, is_thread, is_thread_base, right_then, right_finding, right_finding_is, behind_both}
-
-given_pure : {A B : Type 0} (p : Finds A) (f : A → B) (found : Findings) → given ((p >>= (λ x. pure (f x))) found) ≡ f (given (p found))
-given_pure p f found = ap (λ o. given o) (turn (p found) (λ x. pure (f x)))
-
--- the length that was given, and what it is
-abbrev pub IsSize : Option ExpressionTree → Option ℕ → Type 0
-IsSize None None = Unit {0}
-IsSize (Some size) (Some n) = n ≡ length_given (constancy size)
-IsSize None (Some n) = ⊥
-IsSize (Some size) None = ⊥
+use Rattle.c_broken_rules.proofs.Events.{Events}
+use Rattle.c_broken_rules.proofs.Lengths.{HasLengths, kept_lengths, dimensions_are, small_is}
+use Rattle.c_broken_rules.proofs.Braces.{initial_of, refused}
+use Rattle.c_broken_rules.proofs.Locals.{dimensions}
+use Rattle.c_broken_rules.proofs.Walks.{Scoping, Right, Goes_right, Adds, is_small, is_thread, is_thread_base, right_then, right_finding, right_finding_is, behind_both}
 
 module _ (L : Ledger) (s : Scope) (w : Where) (events : Events L s w) where
-  initial_value : (ty : IntegerType) (v : ExpressionTree) → Good L (g.initial_value ty v s) (p.value_parts w v)
-  unfolding g.initial_value
-  initial_value ty v =
-      good_then L (e.value s v) (λ _. g.initial_from ty (constancy v) (out-Expression v).offset) (p.expression_parts w v) (Part.Initial v ∷ []) (good_value L s w events v)
-      (λ _. events.initial ty v)
-
-  one_value : (ty : IntegerType) (v : ExpressionTree) → Good L (g.one_value ty v s) (p.value_parts w v)
-  one_value ty v = good_before L (g.initial_value ty v s) (λ x. pure (x ∷ [])) (p.value_parts w v) (initial_value ty v) (λ x. good_pure L (x ∷ []))
-
-  next_value : (ty : IntegerType) (size v : ExpressionTree) (n index : ℕ) (values : List ℤ) → n ≡ length_given (constancy size) → length values ≡ index →
-      Good L (g.next_value ty n s values v) (Part.Listed size index v ∷ p.value_parts w v)
-  next_value ty size v n index values is count =
-      let at = (out-Expression v).offset in
-      let more = g.initial_value ty v s >>= (λ x. pure (values ++ x ∷ [])) in
-      subst (λ i. Good L (g.next_value ty n s values v) (Part.Listed size i v ∷ p.value_parts w v)) count
-      (good_then L (finds_if (nat_le n (length values)) rule.Constant at) (λ _. more) (Part.Listed size (length values) v ∷ []) (p.value_parts w v)
-      (events.listed size v n (length values) is)
-      (λ _. good_before L (g.initial_value ty v s) (λ x. pure (values ++ x ∷ [])) (p.value_parts w v) (initial_value ty v) (λ x. good_pure L (values ++ x ∷ []))))
-
-  given_next : (ty : IntegerType) (n : ℕ) (values : List ℤ) (v : ExpressionTree) (found : Findings) → length (given (g.next_value ty n s values v found)) ≡ suc (length values)
-  given_next ty n values v found =
-      let f = λ (x : ℤ). values ++ x ∷ [] in
-      let behind_test = left (finds_if (nat_le n (length values)) rule.Constant (out-Expression v).offset found) in
-      ap length (given_pure (g.initial_value ty v s) f behind_test) ∙ length_more values (given (g.initial_value ty v s behind_test))
-
-  values_from : (ty : IntegerType) (size : ExpressionTree) (n : ℕ) → n ≡ length_given (constancy size) → (list : List ExpressionTree) (values : List ℤ) (index : ℕ) →
-      length values ≡ index → Good L (through (g.next_value ty n s) values list) (p.listed_parts w size index list)
-  values_from ty size n is [] values index count = record { writes = λ found. nothing_new L found }
-  values_from ty size n is (v ∷ list) values index count = record {
-    writes = λ found.
-        let o = g.next_value ty n s values v found in
-        let ps = Part.Listed size index v ∷ p.value_parts w v in
-        let qs = p.listed_parts w size (suc index) list in
-        subst (λ (o : Outcome Findings (List ℤ)). Writes L found (left o) (ps ++ qs)) (sym (after_one (g.next_value ty n s) values v list found))
-        (writes_both L ps qs ((next_value ty size v n index values is count).writes found)
-        ((values_from ty size n is list (given o) (suc index) (given_next ty n values v found ∙ ap suc count)).writes (left o)));
-  }
-
-  initial_values : (ty : IntegerType) (size : ExpressionTree) (n : ℕ) → n ≡ length_given (constancy size) → (list : List ExpressionTree) →
-      Good L (g.initial_values ty n list s) (p.listed_parts w size 0 list)
-  unfolding g.initial_values
-  initial_values ty size n is list = values_from ty size n is list [] 0 refl
-
-  looked_value : (v : ExpressionTree) → Good L (g.looked_value s v) (p.expression_parts w v)
-  looked_value v = good_before L (e.value s v) (λ _. pure tt) (p.expression_parts w v) (good_value L s w events v) (λ _. good_pure L tt)
-
-  looked : (i : Initializer) → Good L (g.looked i s) (p.initializer_parts w i)
-  unfolding g.looked_values
-  looked (initial_as.Value v) = looked_value v
-  looked (initial_as.List list) = good_visited L (g.looked_value s) (p.expression_parts w) looked_value list
-  looked initial_as.Mutex = good_pure L tt
-
-  refused : (name : Name) (i : Initializer) → Good L (g.refused name i s) (p.initializer_parts w i)
-  unfolding g.refused
-  refused name i = good_then L (finds rule.Kind name.offset) (λ _. g.looked i s) [] (p.initializer_parts w i) (events.other rule.Kind name.offset tt) (λ _. looked i)
-
-  refused_values : (name : Name) (i : Initializer) → Good L (g.refused_values name i s) (p.initializer_parts w i)
-  unfolding g.refused_values
-  refused_values name i = good_before L (g.refused name i s) (λ _. pure []) (p.initializer_parts w i) (refused name i) (λ _. good_pure L [])
-
-  initial_of : (name : Name) (ty : IntegerType) (size : Option ExpressionTree) (n : Option ℕ) (i : Initializer) → IsSize size n →
-      Good L (g.initial_of name ty n i s) (p.initial_parts w size i)
-  initial_of name ty None None (initial_as.Value v) is = one_value ty v
-  initial_of name ty (Some size) (Some n) (initial_as.List list) is = initial_values ty size n is list
-  initial_of name ty None None (initial_as.List list) is = refused_values name (initial_as.List list)
-  initial_of name ty None None initial_as.Mutex is = refused_values name initial_as.Mutex
-  initial_of name ty (Some size) (Some n) (initial_as.Value v) is = refused_values name (initial_as.Value v)
-  initial_of name ty (Some size) (Some n) initial_as.Mutex is = refused_values name initial_as.Mutex
-  initial_of name ty None (Some n) i is = absurd is
-  initial_of name ty (Some size) None i is = absurd is
-
-  pub initial : (name : Name) (v : Variable) (size : Option ExpressionTree) (i : Option Initializer) → IsSize size v.length →
-      Good L (g.initial name v i s) (of_any (p.given_parts w true size) i)
-  initial name v size None is = good_pure L []
-  initial name v size (Some i) is = initial_of name (c_type v.ty) size v.length i is
+  pub initial : (name : Name) (v : Variable) (lengths : List ExpressionTree) (i : Option Initializer) → HasLengths v.dimensions (kept_lengths lengths) →
+      Good L (g.initial name v i s) (of_any (p.given_parts w true lengths) i)
+  initial name v lengths None has = good_pure L []
+  initial name v lengths (Some i) has = initial_of L s w events name (c_type v.ty) v.dimensions lengths i has
 
   initialised_by : (o : Object) (name : Name) (i : Initializer) (b : Bool) → (b ≡ true → p.initializer_parts w i ≡ []) →
       Good L (if b then pure true else g.refused name i s >> pure false) (p.initializer_parts w i)
   initialised_by o name i true none = subst (λ ps. Good L (pure true) ps) (sym (none refl)) (good_pure L true)
-  initialised_by o name i false none = good_before L (g.refused name i s) (λ _. pure false) (p.initializer_parts w i) (refused name i) (λ _. good_pure L false)
+  initialised_by o name i false none = good_before L (g.refused name i s) (λ _. pure false) (p.initializer_parts w i) (refused L s w events name i) (λ _. good_pure L false)
 
   mutex_only : (o : Object) (i : Initializer) → (g.is_mutex_initializer i && g.is_scalar_mutex o) ≡ true → p.initializer_parts w i ≡ []
   mutex_only o initial_as.Mutex is = refl
   mutex_only o (initial_as.Value v) is = absurd (false≢true is)
-  mutex_only o (initial_as.List list) is = absurd (false≢true is)
+  mutex_only o (initial_as.List list at) is = absurd (false≢true is)
 
-  pub is_initialised : (o : Object) (name : Name) (size : Option ExpressionTree) (i : Option Initializer) → Good L (g.is_initialised o name i s) (of_any (p.given_parts w
-      false size) i)
-  is_initialised o name size None = good_pure L false
-  is_initialised o name size (Some i) = initialised_by o name i (g.is_mutex_initializer i && g.is_scalar_mutex o) (mutex_only o i)
+  pub is_initialised : (o : Object) (name : Name) (lengths : List ExpressionTree) (i : Option Initializer) → Good L (g.is_initialised o name i s)
+      (of_any (p.given_parts w false lengths) i)
+  is_initialised o name lengths None = good_pure L false
+  is_initialised o name lengths (Some i) = initialised_by o name i (g.is_mutex_initializer i && g.is_scalar_mutex o) (mutex_only o i)
 
-  pub refused_initial : (name : Name) (size : Option ExpressionTree) (i : Option Initializer) → Good L (g.refused_initial name i s) (of_any (p.given_parts w false size) i)
-  refused_initial name size None = good_pure L tt
-  refused_initial name size (Some i) = refused name i
-
--- ---- the length that is given
-
-number_is : (o : Option ℕ) (at : ℕ) (found : Findings) → given (l.length_of_number o at found) ≡ length_by o
-number_is (Some n) at found = refl
-number_is None at found = refl
-
-from_is : (c : Constancy) (at : ℕ) (found : Findings) → given (l.length_from c at found) ≡ length_given c
-unfolding l.length_from
-from_is (is.Constant x) at found = number_is (l.positive x.number) at found
-from_is is.Unknown at found = refl
-from_is is.NotConstant at found = refl
-
-value_length : (s : Scope) (v : ExpressionTree) (found : Findings) → given (l.array_length v s found) ≡ length_given (constancy v)
-unfolding l.array_length
-value_length s v found =
-    ap (λ o. given o) (turn (e.value s v found) (λ _. l.length_from (constancy v) (out-Expression v).offset))
-    ∙ from_is (constancy v) (out-Expression v).offset (left (e.value s v found))
-
-size_is : (s : Scope) (size : Option ExpressionTree) (found : Findings) → IsSize size (given (l.optional_length size s found))
-size_is s None found = tt
-size_is s (Some v) found =
-    subst (λ n. IsSize (Some v) n) (sym (given_pure (l.array_length v s) (λ n. Some n) found)) (value_length s v found)
+  pub refused_initial : (name : Name) (lengths : List ExpressionTree) (i : Option Initializer) → Good L (g.refused_initial name i s) (of_any (p.given_parts w false lengths) i)
+  refused_initial name lengths None = good_pure L tt
+  refused_initial name lengths (Some i) = refused L s w events name i
 
 -- ---- the thread objects of a file's tables
 
@@ -211,41 +105,74 @@ kind_threads t u Thread size b e = (size, ap (λ (z : Tables). z.threads) e)
 kind_threads t u Mutex size b e = ap (λ (z : Tables). z.threads) e
 kind_threads t u Barrier size b e = ap (λ (z : Tables). z.threads) e
 
-as_threads : (t : Tables) (words : Specifiers) (size : Option ℕ) (d : GlobalDeclarator) (x : File) (b : Bool) (kind : BaseType) →
-    Adds (not b && is_thread_base kind) x.tables.threads (left (g.global_as d (if b then meaning.Unusable else g.meaning_by t (spelled_by words) size kind) x)).tables.threads
+small_threads : (b : Bool) (old new : List ThreadObject) → Adds b old new → Adds (b && true) old new
+small_threads true old new h = h
+small_threads false old new h = h
+
+same_threads : (b : Bool) (old new : List ThreadObject) → new ≡ old → Adds (b && false) old new
+same_threads true old new h = h
+same_threads false old new h = h
+
+unusable_threads : (d : GlobalDeclarator) (x : File) → (left (g.global_as d meaning.Unusable x)).tables.threads ≡ x.tables.threads
 unfolding g.global_as
-as_threads t words size d x true kind = ap (λ (z : Tables). z.threads) (going_tables (g.unusable d) x)
+unusable_threads d x = ap (λ (z : Tables). z.threads) (going_tables (g.unusable d) x)
+
+one_object : (d : GlobalDeclarator) (kind : ObjectKind) (number : ℕ) (size : Option ℕ) (x : File) →
+    Adds (same_kind Thread kind) x.tables.threads (left (g.global_as d (meaning.Object (record { kind = kind; number = number; length = size })) x)).tables.threads
+unfolding g.global_as
+one_object d kind number size x =
+    let v : Object = record { kind = kind; number = number; length = size } in
+    let o = object_tables d v x in
+    kind_threads x.tables (left (g.global_object d v x)).tables kind (unwrap_or size 1) o.0 o.1
+
+-- an object of two dimensions or more is none
+object_threads : (d : GlobalDeclarator) (kind : ObjectKind) (count : ℕ) (size : Dimensions) (x : File) →
+    Adds (same_kind Thread kind && is_small size) x.tables.threads (left (g.global_as d (g.object kind count size) x)).tables.threads
+object_threads d kind count Scalar x = small_threads (same_kind Thread kind) _ _ (one_object d kind (place_in_tree count) None x)
+object_threads d kind count (One n) x = small_threads (same_kind Thread kind) _ _ (one_object d kind (place_in_tree count) (Some n) x)
+object_threads d kind count (Two a b) x = same_threads (same_kind Thread kind) _ _ (unusable_threads d x)
+object_threads d kind count (Three a b c) x = same_threads (same_kind Thread kind) _ _ (unusable_threads d x)
+
+as_threads : (t : Tables) (words : Specifiers) (size : Dimensions) (d : GlobalDeclarator) (x : File) (b : Bool) (kind : BaseType) →
+    Adds (not b && (is_thread_base kind && is_small size)) x.tables.threads
+    (left (g.global_as d (if b then meaning.Unusable else g.meaning_by t (spelled_by words) size kind) x)).tables.threads
+unfolding g.global_as
+as_threads t words size d x true kind = unusable_threads d x
 as_threads t words size d x false (base.Integer ty) = variable_threads d _ x
-as_threads t words size d x false base.Thread =
-    let v : Object = record { kind = Thread; number = place_in_tree (length t.threads); length = size } in
-    let o = object_tables d v x in
-    kind_threads x.tables (left (g.global_object d v x)).tables Thread (unwrap_or size 1) o.0 o.1
-as_threads t words size d x false base.Mutex =
-    let v : Object = record { kind = Mutex; number = place_in_tree (length t.mutexes); length = size } in
-    let o = object_tables d v x in
-    kind_threads x.tables (left (g.global_object d v x)).tables Mutex (unwrap_or size 1) o.0 o.1
-as_threads t words size d x false base.Barrier =
-    let v : Object = record { kind = Barrier; number = place_in_tree (length t.barriers); length = size } in
-    let o = object_tables d v x in
-    kind_threads x.tables (left (g.global_object d v x)).tables Barrier (unwrap_or size 1) o.0 o.1
-as_threads t words size d x false base.Void = ap (λ (z : Tables). z.threads) (going_tables (g.unusable d) x)
-as_threads t words size d x false base.Unlisted = ap (λ (z : Tables). z.threads) (going_tables (g.unusable d) x)
+as_threads t words size d x false base.Thread = object_threads d Thread (length t.threads) size x
+as_threads t words size d x false base.Mutex = object_threads d Mutex (length t.mutexes) size x
+as_threads t words size d x false base.Barrier = object_threads d Barrier (length t.barriers) size x
+as_threads t words size d x false base.Void = unusable_threads d x
+as_threads t words size d x false base.Unlisted = unusable_threads d x
+
+in_scope_gives : {A : Type 0} (Is : A → Type 0) (scope : Scope) (o : Outcome Findings A) → Is (given o) → Is (given (in_scope scope o))
+in_scope_gives Is scope (Outcome.Gives a found) h = h
+
+in_file_gives : {A : Type 0} (Is : A → Type 0) (t : Tables) (o : Outcome State A) → Is (given o) → Is (given (in_file t o))
+in_file_gives Is t (Outcome.Gives a z) h = h
+
+given_lengths : (d : GlobalDeclarator) (x : File) → HasLengths (given (going (finding (l.dimensions d.lengths)) x)) (kept_lengths d.lengths)
+given_lengths d x =
+    let Has = λ (size : Dimensions). HasLengths size (kept_lengths d.lengths) in
+    in_file_gives Has x.tables (finding (l.dimensions d.lengths) (state x.scope x.found))
+    (in_scope_gives Has x.scope (l.dimensions d.lengths x.scope x.found) (dimensions_are x.scope d.lengths x.found))
 
 global_threads : (words : Specifiers) (pointer : Bool) (d : GlobalDeclarator) (x : File) →
-    Adds (is_thread words pointer) x.tables.threads (left (g.global (spelled_by words) pointer d x)).tables.threads
+    Adds (is_thread words pointer d) x.tables.threads (left (g.global (spelled_by words) pointer d x)).tables.threads
 unfolding g.global
 global_threads words pointer d x =
-    let size = finding (λ s. l.optional_length d.length s) in
-    let rest = λ (n : Option ℕ). g.global_as d (g.global_meaning x.tables (spelled_by words) pointer n) in
+    let size = finding (l.dimensions d.lengths) in
+    let rest = λ (n : Dimensions). g.global_as d (g.global_meaning x.tables (spelled_by words) pointer n) in
     let o = going size x in
-    subst (λ (t : Tables). Adds (is_thread words pointer) x.tables.threads t.threads) (sym (then_tables (going size) rest x))
-    (subst (λ (t : Tables). Adds (is_thread words pointer) t.threads (left (rest (given o) (left o))).tables.threads) (going_tables size x)
-    (as_threads x.tables words (given o) d (left o) pointer (base_of words.words)))
+    subst (λ (t : Tables). Adds (is_thread words pointer d) x.tables.threads t.threads) (sym (then_tables (going size) rest x))
+    (subst (λ (t : Tables). Adds (is_thread words pointer d) t.threads (left (rest (given o) (left o))).tables.threads) (going_tables size x)
+    (subst (λ b. Adds (not pointer && (is_thread_base (base_of words.words) && b)) (left o).tables.threads (left (rest (given o) (left o))).tables.threads)
+    (small_is (given o) d.lengths (given_lengths d x)) (as_threads x.tables words (given o) d (left o) pointer (base_of words.words))))
 
 next_threads : (words : Specifiers) (pointer : Bool) (d : GlobalDeclarator) (x : File) →
-    Adds (is_thread words pointer) x.tables.threads (left (g.next_object (spelled_by words) pointer d x)).tables.threads
+    Adds (is_thread words pointer d) x.tables.threads (left (g.next_object (spelled_by words) pointer d x)).tables.threads
 next_threads words pointer d x =
-    subst (λ (t : Tables). Adds (is_thread words pointer) x.tables.threads t.threads) (sym (then_tables (g.global (spelled_by words) pointer d) (λ _. pure false) x))
+    subst (λ (t : Tables). Adds (is_thread words pointer d) x.tables.threads t.threads) (sym (then_tables (g.global (spelled_by words) pointer d) (λ _. pure false) x))
     (global_threads words pointer d x)
 
 -- ---- walks through a file
@@ -301,19 +228,19 @@ module _ (L : Ledger) (S : Scoping L) where
         (λ x agrees. S.declares x w d.name (Declared.OfObject words pointer d) m agrees is)
 
     abbrev declared_parts : Bool → Parts
-    declared_parts integer = Part.Declares w d.name (Declared.OfObject words pointer d) ∷ of_any (p.given_parts there integer d.length) d.initializer
+    declared_parts integer = Part.Declares w d.name (Declared.OfObject words pointer d) ∷ of_any (p.given_parts there integer d.lengths) d.initializer
 
-    variable_is : (v : Variable) → MeansIt (meaning.Variable v) → IsSize d.length v.length → Files w n (g.global_variable d v) (λ _. Unit {0}) (declared_parts true) there n
+    variable_is : (v : Variable) → MeansIt (meaning.Variable v) → HasLengths v.dimensions (kept_lengths d.lengths) → Files w n (g.global_variable d v) (λ _. Unit {0}) (declared_parts true) there n
     unfolding g.global_variable
     variable_is v means size =
-        let ps = of_any (p.given_parts there true d.length) d.initializer in
+        let ps = of_any (p.given_parts there true d.lengths) d.initializer in
         let values = λ (s : Scope). g.initial d.name v d.initializer s in
         file_then (going (l.declare d.name (meaning.Variable v))) (λ _. going (finding values) >>= (λ x. tabling (g.with_variable d.name v x))) (λ _. Unit {0}) (λ _. Unit {0})
         (Part.Declares w d.name (Declared.OfObject words pointer d) ∷ []) ps w there there n n n (named (meaning.Variable v) means)
         (λ _ _. subst (λ qs. Files there n (going (finding values) >>= (λ x. tabling (g.with_variable d.name v x))) (λ _. Unit {0}) qs there n) (append-nil ps)
         (file_then (going (finding values)) (λ x. tabling (g.with_variable d.name v x)) (λ _. Unit {0}) (λ _. Unit {0}) ps [] there there there n n n
         (file_going (finding values) (λ _. Unit {0}) ps there there n
-        (right_finding L S values ps there (λ s agrees. initial L s there (S.events s there agrees) d.name v d.length d.initializer size)))
+        (right_finding L S values ps there (λ s agrees. initial L s there (S.events s there agrees) d.name v d.lengths d.initializer size)))
         (λ x _. file_tabling (g.with_variable d.name v x) there n n (λ t is. is))))
 
     object_count : (kind : ObjectKind) (size : ℕ) (b : Bool) (t : Tables) → length t.functions ≡ n → length (g.with_object_of kind size b t).functions ≡ n
@@ -324,20 +251,20 @@ module _ (L : Ledger) (S : Scoping L) where
     object_is : (o : Object) → MeansIt (meaning.Object o) → Files w n (g.global_object d o) (λ _. Unit {0}) (declared_parts false) there n
     unfolding g.global_object
     object_is o means =
-        let ps = of_any (p.given_parts there false d.length) d.initializer in
+        let ps = of_any (p.given_parts there false d.lengths) d.initializer in
         let given_one = λ (s : Scope). g.is_initialised o d.name d.initializer s in
         file_then (going (l.declare d.name (meaning.Object o))) (λ _. going (finding given_one) >>= (λ x. tabling (g.with_object o x))) (λ _. Unit {0}) (λ _. Unit {0})
         (Part.Declares w d.name (Declared.OfObject words pointer d) ∷ []) ps w there there n n n (named (meaning.Object o) means)
         (λ _ _. subst (λ qs. Files there n (going (finding given_one) >>= (λ x. tabling (g.with_object o x))) (λ _. Unit {0}) qs there n) (append-nil ps)
         (file_then (going (finding given_one)) (λ x. tabling (g.with_object o x)) (λ _. Unit {0}) (λ _. Unit {0}) ps [] there there there n n n
         (file_going (finding given_one) (λ _. Unit {0}) ps there there n
-        (right_finding L S given_one ps there (λ s agrees. is_initialised L s there (S.events s there agrees) o d.name d.length d.initializer)))
+        (right_finding L S given_one ps there (λ s agrees. is_initialised L s there (S.events s there agrees) o d.name d.lengths d.initializer)))
         (λ x _. file_tabling (g.with_object o x) there n n (λ t is. object_count o.kind (unwrap_or o.length 1) x t is))))
 
     unusable_is : MeansIt meaning.Unusable → Files w n (going (g.unusable d)) (λ _. Unit {0}) (declared_parts false) there n
     unfolding g.unusable
     unusable_is means =
-        let ps = of_any (p.given_parts there false d.length) d.initializer in
+        let ps = of_any (p.given_parts there false d.lengths) d.initializer in
         let at = λ (s : Scope). finds rule.Kind d.name.offset in
         let first = λ (s : Scope). g.refused_initial d.name d.initializer s in
         file_going (g.unusable d) (λ _. Unit {0}) (declared_parts false) w there n
@@ -346,32 +273,42 @@ module _ (L : Ledger) (S : Scoping L) where
         (λ _ _. right_then L S (l.declare d.name meaning.Unusable) (λ _. finding first) (λ _. Unit {0}) (λ _. Unit {0})
         (Part.Declares w d.name (Declared.OfObject words pointer d) ∷ []) ps w there there
         (λ x agrees. S.declares x w d.name (Declared.OfObject words pointer d) meaning.Unusable agrees means)
-        (λ _ _. right_finding L S first ps there (λ s agrees. refused_initial L s there (S.events s there agrees) d.name d.length d.initializer))))
+        (λ _ _. right_finding L S first ps there (λ s agrees. refused_initial L s there (S.events s there agrees) d.name d.lengths d.initializer))))
 
-    by_meaning : (t : Tables) (size : Option ℕ) → IsSize d.length size → (b : Bool) (kind : BaseType) →
+    object_by : (kind : ObjectKind) (count : ℕ) (size : Dimensions) → MeansIt (g.object kind count size) →
+        Files w n (g.global_as d (g.object kind count size)) (λ _. Unit {0}) (declared_parts false) there n
+    unfolding g.global_as
+    object_by kind count Scalar means = object_is _ means
+    object_by kind count (One a) means = object_is _ means
+    object_by kind count (Two a b) means = unusable_is means
+    object_by kind count (Three a b c) means = unusable_is means
+
+    by_meaning : (t : Tables) (size : Dimensions) → HasLengths size (kept_lengths d.lengths) → (b : Bool) (kind : BaseType) →
         MeansIt (if b then meaning.Unusable else g.meaning_by t (spelled_by words) size kind) →
         Files w n (g.global_as d (if b then meaning.Unusable else g.meaning_by t (spelled_by words) size kind)) (λ _. Unit {0}) (declared_parts (not b && p.is_integer_base
         kind)) there n
     unfolding g.global_as
-    by_meaning t size is true kind means = unusable_is means
-    by_meaning t size is false (base.Integer ty) means = variable_is _ means is
-    by_meaning t size is false base.Thread means = object_is _ means
-    by_meaning t size is false base.Mutex means = object_is _ means
-    by_meaning t size is false base.Barrier means = object_is _ means
-    by_meaning t size is false base.Void means = unusable_is means
-    by_meaning t size is false base.Unlisted means = unusable_is means
+    by_meaning t size has true kind means = unusable_is means
+    by_meaning t size has false (base.Integer ty) means = variable_is _ means has
+    by_meaning t size has false base.Thread means = object_by Thread (length t.threads) size means
+    by_meaning t size has false base.Mutex means = object_by Mutex (length t.mutexes) size means
+    by_meaning t size has false base.Barrier means = object_by Barrier (length t.barriers) size means
+    by_meaning t size has false base.Void means = unusable_is means
+    by_meaning t size has false base.Unlisted means = unusable_is means
 
     pub global : (later : Names) (x : File) → S.Held x.tables w (p.object_names words pointer d ++ later) → S.Agrees x.scope w → length x.tables.functions ≡ n →
         Filed L S.Agrees x (g.global (spelled_by words) pointer d x) (p.object_parts_by w words pointer d) there n × Unit {0}
     unfolding g.global
     global later x held agrees count =
-        let ps = of_any (p.length_parts w) d.length in
-        let size = λ (s : Scope). l.optional_length d.length s in
-        let rest = λ (n : Option ℕ). g.global_as d (g.global_meaning x.tables (spelled_by words) pointer n) in
-        file_then (going (finding size)) rest (IsSize d.length) (λ _. Unit {0}) ps (declared_parts (p.is_integer words pointer)) w w there n n n
-        (file_going (finding size) (IsSize d.length) ps w w n
-        (right_finding_is L S size (IsSize d.length) ps w (λ s agrees. optional_length L s w (S.events s w agrees) d.length) (λ s found. size_is s d.length found)))
-        (λ n is. by_meaning x.tables n is pointer (base_of words.words) (S.object x.tables w words pointer d n later held)) x agrees count
+        let ps = of_each (p.length_parts w) d.lengths in
+        let size = l.dimensions d.lengths in
+        let Has = λ (n : Dimensions). HasLengths n (kept_lengths d.lengths) in
+        let rest = λ (n : Dimensions). g.global_as d (g.global_meaning x.tables (spelled_by words) pointer n) in
+        file_then (going (finding size)) rest Has (λ _. Unit {0}) ps (declared_parts (p.is_integer words pointer)) w w there n n n
+        (file_going (finding size) Has ps w w n
+        (right_finding_is L S size Has ps w (λ s agrees. dimensions L s w (S.events s w agrees) d.lengths) (λ s found. dimensions_are s d.lengths found)))
+        (λ n has. by_meaning x.tables n has pointer (base_of words.words)
+        (S.object x.tables w words pointer d n later (small_is n d.lengths has) held)) x agrees count
 
   -- ---- a declaration of some objects
 

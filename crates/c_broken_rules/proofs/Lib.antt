@@ -1,14 +1,18 @@
 pub mod Orders
 pub mod Ledgers
+pub mod Labels
 pub mod Events
 pub mod Values
+pub mod ValueTypes
 pub mod Unrolled
 pub mod Arguments
 pub mod Calls
 pub mod Walks
 pub mod Simple
+pub mod Lengths
 pub mod Locals
 pub mod Statements
+pub mod Braces
 pub mod Globals
 pub mod Functions
 pub mod Firsts
@@ -25,6 +29,7 @@ pub mod Names
 pub mod UnknownNames
 pub mod NameScope
 pub mod Unknown
+pub mod Types
 pub mod Twice
 pub mod Numbers
 pub mod TwiceScope

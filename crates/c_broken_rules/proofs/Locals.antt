@@ -1,14 +1,14 @@
 -- What declarations in blocks write.
-use Rattle.std.proofs.Common.{◌≡◌, refl, subst, ℕ, Bool, true, false, List, [], ◌∷◌, ◌++◌, Option, Some, None}
-use Rattle.std.specs.Prelude.{unwrap_or, if◌then◌else◌}
+use Rattle.std.proofs.Common.{◌≡◌, refl, sym, subst, ap, ◌∙◌, ℕ, Bool, true, false, List, [], ◌∷◌, ◌++◌, Option, Some, None}
+use Rattle.std.specs.Prelude.{if◌then◌else◌}
 use Rattle.std.specs.List.{flat_map, AllByRecursion}
 use Rattle.c_tree.specs.declared.expression.Name.{Name}
 use Rattle.c_tree.specs.declared.expression.Specifiers.{Specifiers}
 use Rattle.c_tree.specs.declared.expression.Expression.{Expression as ExpressionTree, out-Expression}
 use Rattle.c_tree.specs.declared.declaration.Declaration.{Declaration}
 use Rattle.c_tree.specs.declared.declaration.Declarator.{Declarator}
-use Rattle.c_program.specs.Tree.{Statement}
-use Rattle.c_calls.specs.Cuts.{Cut}
+use Rattle.hls_ints.specs.Types.{int_type}
+use Rattle.c_program.specs.Tree.{Expression, Statement}
 use Rattle.c_rules.specs.declared.fault.Rule.TheVariants as rule
 use Rattle.c_rules.specs.declared.specifiers.BasicType.{BasicType}
 use Rattle.c_rules.specs.declared.specifiers.Spelled.{Spelled}
@@ -17,34 +17,39 @@ use Rattle.c_rules.specs.declared.names.Meaning.TheVariants as meaning
 use Rattle.c_rules.specs.declared.names.Variable.{Variable}
 use Rattle.c_rules.specs.declared.names.Scope.{Scope}
 use Rattle.c_rules.specs.declared.findings.Findings.{Findings}
+use Rattle.c_rules.specs.declared.dimensions.Dimensions.{Dimensions}
+use Rattle.c_rules.specs.declared.dimensions.Dimensions.TheVariants.{Scalar}
 use Rattle.c_rules.specs.Constants.{constancy}
+use Rattle.c_rules.specs.Dimensions.{elements, with_length}
 use Rattle.c_rules.specs.Specifiers.{c_type, plain, spelled_by}
 use Rattle.c_rules.specs.Walks.{pure, finds, finds_if, through, place_in_tree, ◌>>=◌, ◌>>◌}
+use Rattle.c_expressions.specs.Cuts.{Cut, free_from}
 use Rattle.c_expressions.specs.Expressions as e
-use Rattle.c_calls.specs.Calls as k
 use Rattle.c_resolution.specs.States.{finding}
 use Rattle.c_resolution.specs.Locals as l
 use Rattle.c_broken_rules.specs.Sight.{Declared, Where, behind}
 use Rattle.c_broken_rules.specs.Parts as p
-use Rattle.c_broken_rules.specs.Parts.{Part, Parts, of_any}
-use Rattle.c_broken_rules.proofs.Ledgers.{Ledger, Good, given, good_pure, good_then, good_before, nothing_new, writes_with}
+use Rattle.c_broken_rules.specs.Parts.{Part, of_any, of_each}
+use Rattle.c_broken_rules.specs.Typing.{plain_type, type_of_plain}
+use Rattle.c_broken_rules.proofs.Ledgers.{Ledger, Good, given, good_pure, good_then, good_before, good_list, nothing_new, writes_with}
 use Rattle.c_broken_rules.proofs.Events.{Events}
-use Rattle.c_broken_rules.proofs.Values.{good_value}
-use Rattle.c_broken_rules.proofs.Calls.{right_side}
-use Rattle.c_broken_rules.proofs.Walks.{Scoping, IsUsual, right_finding_is, right_through, Goes_right, right_pure, right_then, right_before, right_finding, right_as, behind_both}
+use Rattle.c_broken_rules.proofs.Values.{good_looked, good_value}
+use Rattle.c_broken_rules.proofs.Walks.{Scoping, IsUsual, type_of_meaning, right_finding_is, right_through, Goes_right, right_pure, right_then, right_before, right_finding, right_as, behind_both}
 
 module _ (L : Ledger) (s : Scope) (w : Where) (events : Events L s w) where
   pub array_length : (v : ExpressionTree) → Good L (l.array_length v s) (p.length_parts w v)
   unfolding l.array_length
   array_length v =
-      good_then L (e.value s v) (λ _. l.length_from (constancy v) (out-Expression v).offset) (p.expression_parts w v) (Part.Length v ∷ []) (good_value L s w events v)
+      good_then L (e.looked s v) (λ _. l.length_from (constancy v) (out-Expression v).offset) (p.expression_parts w v) (Part.Length v ∷ []) (good_looked L s w events v)
       (λ _. events.length v)
 
-  pub optional_length : (o : Option ExpressionTree) → Good L (l.optional_length o s) (of_any (p.length_parts w) o)
-  optional_length None = good_pure L None
-  optional_length (Some v) = good_before L (l.array_length v s) (λ n. pure (Some n)) (p.length_parts w v) (array_length v) (λ n. good_pure L (Some n))
+  pub dimensions : (lengths : List ExpressionTree) → Good L (l.dimensions lengths s) (of_each (p.length_parts w) lengths)
+  unfolding l.dimensions
+  dimensions lengths =
+      good_list L (l.next_length s) (p.length_parts w)
+      (λ v d. good_before L (l.array_length v s) (λ n. pure (with_length d n)) (p.length_parts w v) (array_length v) (λ n. good_pure L (with_length d n))) lengths Scalar
 
-  initialised_by : (o : Option Variable) (at : ℕ) (r : Cut) → Good L (l.initialised_by o at r) []
+  initialised_by : (o : Option Variable) (at : ℕ) (r : Cut Expression) → Good L (l.initialised_by o at r) []
   unfolding l.initialised_by
   initialised_by (Some v) at r = good_pure L _
   initialised_by None at r = good_before L (finds rule.Kind at) (λ _. pure Statement.Empty) [] (events.other rule.Kind at tt) (λ _. good_pure L Statement.Empty)
@@ -53,48 +58,55 @@ module _ (L : Ledger) (s : Scope) (w : Where) (events : Events L s w) where
   unfolding l.initialised
   initialised name m v =
       let at = place_in_tree name.offset in
-      good_before L (k.right_side s at s.kept_from v) (λ r. l.initialised_by (l.scalar_in m) name.offset r) (p.expression_parts w v)
-      (right_side L s w events at s.kept_from v)
-      (λ r. initialised_by (l.scalar_in m) name.offset r)
+      good_before L (e.value s v at (free_from s.kept_from)) (λ r. l.initialised_by (l.scalar_in m) name.offset r) (p.expression_parts w v)
+      (good_value L s w events v at (free_from s.kept_from)) (λ r. initialised_by (l.scalar_in m) name.offset r)
 
   pub declared_step : (d : Declarator) (m : Meaning) (o : Option ExpressionTree) → Good L (l.declared_step d m o s) (of_any (p.expression_parts w) o)
   declared_step d m None = good_pure L (l.uninitialised d m)
   declared_step d m (Some v) = initialised d.name m v
 
-refused_is : (words : Spelled) (at : ℕ) (b : Bool) (found : Findings) →
-    IsUsual (given ((if b then finds_if words.is_static rule.Kind at >> (finds rule.Threads at >> pure meaning.Unusable) else finds rule.Kind at >> pure meaning.Unusable) found))
-refused_is words at true found = tt
-refused_is words at false found = tt
+-- what words of a local or a parameter stand for
+abbrev pub IsLocal : Specifiers → Meaning → Type 0
+IsLocal words m = IsUsual m × (type_of_meaning m ≡ plain_type words)
 
-pub refused_usual : (words : Spelled) (at : ℕ) (found : Findings) → IsUsual (given (l.refused_local words at found))
+refused_is : (words : Specifiers) (spelled : Spelled) (at : ℕ) (b : Bool) (found : Findings) → int_type ≡ plain_type words →
+    IsLocal words (given ((if b then finds_if spelled.is_static rule.Kind at >> (finds rule.Threads at >> pure meaning.Unusable) else finds rule.Kind at >> pure meaning.Unusable)
+    found))
+refused_is words spelled at true found ty = (tt, ty)
+refused_is words spelled at false found ty = (tt, ty)
+
+pub refused_local : (words : Specifiers) (at : ℕ) (found : Findings) → plain (spelled_by words).is_static (spelled_by words).base ≡ None →
+    IsLocal words (given (l.refused_local (spelled_by words) at found))
 unfolding l.refused_local
-refused_usual words at found = refused_is words at (l.is_object_type words.base) found
+refused_local words at found is =
+    refused_is words (spelled_by words) at (l.is_object_type (spelled_by words).base) found (sym (ap type_of_plain is))
 
 module _ (L : Ledger) (S : Scoping L) where
-  pub new_local : (words : Spelled) (size : Option ℕ) (ty : BasicType) (w : Where) → Goes_right L S w (l.new_local words size ty) IsUsual [] w
+  pub new_local : (words : Spelled) (size : Dimensions) (ty : BasicType) (w : Where) →
+      Goes_right L S w (l.new_local words size ty) (λ m. IsUsual m × (type_of_meaning m ≡ c_type ty)) [] w
   unfolding l.new_local
   new_local words size ty w x agrees = record {
     writes = nothing_new L x.found;
-    agrees = S.local x.scope w (record { ty = c_type ty; length = unwrap_or size 1 }) agrees;
-    value = tt;
+    agrees = S.local x.scope w (record { ty = c_type ty; length = elements size }) agrees;
+    value = (tt, refl);
   }
 
   -- ---- words of a type that may be none of an integer
 
-  local_by : (words : Specifiers) (at : ℕ) (size : Option ℕ) (w : Where) (o : Option BasicType) → plain (spelled_by words).is_static (spelled_by words).base ≡ o →
-      Goes_right L S w (l.local_of (spelled_by words) at size o) IsUsual (Part.Local words at ∷ []) w
+  local_by : (words : Specifiers) (at : ℕ) (size : Dimensions) (w : Where) (o : Option BasicType) → plain (spelled_by words).is_static (spelled_by words).base ≡ o →
+      Goes_right L S w (l.local_of (spelled_by words) at size o) (IsLocal words) (Part.Local words at ∷ []) w
   local_by words at size w (Some ty) is x agrees =
       let h = new_local (spelled_by words) size ty w x agrees in
       record {
         writes = writes_with L (Part.Local words at) ((S.events x.scope w agrees).no_local words at ty is) h.writes;
         agrees = h.agrees;
-        value = h.value;
+        value = (h.value.0, h.value.1 ∙ sym (ap type_of_plain is));
       }
   local_by words at size w None is x agrees =
-      right_finding_is L S (λ s. l.refused_local (spelled_by words) at) IsUsual (Part.Local words at ∷ []) w (λ s agrees. (S.events s w agrees).local words at is)
-      (λ s found. refused_usual (spelled_by words) at found) x agrees
+      right_finding_is L S (λ s. l.refused_local (spelled_by words) at) (IsLocal words) (Part.Local words at ∷ []) w (λ s agrees. (S.events s w agrees).local words at is)
+      (λ s found. refused_local words at found is) x agrees
 
-  pub local : (words : Specifiers) (at : ℕ) (size : Option ℕ) (w : Where) → Goes_right L S w (l.local (spelled_by words) at size) IsUsual (Part.Local words at ∷ []) w
+  pub local : (words : Specifiers) (at : ℕ) (size : Dimensions) (w : Where) → Goes_right L S w (l.local (spelled_by words) at size) (IsLocal words) (Part.Local words at ∷ []) w
   unfolding l.local
   local words at size w = local_by words at size w (plain (spelled_by words).is_static (spelled_by words).base) refl
 
@@ -108,14 +120,14 @@ module _ (L : Ledger) (S : Scoping L) where
       let v = behind (p.declared_by words d) w in
       let name = λ (m : Meaning). l.declare d.name m >> finding (λ s. l.declared_step d m d.initializer s) in
       let last = of_any (p.expression_parts v) d.initializer in
-      right_then L S (finding (λ s. l.optional_length d.length s)) (λ size. l.local spelled d.name.offset size >>= name) (λ _. Unit {0}) (λ _. Unit {0})
-      (of_any (p.length_parts w) d.length) (Part.Local words d.name.offset ∷ Part.Declares w d.name (Declared.OfVariable words d) ∷ last) w w v
-      (right_finding L S (λ s. l.optional_length d.length s) (of_any (p.length_parts w) d.length) w (λ s agrees. optional_length L s w (S.events s w agrees) d.length))
-      (λ size _. right_then L S (l.local spelled d.name.offset size) name IsUsual (λ _. Unit {0}) (Part.Local words d.name.offset ∷ [])
+      right_then L S (finding (l.dimensions d.lengths)) (λ size. l.local spelled d.name.offset size >>= name) (λ _. Unit {0}) (λ _. Unit {0})
+      (of_each (p.length_parts w) d.lengths) (Part.Local words d.name.offset ∷ Part.Declares w d.name (Declared.OfVariable words d) ∷ last) w w v
+      (right_finding L S (l.dimensions d.lengths) (of_each (p.length_parts w) d.lengths) w (λ s agrees. dimensions L s w (S.events s w agrees) d.lengths))
+      (λ size _. right_then L S (l.local spelled d.name.offset size) name (IsLocal words) (λ _. Unit {0}) (Part.Local words d.name.offset ∷ [])
       (Part.Declares w d.name (Declared.OfVariable words d) ∷ last) w w v (local words d.name.offset size w)
       (λ m usual. right_then L S (l.declare d.name m) (λ _. finding (λ s. l.declared_step d m d.initializer s)) (λ _. Unit {0}) (λ _. Unit {0})
       (Part.Declares w d.name (Declared.OfVariable words d) ∷ []) last w v v
-      (λ x agrees. S.declares x w d.name (Declared.OfVariable words d) m agrees (S.variable w words d m usual))
+      (λ x agrees. S.declares x w d.name (Declared.OfVariable words d) m agrees (S.variable w words d m usual.0 usual.1))
       (λ _ _. right_finding L S (λ s. l.declared_step d m d.initializer s) last v (λ s agrees. declared_step L s v (S.events s v agrees) d m d.initializer))))
 
   one_more : (words : Specifiers) (d : Declarator) (done : List Statement) (w : Where) →

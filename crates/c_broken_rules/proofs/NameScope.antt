@@ -1,8 +1,9 @@
 -- Unknown names in a whole text.
-use Rattle.std.proofs.Common.{◌≡◌, refl, sym, subst, ap, ◌∙◌, ℕ, Bool, true, false, List, [], ◌∷◌, ◌++◌, length, Option, Some, None, append-nil}
+use Rattle.std.proofs.Common.{◌≡◌, refl, sym, subst, ap, ◌∙◌, ℕ, Bool, true, false, List, [], ◌∷◌, ◌++◌, length, Option, Some, None, append-nil, suc}
 use Rattle.std.proofs.lemmas.Bool.{false≢true, or_parts}
-use Rattle.std.specs.Prelude.{◌||◌, ◌&&◌, is_some, not, if◌then◌else◌}
+use Rattle.std.specs.Prelude.{◌||◌, ◌&&◌, is_some, not, nat_le, if◌then◌else◌}
 use Rattle.lists.proofs.Places.{get_last, none_of}
+use Rattle.hls_ints.specs.Types.{int_type}
 use Rattle.c_tree.specs.declared.expression.Name.{Name}
 use Rattle.c_tree.specs.declared.expression.Specifiers.{Specifiers}
 use Rattle.c_tree.specs.declared.expression.Expression.{out-Expression}
@@ -17,10 +18,14 @@ use Rattle.c_rules.specs.Constants.{constancy}
 use Rattle.c_rules.specs.Findings.{nothing}
 use Rattle.c_rules.specs.Levels.{named_in}
 use Rattle.c_rules.specs.Library.{function_named}
-use Rattle.c_rules.specs.Names.{look_up, is_taken, declaring}
+use Rattle.c_rules.specs.declared.dimensions.Dimensions.{Dimensions}
+use Rattle.c_rules.specs.declared.dimensions.Dimensions.TheVariants.{Scalar, One, Two, Three}
+use Rattle.c_rules.specs.declared.names.ObjectKind.{ObjectKind}
+use Rattle.c_rules.specs.declared.names.ObjectKind.TheVariants.{Thread, Mutex, Barrier}
+use Rattle.c_rules.specs.Names.{look_up, is_taken, declaring, same_kind}
 use Rattle.c_rules.specs.Specifiers.{base_of, spelled_by}
 use Rattle.c_rules.specs.Walks.{finds}
-use Rattle.c_calls.specs.Arguments as a
+use Rattle.c_expressions.specs.Expressions as e
 use Rattle.c_calls.specs.Calls as k
 use Rattle.c_resolution.specs.States.{State, finding, scoping}
 use Rattle.c_resolution.specs.Locals as l
@@ -31,9 +36,10 @@ use Rattle.c_resolution.specs.Resolving as resolving
 use Rattle.c_resolution.specs.Texts as t
 use Rattle.c_broken_rules.specs.Sight.{Declared, Where, behind, with_names}
 use Rattle.c_broken_rules.specs.Parts.{Part, parts, function_names, at_first}
+use Rattle.c_broken_rules.specs.Typing.{plain_type, type_of_base, type_of_words}
 use Rattle.c_broken_rules.proofs.Ledgers.{Ledger, Writes, left, nothing_new, quiet, writes_with}
 use Rattle.c_broken_rules.proofs.Events.{Events}
-use Rattle.c_broken_rules.proofs.Walks.{Scoping, Right, IsUsual, IsParameter, IsGlobal, IsOpen, is_thread_base, is_thread, is_thread_object}
+use Rattle.c_broken_rules.proofs.Walks.{Scoping, Right, IsUsual, IsParameter, IsGlobal, IsOpen, is_small, is_thread_base, is_thread, is_thread_object, type_of_meaning}
 use Rattle.c_broken_rules.proofs.Calls.{no_creates}
 use Rattle.c_resolution.specs.Files.{Tables}
 use Rattle.c_rules.specs.declared.specifiers.Spelled.{Spelled}
@@ -55,10 +61,10 @@ module _ (D : List (List ℕ × ℕ)) where
   threads : IsQuiet L rule.Threads
   threads = u.other D rule.Threads (λ j. j)
 
-  constants : IsQuiet L rule.Constant
+  pub constants : IsQuiet L rule.Constant
   constants = u.other D rule.Constant (λ j. j)
 
-  twice : IsQuiet L rule.Twice
+  pub twice : IsQuiet L rule.Twice
   twice = u.other D rule.Twice (λ j. j)
 
   formats : IsQuiet L rule.Format
@@ -68,35 +74,36 @@ module _ (D : List (List ℕ × ℕ)) where
   events s w agrees = record {
     other = u.others D;
     constant = λ v at. quiet L (Part.Constant v at) (λ x k. k) (q.constant_is L constants v at);
-    used = λ name index. m.value_is D s w name (Some index) agrees;
-    read = λ name. m.read_part D w name (Part.Use w name ∷ []) (m.value_is D s w name None agrees);
-    converted = λ name h. m.value_is D s w name None agrees;
+    used = λ name more. m.value_is D s w name (suc more) agrees;
+    read = λ name. m.read_part D w name (Part.Use w name ∷ []) (m.value_is D s w name 0 agrees);
+    converted = λ name h. m.value_is D s w name 0 agrees;
     argument = λ name h x k. m.argument_use D s w name agrees h k.0;
-    target = λ name indexed. m.target_is D s w name indexed agrees;
-    object = λ kind name at index. m.object_is D s w kind name at index agrees;
+    target = λ name indices. m.target_is D s w name indices agrees;
+    object = λ kind name at indices number. m.object_is D s w kind name at indices number agrees;
     routine = λ name h at is. m.routine_by D s w name h at agrees (look_up s name.bytes) refl is;
     no_routine = λ name is x k. m.no_routine D s w name agrees is x k;
-    misplaced = λ name count. m.misplaced_by D s w name count agrees (look_up s name.bytes) refl;
+    misplaced = λ name count none. m.misplaced_by D s w name count agrees (look_up s name.bytes) refl none;
     library = λ name function count is. m.library_call D s w name function count agrees is;
     function = λ name number count is_value is. m.function_is D s w name number count is_value agrees is;
     no_function = λ name none own. m.no_function_by D s w name agrees (look_up s name.bytes) refl none;
     print = λ name first values. quiet L (Part.Print name (first ∷ values)) (λ x k. k)
-        (q.broken_if L (not (k.takes (k.format first) (length values))) rule.Format (a.argument_offset first) formats);
+        (q.broken_if L (not (k.takes (k.format first) (length values))) rule.Format (e.argument_offset first) formats);
     no_print = λ name. quiet L (Part.Print name []) (λ x k. k) (formats name.offset);
     length = λ v. quiet L (Part.Length v) (λ x k. k) (q.length_is L constants (constancy v) (out-Expression v).offset);
     local = λ words at is. quiet L (Part.Local words at) (λ x k. k) (q.local_quiet L (u.others D) threads words at);
     no_local = λ words at ty is x k. k;
     initial = λ ty v. quiet L (Part.Initial v) (λ x k. k) (q.initial_is L constants ty (constancy v) (out-Expression v).offset);
-    listed = λ size v n index is. quiet L (Part.Listed size index v) (λ x k. k) (q.broken_if L _ rule.Constant (out-Expression v).offset constants);
+    listed = λ lengths n index at is. quiet L (Part.Listed lengths index at) (λ x k. k) (q.broken_if L _ rule.Constant at constants);
   }
 
   -- ---- declarations
 
   abbrev pub IsMeant : Declared → Meaning → Type 0
   IsMeant (Declared.OfFunction f) o = ⊥
-  IsMeant (Declared.OfParameter p) o = IsParameter p.is_pointer o
-  IsMeant (Declared.OfVariable words d) o = IsUsual o
-  IsMeant (Declared.OfObject words pointer d) o = IsGlobal o × (is_thread_object o ≡ is_thread words pointer)
+  IsMeant (Declared.OfParameter p) o = IsParameter p.is_pointer o × (type_of_meaning o ≡ (if p.is_pointer then int_type else plain_type p.specifiers))
+  IsMeant (Declared.OfVariable words d) o = IsUsual o × (type_of_meaning o ≡ plain_type words)
+  IsMeant (Declared.OfObject words pointer d) o =
+      IsGlobal o × (is_thread_object o ≡ is_thread words pointer d) × (type_of_meaning o ≡ (if pointer then int_type else type_of_words words))
 
   meant_in : (headers : List Header) (d : Declared) (o : Meaning) → IsMeant d o → MeansIn D headers d o
   meant_in headers (Declared.OfFunction f) o h = absurd h
@@ -104,20 +111,38 @@ module _ (D : List (List ℕ × ℕ)) where
   meant_in headers (Declared.OfVariable words d) o h = h
   meant_in headers (Declared.OfObject words pointer d) o h = h
 
-  global_by : (t : Tables) (words : Spelled) (size : Option ℕ) (b : Bool) (kind : BaseType) →
-      let m = if b then meaning.Unusable else g.meaning_by t words size kind in
-      IsGlobal m × (is_thread_object m ≡ (not b && is_thread_base kind))
-  global_by t words size true kind = (tt, refl)
-  global_by t words size false (base.Integer ty) = (tt, refl)
-  global_by t words size false base.Thread = (tt, refl)
-  global_by t words size false base.Mutex = (tt, refl)
-  global_by t words size false base.Barrier = (tt, refl)
-  global_by t words size false base.Void = (tt, refl)
-  global_by t words size false base.Unlisted = (tt, refl)
+  and_all : (b : Bool) → (b && true) ≡ b
+  and_all true = refl
+  and_all false = refl
 
-  pub global_is : (t : Tables) (words : Specifiers) (pointer : Bool) (d : GlobalDeclarator) (size : Option ℕ) →
-      IsMeant (Declared.OfObject words pointer d) (g.global_meaning t (spelled_by words) pointer size)
-  global_is t words pointer d size = global_by t (spelled_by words) size pointer (base_of words.words)
+  and_none : (b : Bool) → (b && false) ≡ false
+  and_none true = refl
+  and_none false = refl
+
+  -- an object of POSIX threads
+  object_is : (kind : ObjectKind) (count : ℕ) (dimensions : Dimensions) → let m = g.object kind count dimensions in
+      IsGlobal m × (is_thread_object m ≡ (same_kind Thread kind && is_small dimensions)) × (type_of_meaning m ≡ int_type)
+  object_is kind count Scalar = (tt, sym (and_all (same_kind Thread kind)), refl)
+  object_is kind count (One n) = (tt, sym (and_all (same_kind Thread kind)), refl)
+  object_is kind count (Two a b) = (tt, sym (and_none (same_kind Thread kind)), refl)
+  object_is kind count (Three a b c) = (tt, sym (and_none (same_kind Thread kind)), refl)
+
+  global_by : (t : Tables) (words : Spelled) (dimensions : Dimensions) (few b : Bool) (kind : BaseType) → is_small dimensions ≡ few →
+      let m = if b then meaning.Unusable else g.meaning_by t words dimensions kind in
+      IsGlobal m × (is_thread_object m ≡ (not b && (is_thread_base kind && few))) × (type_of_meaning m ≡ (if b then int_type else type_of_base kind))
+  global_by t words dimensions few true kind small = (tt, refl, refl)
+  global_by t words dimensions few false (base.Integer ty) small = (tt, refl, refl)
+  global_by t words dimensions few false base.Thread small =
+      let h = object_is Thread (length t.threads) dimensions in
+      (h.0, h.1 ∙ small, h.2)
+  global_by t words dimensions few false base.Mutex small = object_is Mutex (length t.mutexes) dimensions
+  global_by t words dimensions few false base.Barrier small = object_is Barrier (length t.barriers) dimensions
+  global_by t words dimensions few false base.Void small = (tt, refl, refl)
+  global_by t words dimensions few false base.Unlisted small = (tt, refl, refl)
+
+  pub global_is : (t : Tables) (words : Specifiers) (pointer : Bool) (d : GlobalDeclarator) (dimensions : Dimensions) → is_small dimensions ≡ nat_le (length d.lengths) 1 →
+      IsMeant (Declared.OfObject words pointer d) (g.global_meaning t (spelled_by words) pointer dimensions)
+  global_is t words pointer d dimensions small = global_by t (spelled_by words) dimensions (nat_le (length d.lengths) 1) pointer (base_of words.words) small
 
   twice_kept : (x : State) (name : Name) → Kept L x (left (y.twice name x)) []
   twice_kept x name = q.finding_kept L (λ s. finds rule.Twice name.offset) x [] (twice name.offset)
@@ -224,13 +249,18 @@ module _ (D : List (List ℕ × ℕ)) where
     is_open = λ s w h. opening s.headers s w w.scopes refl h.scopes;
     closed = closed_agrees D;
     no_names = λ s w h. record { defined = h.defined; scopes = no_more s.headers s w.scopes h.scopes };
-    loops = λ s w n h. record { defined = h.defined; scopes = h.scopes };
+    loops = λ s w n m h. record { defined = h.defined; scopes = h.scopes };
     local = λ s w l h. record { defined = h.defined; scopes = h.scopes };
     declares = declares;
-    variable = λ w words d o h. h;
-    parameter = λ w name p o h. h;
+    variable = λ w words d o h ty. (h, ty);
+    parameter = λ w name p o h ty. (h, ty);
+    IsSwitched = λ w over ty. Unit {0};
+    switched = λ s w over at cuts found h. tt;
+    case = λ s w over ty before l v c h is noted some. quiet L (Part.Label w over before l) (λ x k. k)
+        (q.noted_quiet L twice constants ty (constancy v) (out-Expression v).offset c);
+    default = λ s w over ty before l c h is noted none. quiet L (Part.Label w over before l) (λ x k. k) (q.default_quiet L twice l.offset c);
     Held = λ t w names. Unit {0};
-    object = λ t w words pointer d size later h. global_is t words pointer d size;
+    object = λ t w words pointer d dimensions later small h. global_is t words pointer d dimensions small;
     held_object = λ t u w words pointer d later added h. tt;
     held_function = λ t u w f later same h. tt;
     held_none = λ t w later h. tt;

@@ -9,7 +9,7 @@ use Rattle.c_rules.specs.declared.fault.Fault.{Fault}
 use Rattle.c_rules.specs.declared.names.ObjectKind.{ObjectKind}
 use Rattle.c_rules.specs.declared.names.Known.{Known}
 use Rattle.c_rules.specs.declared.names.Known.TheVariants as known
-use Rattle.c_rules.specs.Walks.{pure, finds, finds_if, creates}
+use Rattle.c_rules.specs.Walks.{finds, finds_if, finds_any, creates}
 use Rattle.c_expressions.specs.Expressions as e
 use Rattle.c_calls.specs.Arguments as a
 use Rattle.c_rules.specs.Levels.{named_in}
@@ -17,7 +17,7 @@ use Rattle.c_broken_rules.specs.Sight.{Declared, Where}
 use Rattle.c_broken_rules.specs.Breaks.{IsUnknown, StandsFor}
 use Rattle.c_broken_rules.specs.Parts.{Part, Parts}
 use Rattle.c_tree.specs.declared.declaration.Function.{Function}
-use Rattle.c_broken_rules.proofs.Ledgers.{Ledger, Good, good_pure, good_before}
+use Rattle.c_broken_rules.proofs.Ledgers.{Ledger, Good}
 use Rattle.c_broken_rules.proofs.Events.{IsOther}
 use Rattle.c_broken_rules.proofs.Quiets as q
 use Rattle.c_broken_rules.proofs.Quiets.{IsQuiet, OthersAreQuiet, CallsAreQuiet}
@@ -77,11 +77,10 @@ module _ (D : List (List ℕ × ℕ)) where
 
   -- ---- names that are unknown
 
-  pub unknown_value : (at : ℕ) (index : Option Expression) (ps : Parts) → Good name_ledger (finds rule.Unknown at) ps → Good name_ledger (e.named_value known.Unknown at index) ps
-  unfolding e.named_value e.misused
-  unknown_value at index ps h = good_before name_ledger (finds rule.Unknown at) (λ _. pure e.nothing) ps h (λ _. good_pure name_ledger e.nothing)
+  pub unknown_value : (at indices : ℕ) (ps : Parts) → Good name_ledger (finds rule.Unknown at) ps → Good name_ledger (finds_any (e.misuse known.Unknown indices) at) ps
+  unknown_value at indices ps h = record { writes = h.writes }
 
-  pub unknown_object : (kind : ObjectKind) (name_at at : ℕ) (index : Option Expression) (ps : Parts) → Good name_ledger (finds rule.Unknown name_at) ps →
-      Good name_ledger (a.object_named kind known.Unknown name_at at index) ps
+  pub unknown_object : (kind : ObjectKind) (name_at at indices : ℕ) (number : Option Expression) (ps : Parts) → Good name_ledger (finds rule.Unknown name_at) ps →
+      Good name_ledger (a.object_named kind known.Unknown name_at at indices number) ps
   unfolding a.object_named
-  unknown_object kind name_at at index ps h = q.misused_object name_ledger others known.Unknown name_at at ps (record { writes = h.writes })
+  unknown_object kind name_at at indices number ps h = q.misused_object name_ledger others known.Unknown name_at at ps (record { writes = h.writes })

@@ -1,15 +1,13 @@
 -- Faults in constants and formats ask nothing of the declarations in sight.
-use Rattle.std.proofs.Common.{refl, [], ◌∷◌, Option, Some, None}
+use Rattle.std.proofs.Common.{refl, ℕ, suc, [], ◌∷◌}
 use Rattle.c_tree.specs.declared.expression.Name.{Name}
 use Rattle.c_tree.specs.declared.declaration.TranslationUnit.{TranslationUnit}
 use Rattle.c_rules.specs.declared.fault.Rule.TheVariants as rule
 use Rattle.c_rules.specs.declared.names.Scope.{Scope}
 use Rattle.c_rules.specs.Findings.{nothing}
 use Rattle.c_rules.specs.Names.{look_up}
-use Rattle.c_rules.specs.Walks.{Finds}
-use Rattle.c_program.specs.Tree.{Expression}
+use Rattle.c_rules.specs.Walks.{Finds, finds_any}
 use Rattle.c_expressions.specs.Expressions as e
-use Rattle.c_calls.specs.Arguments as a
 use Rattle.c_resolution.specs.Functions as y
 use Rattle.c_resolution.specs.Resolving.{before}
 use Rattle.c_resolution.specs.Resolving as resolving
@@ -38,8 +36,8 @@ threads = d.other rule.Threads (λ j. j)
 twice : IsQuiet L rule.Twice
 twice = d.other rule.Twice (λ j. j)
 
-value_read : (s : Scope) (w : Where) (name : Name) (index : Option Expression) → Good L (e.named_value (look_up s name.bytes) name.offset index) []
-value_read s w name index = q.named_value L d.others (look_up s name.bytes) name.offset index (λ _. unknown) (λ _ _. threads)
+value_read : (s : Scope) (w : Where) (name : Name) (indices : ℕ) → Good L (finds_any (e.misuse (look_up s name.bytes) indices) name.offset) []
+value_read s w name indices = q.misuse_quiet L d.others (look_up s name.bytes) indices name.offset (λ _. unknown) (λ _ _. threads)
 
 use_read : (w : Where) (name : Name) {A : Type 0} {v : Finds A} → Good L v [] → Good L v (Part.Use w name ∷ Part.Read w name ∷ [])
 use_read w name h = quiet L (Part.Use w name) (λ x k. k) (quiet L (Part.Read w name) (λ x k. k) h)
@@ -48,20 +46,20 @@ events : (s : Scope) (w : Where) → Events L s w
 events s w = record {
   other = d.others;
   constant = d.constant_is;
-  used = λ name index. quiet L (Part.Use w name) (λ x k. k) (value_read s w name (Some index));
-  read = λ name. use_read w name (value_read s w name None);
-  converted = λ name h. quiet L (Part.Use w name) (λ x k. k) (value_read s w name None);
+  used = λ name more. quiet L (Part.Use w name) (λ x k. k) (value_read s w name (suc more));
+  read = λ name. use_read w name (value_read s w name 0);
+  converted = λ name h. quiet L (Part.Use w name) (λ x k. k) (value_read s w name 0);
   argument = λ name h x k. k;
-  target = λ name indexed. quiet L (Part.Use w name) (λ x k. k) (q.target_quiet L d.others (look_up s name.bytes) indexed name.offset (λ _. unknown));
-  object = λ kind name at index. quiet L (Part.Use w name) (λ x k. k) (q.object_named L d.others kind (look_up s name.bytes) name.offset at index (λ _. unknown));
+  target = λ name indices. quiet L (Part.Use w name) (λ x k. k) (q.target_quiet L d.others (look_up s name.bytes) indices name.offset (λ _. unknown));
+  object = λ kind name at indices number. quiet L (Part.Use w name) (λ x k. k)
+      (q.object_named L d.others kind (look_up s name.bytes) name.offset at indices number (λ _. unknown));
   routine = λ name h at is. quiet L (Part.Routine w name) (λ x k. k) (use_read w name (q.routine_quiet L d.others unknown h name.offset at));
   no_routine = λ name is x k. k;
-  misplaced = λ name count. quiet L (Part.Call w name) (λ x k. k)
-      (q.misplaced_quiet L d.others unknown threads d.calls_quiet s (look_up s name.bytes) count name.offset);
+  misplaced = λ name count none. quiet L (Part.Call w name) (λ x k. k) (q.misplaced_quiet L d.others unknown threads s (look_up s name.bytes) count name.offset);
   library = λ name function count is. quiet L (Part.Call w name) (λ x k. k) (q.library_quiet L d.others unknown threads s function count name.offset);
   function = λ name number count is_value is. quiet L (Part.Call w name) (λ x k. k)
       (q.function_quiet L d.others unknown threads d.calls_quiet s number count is_value name.offset);
-  no_function = λ name none own. quiet L (Part.Call w name) (λ x k. k) (q.broken_if L (a.is_unknown (look_up s name.bytes)) rule.Unknown name.offset unknown);
+  no_function = λ name none own. quiet L (Part.Call w name) (λ x k. k) (q.no_function_quiet L d.others unknown threads (look_up s name.bytes) name.offset);
   print = d.print_is;
   no_print = d.no_print_is;
   length = λ v. d.length_by_is v _ refl;
@@ -86,17 +84,22 @@ scoping_free = record {
   is_open = λ s w h. h;
   closed = λ s scope w opening h. opening;
   no_names = λ s w h. open_behind [] w;
-  loops = λ s w n h. h;
+  loops = λ s w n m h. h;
   local = λ s w l h. h;
   declares = λ x w name o m h means. record {
     writes = writes_with L (Part.Declares w name o) (λ x k. k) (q.declare_is L d.others twice name m x).writes;
     agrees = open_behind ((name.bytes, o) ∷ []) w;
     value = tt;
   };
-  variable = λ w words d m h. tt;
-  parameter = λ w name p m h. tt;
+  variable = λ w words d m h ty. tt;
+  parameter = λ w name p m h ty. tt;
+  IsSwitched = λ w over ty. Unit {0};
+  switched = λ s w over at cuts found h. tt;
+  case = λ s w over ty before l e c h is noted some. d.case_is w over before l ty e c some;
+  default = λ s w over ty before l c h is noted none.
+      quiet L (Part.Label w over before l) (λ x k. d.no_case l.value none x k) (q.default_quiet L twice l.offset c);
   Held = λ t w names. Unit {0};
-  object = λ t w words pointer d size later h. tt;
+  object = λ t w words pointer d dimensions later small h. tt;
   held_object = λ t u w words pointer d later added h. tt;
   held_function = λ t u w f later same h. tt;
   held_none = λ t w later h. tt;

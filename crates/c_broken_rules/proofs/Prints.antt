@@ -5,7 +5,7 @@ use Rattle.std.specs.Prelude.{◌&&◌, nat_eq, nat_le, count_by, Contains}
 use Rattle.std.proofs.lemmas.Bool.Decides.{nat_tests}
 use Rattle.std.proofs.lemmas.Option.{none-some}
 use Rattle.c_tree.specs.declared.expression.Name.{Name}
-use Rattle.c_tree.specs.declared.expression.Expression.{out-Expression}
+use Rattle.c_tree.specs.declared.expression.Expression.{Expression, out-Expression}
 use Rattle.c_tree.specs.declared.expression.Argument.{Argument, out-Argument}
 use Rattle.c_tree.specs.declared.expression.Argument.TheOpen.{Argument-F}
 use Rattle.c_tree.specs.declared.declaration.TranslationUnit.{TranslationUnit}
@@ -15,13 +15,13 @@ use Rattle.c_rules.specs.declared.fault.Rule.{Rule}
 use Rattle.c_rules.specs.declared.fault.Rule.TheVariants as rule
 use Rattle.c_rules.specs.declared.fault.Fault.{Fault}
 use Rattle.c_rules.specs.Formats.{pieces_in}
-use Rattle.c_calls.specs.Arguments as a
+use Rattle.c_expressions.specs.Expressions.{ArgumentLayer, argument_offset}
 use Rattle.c_calls.specs.Calls as k
 use Rattle.c_broken_rules.specs.Parts.{Part, parts}
 use Rattle.c_broken_rules.specs.Formats.{IsFormat}
 use Rattle.c_broken_rules.specs.Breaks.{Breaks, IsPrint}
 use Rattle.c_broken_rules.specs.Laws.{FaultsAreBroken, BrokenAreFaults}
-use Rattle.c_broken_rules.proofs.Plain.{IsJudged, BreaksAt, PrintBreaks}
+use Rattle.c_broken_rules.proofs.Plain.{IsJudged, BreaksAt, CaseBreaks, PrintBreaks}
 use Rattle.c_broken_rules.proofs.PlainScope.{text_writes}
 use Rattle.c_broken_rules.proofs.Formats.{read, is_read}
 use Rattle.c_broken_rules.proofs.FaultLedgers.{fault_of}
@@ -68,7 +68,7 @@ takes_text first values bytes at is (Some pieces) e h =
       most = fit.1;
     }
 
-takes_layer : (first : Argument) (values : List Argument) (l : a.ArgumentLayer) → out-Argument first ≡ l → k.takes (k.format_in l) (length values) ≡ true → IsPrint first values
+takes_layer : (first : Argument) (values : List Argument) (l : ArgumentLayer) → out-Argument first ≡ l → k.takes (k.format_in l) (length values) ≡ true → IsPrint first values
 takes_layer first values (Argument-F.Text bytes at) is h = takes_text first values bytes at is (k.text_pieces bytes) refl h
 takes_layer first values (Argument-F.Value v) is h = absurd (false≢true h)
 takes_layer first values (Argument-F.Address q at) is h = absurd (false≢true h)
@@ -92,18 +92,23 @@ different h = cc
 constant_format : (at there : ℕ) → fault_of rule.Format at ≡ fault_of rule.Constant there → ⊥
 constant_format at there h = different (ap (λ (f : Fault). f.rule) h)
 
+no_case_format : (at : ℕ) (v : Option Expression) → CaseBreaks v (fault_of rule.Format at) → ⊥
+no_case_format at None h = h
+no_case_format at (Some e) h = constant_format at (out-Expression e).offset h.1
+
 print_breaks : (tree : TranslationUnit) (at : ℕ) (name : Name) (arguments : List Argument) → Contains (parts tree) (Part.Print name arguments) →
     PrintBreaks name arguments (fault_of rule.Format at) → Breaks tree rule.Format at
 print_breaks tree at name [] c h = at_place tree rule.Format at name.offset h (Breaks.NoFormat name c)
 print_breaks tree at name (first ∷ values) c h =
-    at_place tree rule.Format at (a.argument_offset first) h.1 (Breaks.BadFormat name first values c (λ is. true≢false (sym (is_taken first values is) ∙ h.0)))
+    at_place tree rule.Format at (argument_offset first) h.1 (Breaks.BadFormat name first values c (λ is. true≢false (sym (is_taken first values is) ∙ h.0)))
 
 part_breaks : (tree : TranslationUnit) (at : ℕ) (part : Part) → Contains (parts tree) part → BreaksAt part (fault_of rule.Format at) → Breaks tree rule.Format at
 part_breaks tree at (Part.Print name arguments) c h = print_breaks tree at name arguments c h
 part_breaks tree at (Part.Constant value there) c h = absurd (constant_format at there h.1)
 part_breaks tree at (Part.Length v) c h = absurd (constant_format at (out-Expression v).offset h.1)
 part_breaks tree at (Part.Initial v) c h = absurd (constant_format at (out-Expression v).offset h.1)
-part_breaks tree at (Part.Listed size index v) c h = absurd (constant_format at (out-Expression v).offset h.1)
+part_breaks tree at (Part.Listed lengths index there) c h = absurd (constant_format at there h.1)
+part_breaks tree at (Part.Label w over before l) c h = absurd (no_case_format at l.value h)
 part_breaks tree at other c h = absurd h
 
 pub formats_sound : FaultsAreBroken rule.Format

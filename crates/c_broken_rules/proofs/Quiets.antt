@@ -1,12 +1,13 @@
 -- What a walk finds of names, constants, locals and declarations, for a ledger in which what it finds is no entry.
 use Rattle.std.proofs.Common.{◌≡◌, refl, ap, ℕ, Bool, true, false, [], ◌++◌, length, Option, Some, None}
+use Rattle.std.proofs.lemmas.Bool.{eqb-true}
 use Rattle.std.specs.Prelude.{pos, not, is_none, is_some, ◌||◌, ◌&&◌, nat_eq, if◌then◌else◌, slice_get, option_map}
 use Rattle.hls_ints.specs.Types.{IntegerType, wrapped}
 use Rattle.c_token.specs.declared.constant.Constant.{Constant}
 use Rattle.c_token.specs.declared.constant.Constant.TheVariants as constant
 use Rattle.c_tree.specs.declared.expression.Name.{Name}
 use Rattle.c_tree.specs.declared.expression.Specifiers.{Specifiers}
-use Rattle.c_program.specs.Tree.{Expression, ObjectPlace}
+use Rattle.c_program.specs.Tree.{Expression}
 use Rattle.c_rules.specs.declared.fault.Rule.{Rule}
 use Rattle.c_rules.specs.declared.fault.Rule.TheVariants as rule
 use Rattle.c_rules.specs.declared.findings.Findings.{Findings}
@@ -14,7 +15,6 @@ use Rattle.c_rules.specs.declared.library.LibraryFunction.{LibraryFunction}
 use Rattle.c_rules.specs.declared.library.LibraryFunction.TheVariants as library
 use Rattle.c_rules.specs.declared.names.ObjectKind.{ObjectKind}
 use Rattle.c_rules.specs.declared.names.Object.{Object}
-use Rattle.c_rules.specs.declared.names.Variable.{Variable}
 use Rattle.c_rules.specs.declared.names.Meaning.{Meaning}
 use Rattle.c_rules.specs.declared.names.Meaning.TheVariants as meaning
 use Rattle.c_rules.specs.declared.names.Known.{Known}
@@ -23,11 +23,13 @@ use Rattle.c_rules.specs.declared.names.Header.{Header}
 use Rattle.c_rules.specs.declared.names.Scope.{Scope}
 use Rattle.c_rules.specs.declared.constants.Constancy.{Constancy}
 use Rattle.c_rules.specs.declared.constants.Constancy.TheVariants as is
+use Rattle.c_rules.specs.Cases.{stands, noted}
 use Rattle.c_rules.specs.Constants.{constant_value}
+use Rattle.c_rules.specs.Dimensions.{count}
 use Rattle.c_rules.specs.Levels.{named_in}
 use Rattle.c_rules.specs.Library.{function_named, takes}
 use Rattle.c_rules.specs.Names.{is_void_type, is_start_routine, gives_pointer, is_taken, declaring}
-use Rattle.c_rules.specs.Specifiers.{c_type, spelled_by}
+use Rattle.c_rules.specs.Specifiers.{spelled_by}
 use Rattle.c_rules.specs.Walks.{Outcome, Finds, pure, finds, finds_if, finds_any, calls, ◌>>◌}
 use Rattle.c_expressions.specs.Callees as c
 use Rattle.c_expressions.specs.Expressions as e
@@ -37,6 +39,7 @@ use Rattle.c_resolution.specs.States.{State, finding, scoping, in_scope}
 use Rattle.c_resolution.specs.Locals as l
 use Rattle.c_resolution.specs.Globals as g
 use Rattle.c_resolution.specs.Functions as y
+use Rattle.c_resolution.specs.Statements as r
 use Rattle.c_broken_rules.specs.Parts.{Parts}
 use Rattle.c_broken_rules.proofs.Ledgers.{Ledger, Entered, Good, Writes, left, good_pure, good_then, good_before, good_none, nothing_new}
 use Rattle.c_broken_rules.proofs.Events.{IsOther}
@@ -105,6 +108,24 @@ module _ (L : Ledger) (constants : IsQuiet L rule.Constant) where
   initial_is ty is.Unknown at = good_pure L (pos 0)
   initial_is ty is.NotConstant at = good_before L (finds rule.Constant at) (λ _. pure (pos 0)) [] (constants at) (λ _. good_pure L (pos 0))
 
+-- ---- labels
+
+module _ (L : Ledger) (twice : IsQuiet L rule.Twice) where
+  pub noted_quiet : IsQuiet L rule.Constant → (ty : IntegerType) (x : Constancy) (at : ℕ) (k : r.Cases) → Good L (r.noted_case ty x at k) []
+  unfolding r.noted_case
+  noted_quiet constants ty (is.Constant x) at k =
+      let stands_there = finds_if (stands k.values (wrapped ty x.number)) rule.Twice at in
+      good_before L stands_there (λ _. pure (record k { values = noted k.values (wrapped ty x.number) })) []
+      (broken_if L (stands k.values (wrapped ty x.number)) rule.Twice at twice) (λ _. good_pure L (record k { values = noted k.values (wrapped ty x.number) }))
+  noted_quiet constants ty is.Unknown at k = good_pure L k
+  noted_quiet constants ty is.NotConstant at k = good_before L (finds rule.Constant at) (λ _. pure k) [] (constants at) (λ _. good_pure L k)
+
+  pub default_quiet : (at : ℕ) (k : r.Cases) → Good L (r.default_label at k) []
+  unfolding r.default_label
+  default_quiet at k =
+      good_before L (finds_if k.has_default rule.Twice at) (λ _. pure (r.labelled None 0 (record k { has_default = true }))) [] (broken_if L k.has_default rule.Twice at twice)
+      (λ _. good_pure L (r.labelled None 0 (record k { has_default = true })))
+
 module _ (L : Ledger) (others : OthersAreQuiet L) where
   abbrev Plain : {A : Type 0} → Finds A → Parts → Type 0
   Plain w parts = Good L w parts
@@ -154,6 +175,17 @@ module _ (L : Ledger) (others : OthersAreQuiet L) where
   library_name s f count at ps h =
       good_then L (finds_if (not (takes f count)) rule.Arguments at) (λ _. c.library_place s f at) [] ps (other_if (not (takes f count)) rule.Arguments at tt) (λ _. h)
 
+  -- as a value
+  pub library_value : (s : Scope) (f : LibraryFunction) (count at : ℕ) (ps : Parts) → Plain (c.library_name s f count at) ps → Plain (c.library_value s f count at) ps
+  unfolding c.library_value
+  library_value s f count at ps h = good_then L (finds rule.Place at) (λ _. c.library_name s f count at) [] ps (others rule.Place at tt) (λ _. h)
+
+  -- what is no function, by whether it is unknown
+  pub no_function_is : (x : Known) (at : ℕ) (ps : Parts) → Plain (finds_if (c.is_unknown x) rule.Unknown at) ps → Plain (c.no_function x at) ps
+  unfolding c.no_function
+  no_function_is x at ps h =
+      good_before L (finds_if (c.is_unknown x) rule.Unknown at) (λ _. finds_if (c.is_usable x) rule.Kind at) ps h (λ _. other_if (c.is_usable x) rule.Kind at tt)
+
   -- a name that is called where nothing of this is an entry
   module _ (unknown : IsQuiet L rule.Unknown) (threads : IsQuiet L rule.Threads) where
     pub library_quiet : (s : Scope) (f : LibraryFunction) (count at : ℕ) → Plain (c.library_name s f count at) []
@@ -166,7 +198,7 @@ module _ (L : Ledger) (others : OthersAreQuiet L) where
 
     module _ (quiet : CallsAreQuiet L) where
       call_quiet : (s : Scope) (count : ℕ) (is_value : Bool) (at : ℕ) (h : Option Header) → Plain (c.header_call s count is_value at h) []
-      call_quiet s count is_value at None = good_pure L None
+      call_quiet s count is_value at None = good_before L (finds rule.Unknown at) (λ _. pure None) [] (unknown at) (λ _. good_pure L None)
       call_quiet s count is_value at (Some h) =
           header_is s h count is_value at [] [] quiet (broken_if L (is_none h.definition) rule.Unknown at unknown)
           (broken_if L (h.is_main || is_start_routine h) rule.Threads at threads)
@@ -175,96 +207,75 @@ module _ (L : Ledger) (others : OthersAreQuiet L) where
       unfolding c.function_name
       function_quiet s header count is_value at = call_quiet s count is_value at (slice_get s.headers header)
 
-      pub misplaced_quiet : (s : Scope) (x : Known) (count at : ℕ) → Plain (c.misplaced_name s x count at) []
-      unfolding c.misplaced_name
-      misplaced_quiet s (known.Library f) count at = library_quiet s f count at
-      misplaced_quiet s (known.Declared (meaning.Function header)) count at =
-          good_before L (c.function_name s header count true at) (λ _. pure tt) [] (function_quiet s header count true at) (λ _. good_pure L tt)
-      misplaced_quiet s (known.Declared meaning.Unusable) count at = good_pure L tt
-      misplaced_quiet s (known.Declared m) count at = kind at
-      misplaced_quiet s known.Unknown count at = unknown at
+    pub no_function_quiet : (x : Known) (at : ℕ) → Plain (c.no_function x at) []
+    no_function_quiet x at = no_function_is x at [] (broken_if L (c.is_unknown x) rule.Unknown at unknown)
+
+    pub misplaced_quiet : (s : Scope) (x : Known) (count at : ℕ) → Plain (c.misplaced s x count at) []
+    unfolding c.misplaced
+    misplaced_quiet s (known.Library f) count at = library_value s f count at [] (library_quiet s f count at)
+    misplaced_quiet s (known.Declared m) count at = no_function_quiet (known.Declared m) at
+    misplaced_quiet s known.Unknown count at = no_function_quiet known.Unknown at
 
   -- ---- names that are used
 
-  refused : (at : ℕ) → Plain (e.refused rule.Kind at) []
-  refused at = good_before L (finds rule.Kind at) (λ _. pure e.nothing) [] (kind at) (λ _. good_pure L e.nothing)
+  kind_unless : (b : Bool) → IfAny (IsQuiet L) (if b then None else Some rule.Kind)
+  kind_unless true = tt
+  kind_unless false = kind
 
-  object_value : (at : ℕ) (v : Variable) (size : Option ℕ) (index : Option Expression) → Plain (e.object_value at v size index) []
-  unfolding e.object_value
-  object_value at v None None = good_pure L (Expression.Variable v.storage v.number (c_type v.ty))
-  object_value at v (Some size) (Some index) = good_pure L (Expression.Element v.storage v.number size (c_type v.ty) index)
-  object_value at v None (Some index) = refused at
-  object_value at v (Some size) None = refused at
+  argument_misuse : (b : Bool) → (b ≡ true → IsQuiet L rule.Threads) → IfAny (IsQuiet L) (if b then Some rule.Threads else Some rule.Kind)
+  argument_misuse true threads = threads refl
+  argument_misuse false threads = kind
 
-  misuse_is : (x : Known) (indexed : Bool) → (x ≡ known.Unknown → IsQuiet L rule.Unknown) →
-      (x ≡ known.Declared meaning.Argument → indexed ≡ false → IsQuiet L rule.Threads) → IfAny (IsQuiet L) (e.misuse x indexed)
-  misuse_is known.Unknown indexed unknown threads = unknown refl
-  misuse_is (known.Declared meaning.Argument) false unknown threads = threads refl refl
-  misuse_is (known.Declared meaning.Argument) true unknown threads = kind
-  misuse_is (known.Declared meaning.Unusable) indexed unknown threads = tt
-  misuse_is x indexed unknown threads = kind
-
-  misused : (x : Known) (indexed : Bool) (at : ℕ) → IfAny (IsQuiet L) (e.misuse x indexed) → Plain (e.misused x indexed at) []
-  unfolding e.misused
-  misused x indexed at h =
-      good_then L (finds_any (e.misuse x indexed) at) (λ _. pure e.nothing) [] [] (broken_any L (e.misuse x indexed) at h) (λ _. good_pure L e.nothing)
-
-  value_of : (v : Option Variable) (x : Known) (at : ℕ) (index : Option Expression) → IfAny (IsQuiet L) (e.misuse x (is_some index)) → Plain (e.value_of v x at index) []
-  value_of (Some v) x at index h = object_value at v v.length index
-  value_of None x at index h = misused x (is_some index) at h
+  misuse_is : (x : Known) (indices : ℕ) → (x ≡ known.Unknown → IsQuiet L rule.Unknown) →
+      (x ≡ known.Declared meaning.Argument → indices ≡ 0 → IsQuiet L rule.Threads) → IfAny (IsQuiet L) (e.misuse x indices)
+  misuse_is known.Unknown indices unknown threads = unknown refl
+  misuse_is (known.Declared meaning.Argument) indices unknown threads = argument_misuse (nat_eq indices 0) (λ is. threads refl (eqb-true indices 0 is))
+  misuse_is (known.Declared meaning.Unusable) indices unknown threads = tt
+  misuse_is (known.Declared (meaning.Variable v)) indices unknown threads = kind_unless (nat_eq (count v.dimensions) indices)
+  misuse_is x indices unknown threads = kind
 
   -- as a value, where neither that it is unknown nor that it is a start routine's parameter is an entry
-  pub named_value : (x : Known) (at : ℕ) (index : Option Expression) → (x ≡ known.Unknown → IsQuiet L rule.Unknown) →
-      (x ≡ known.Declared meaning.Argument → is_some index ≡ false → IsQuiet L rule.Threads) → Plain (e.named_value x at index) []
-  unfolding e.named_value
-  named_value x at index unknown threads = value_of (e.variable_of x) x at index (misuse_is x (is_some index) unknown threads)
+  pub misuse_quiet : (x : Known) (indices at : ℕ) → (x ≡ known.Unknown → IsQuiet L rule.Unknown) →
+      (x ≡ known.Declared meaning.Argument → indices ≡ 0 → IsQuiet L rule.Threads) → Plain (finds_any (e.misuse x indices) at) []
+  misuse_quiet x indices at unknown threads = broken_any L (e.misuse x indices) at (misuse_is x indices unknown threads)
 
-  variable_fault_is : (b : Bool) → IfAny (IsQuiet L) (if b then Some rule.Kind else None)
-  variable_fault_is true = kind
-  variable_fault_is false = tt
-
-  target_is : (x : Known) (indexed : Bool) → (x ≡ known.Unknown → IsQuiet L rule.Unknown) → IfAny (IsQuiet L) (t.target_fault x indexed)
-  target_is known.Unknown indexed unknown = unknown refl
-  target_is (known.Declared meaning.Unusable) indexed unknown = tt
-  target_is (known.Declared (meaning.Variable v)) indexed unknown = variable_fault_is (v.is_const || t.differ (is_some v.length) indexed)
-  target_is x indexed unknown = kind
+  target_is : (x : Known) (indices : ℕ) → (x ≡ known.Unknown → IsQuiet L rule.Unknown) → IfAny (IsQuiet L) (t.target_fault x indices)
+  target_is known.Unknown indices unknown = unknown refl
+  target_is (known.Declared meaning.Unusable) indices unknown = tt
+  target_is (known.Declared (meaning.Variable v)) indices unknown = kind_unless (not v.is_const && nat_eq (count v.dimensions) indices)
+  target_is x indices unknown = kind
 
   -- as a target
-  pub target_quiet : (x : Known) (indexed : Bool) (at : ℕ) → (x ≡ known.Unknown → IsQuiet L rule.Unknown) → Plain (finds_any (t.target_fault x indexed) at) []
-  target_quiet x indexed at unknown = broken_any L (t.target_fault x indexed) at (target_is x indexed unknown)
+  pub target_quiet : (x : Known) (indices at : ℕ) → (x ≡ known.Unknown → IsQuiet L rule.Unknown) → Plain (finds_any (t.target_fault x indices) at) []
+  target_quiet x indices at unknown = broken_any L (t.target_fault x indices) at (target_is x indices unknown)
 
-  one_object : (at number : ℕ) → Plain (finds rule.Kind at >> pure (ObjectPlace.Single number)) []
-  one_object at number =
-      good_before L (finds rule.Kind at) (λ _. pure (ObjectPlace.Single number)) [] (kind at) (λ _. good_pure L (ObjectPlace.Single number))
-
-  object_at : (at : ℕ) (o : Object) (size : Option ℕ) (index : Option Expression) → Plain (a.object_at at o size index) []
+  object_at : (at : ℕ) (o : Object) (indices : ℕ) (number : Option Expression) → Plain (a.object_at at o indices number) []
   unfolding a.object_at
-  object_at at o None None = good_pure L (ObjectPlace.Single o.number)
-  object_at at o (Some size) (Some i) = good_pure L (ObjectPlace.Element o.number size i)
-  object_at at o None (Some i) = one_object at o.number
-  object_at at o (Some size) None = one_object at o.number
+  object_at at o indices number =
+      let wrong = not (nat_eq (count (a.length_dimensions o.length)) indices) in
+      good_before L (finds_if wrong rule.Kind at) (λ _. pure (a.placed o o.length number)) [] (other_if wrong rule.Kind at tt) (λ _. good_pure L (a.placed o o.length number))
 
-  pub misused_object : (x : Known) (name_at at : ℕ) (ps : Parts) → Plain (finds_if (a.is_unknown x) rule.Unknown name_at) ps → Plain (a.misused_object x name_at at) ps
+  pub misused_object : (x : Known) (name_at at : ℕ) (ps : Parts) → Plain (finds_if (c.is_unknown x) rule.Unknown name_at) ps → Plain (a.misused_object x name_at at) ps
   unfolding a.misused_object
   misused_object x name_at at ps h =
-      let usable = finds_if (a.is_usable x) rule.Kind at in
-      good_before L (finds_if (a.is_unknown x) rule.Unknown name_at) (λ _. usable >> pure a.no_object) ps h
-      (λ _. good_then L usable (λ _. pure a.no_object) [] [] (other_if (a.is_usable x) rule.Kind at tt) (λ _. good_pure L a.no_object))
+      let usable = finds_if (c.is_usable x) rule.Kind at in
+      good_before L (finds_if (c.is_unknown x) rule.Unknown name_at) (λ _. usable >> pure a.no_object) ps h
+      (λ _. good_then L usable (λ _. pure a.no_object) [] [] (other_if (c.is_usable x) rule.Kind at tt) (λ _. good_pure L a.no_object))
 
-  unknown_if : (x : Known) (at : ℕ) → (x ≡ known.Unknown → IsQuiet L rule.Unknown) → Plain (finds_if (a.is_unknown x) rule.Unknown at) []
+  unknown_if : (x : Known) (at : ℕ) → (x ≡ known.Unknown → IsQuiet L rule.Unknown) → Plain (finds_if (c.is_unknown x) rule.Unknown at) []
   unknown_if known.Unknown at h = record { writes = (h refl at).writes }
   unknown_if x at h = record { writes = λ found. nothing_new L found }
 
-  object_from : (o : Option Object) (x : Known) (name_at at : ℕ) (index : Option Expression) → (x ≡ known.Unknown → IsQuiet L rule.Unknown) →
-      Plain (a.object_from o x name_at at index) []
-  object_from (Some o) x name_at at index h = object_at name_at o o.length index
-  object_from None x name_at at index h = misused_object x name_at at [] (unknown_if x name_at h)
+  object_from : (o : Option Object) (x : Known) (name_at at indices : ℕ) (number : Option Expression) → (x ≡ known.Unknown → IsQuiet L rule.Unknown) →
+      Plain (a.object_from o x name_at at indices number) []
+  object_from (Some o) x name_at at indices number h = object_at name_at o indices number
+  object_from None x name_at at indices number h = misused_object x name_at at [] (unknown_if x name_at h)
 
   -- as an object of POSIX threads
-  pub object_named : (kind_of : ObjectKind) (x : Known) (name_at at : ℕ) (index : Option Expression) → (x ≡ known.Unknown → IsQuiet L rule.Unknown) →
-      Plain (a.object_named kind_of x name_at at index) []
+  pub object_named : (kind_of : ObjectKind) (x : Known) (name_at at indices : ℕ) (number : Option Expression) → (x ≡ known.Unknown → IsQuiet L rule.Unknown) →
+      Plain (a.object_named kind_of x name_at at indices number) []
   unfolding a.object_named
-  object_named kind_of x name_at at index h = object_from (a.object_of kind_of x) x name_at at index h
+  object_named kind_of x name_at at indices number h = object_from (a.object_of kind_of x) x name_at at indices number h
 
   -- as a start routine, by whether it is defined
   pub routine_is : (h : Header) (name_at at : ℕ) (ps : Parts) → Plain (finds_if (is_none h.definition) rule.Unknown name_at) ps → Plain (a.routine h name_at at) ps

@@ -1,10 +1,10 @@
 -- Second routines: the creates of a text by the relation, and by what is noted of them.
 use Rattle.std.proofs.Common.{◌≡◌, refl, sym, subst, ap, ◌∙◌, inl, inr, ℕ, zero, suc, ◌<◌, ◌≤◌, Bool, true, false, List, [], ◌∷◌, ◌++◌, length, Option, Some, None, arith}
-use Rattle.std.specs.Prelude.{◌≢◌, ◌⊎◌, ◌&&◌, fold, not, is_some, nat_eq, if◌then◌else◌, slice_get}
+use Rattle.std.specs.Prelude.{◌≢◌, ◌⊎◌, ◌&&◌, fold, not, is_some, nat_eq, nat_le, if◌then◌else◌, slice_get}
 use Rattle.std.specs.List.{flat_map}
 use Rattle.std.proofs.lemmas.Option.{same_Some, none-some, slice_get_within, cond_some}
 use Rattle.std.proofs.lemmas.List.{length-append}
-use Rattle.std.proofs.lemmas.Bool.{ne_eqb, eq-eqb, eqb-true, false≢true}
+use Rattle.std.proofs.lemmas.Bool.{ne_eqb, eq-eqb, eqb-true, false≢true, leb-true, le-leb, and_parts, and_from}
 use Rattle.lists.proofs.Places.{get_front, get_middle}
 use Rattle.c_tree.specs.declared.expression.Name.{Name}
 use Rattle.c_tree.specs.declared.expression.Specifiers.{Specifiers}
@@ -79,8 +79,16 @@ thread_base : (b : BaseType) → is_thread_base b ≡ true → b ≡ base.Thread
 thread_base base.Thread h = refl
 thread_base other h = absurd (false≢true h)
 
-is_object : (words : Specifiers) (pointer : Bool) (d : GlobalDeclarator) → is_thread words pointer ≡ true → IsThreadObject (Declared.OfObject words pointer d)
-is_object words pointer d h = let t = two pointer (is_thread_base (base_of words.words)) h in (t.0, thread_base (base_of words.words) t.1)
+is_object : (words : Specifiers) (pointer : Bool) (d : GlobalDeclarator) → is_thread words pointer d ≡ true → IsThreadObject (Declared.OfObject words pointer d)
+is_object words pointer d h =
+    let t = two pointer (is_thread_base (base_of words.words) && nat_le (length d.lengths) 1) h in
+    let u = and_parts (is_thread_base (base_of words.words)) (nat_le (length d.lengths) 1) t.1 in
+    (t.0, thread_base (base_of words.words) u.0, leb-true (length d.lengths) 1 u.1)
+
+object_is_thread : (words : Specifiers) (pointer : Bool) (d : GlobalDeclarator) → IsThreadObject (Declared.OfObject words pointer d) → is_thread words pointer d ≡ true
+object_is_thread words pointer d object =
+    two_back pointer (is_thread_base (base_of words.words) && nat_le (length d.lengths) 1) object.0
+    (and_from (is_thread_base (base_of words.words)) (nat_le (length d.lengths) 1) (ap is_thread_base object.1) (le-leb (length d.lengths) 1 object.2))
 
 -- what the parts of a create are
 made_is : (t m : Option ℕ) (at : ℕ) (x : Creation) → made t m at ≡ Some x → (t ≡ Some x.thread) × (m ≡ Some x.routine) × (at ≡ x.offset)
@@ -101,7 +109,7 @@ module _ (D : List (List ℕ × ℕ)) (T : List (List ℕ)) where
   object_is (Some f) declared key k e = absurd (none-some k e)
   object_is None None key k e = absurd (none-some k e)
   object_is None (Some (Declared.OfObject words pointer d)) key k e =
-      record { own_is = refl; d = Declared.OfObject words pointer d; is = refl; object = is_object words pointer d (cond_some (is_thread words pointer) (first_index T key) k e).0 }
+      record { own_is = refl; d = Declared.OfObject words pointer d; is = refl; object = is_object words pointer d (cond_some (is_thread words pointer d) (first_index T key) k e).0 }
   object_is None (Some (Declared.OfFunction f)) key k e = absurd (none-some k e)
   object_is None (Some (Declared.OfParameter v)) key k e = absurd (none-some k e)
   object_is None (Some (Declared.OfVariable words d)) key k e = absurd (none-some k e)
@@ -111,7 +119,7 @@ module _ (D : List (List ℕ × ℕ)) (T : List (List ℕ)) where
   object_back own declared key (Declared.OfObject words pointer d) own_is is object =
       ap (λ o. object_number D T o declared key) own_is ∙ ap (λ o. object_number D T None o key) is
       ∙ ap (λ b. if b then Some (first_index T key) else None)
-      (two_back pointer (is_thread_base (base_of words.words)) object.0 (ap is_thread_base object.1))
+      (object_is_thread words pointer d object)
   object_back own declared key (Declared.OfFunction f) own_is is object = absurd object
   object_back own declared key (Declared.OfParameter v) own_is is object = absurd object
   object_back own declared key (Declared.OfVariable words d) own_is is object = absurd object
@@ -269,6 +277,7 @@ module _ (D : List (List ℕ × ℕ)) (T : List (List ℕ)) where
   index_below (Part.Length v) x bounded e = absurd (none-some x e)
   index_below (Part.Initial v) x bounded e = absurd (none-some x e)
   index_below (Part.Listed size index v) x bounded e = absurd (none-some x e)
+  index_below (Part.Label w over before l) x bounded e = absurd (none-some x e)
   index_below (Part.Print name arguments) x bounded e = absurd (none-some x e)
   index_below (Part.Declares w name d) x bounded e = absurd (none-some x e)
   index_below (Part.Local words at) x bounded e = absurd (none-some x e)
@@ -368,6 +377,7 @@ module _ (tree : TranslationUnit) (few : IsOfFewNames tree) where
   create_at i (Part.Length v) x at site = absurd (none-some x site)
   create_at i (Part.Initial v) x at site = absurd (none-some x site)
   create_at i (Part.Listed size index v) x at site = absurd (none-some x site)
+  create_at i (Part.Label w over before l) x at site = absurd (none-some x site)
   create_at i (Part.Print name arguments) x at site = absurd (none-some x site)
   create_at i (Part.Declares w name d) x at site = absurd (none-some x site)
   create_at i (Part.Local words place) x at site = absurd (none-some x site)

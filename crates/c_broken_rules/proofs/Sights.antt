@@ -6,6 +6,7 @@ use Rattle.std.specs.Str.{bytes_eq}
 use Rattle.std.proofs.lemmas.Slice.Eq.{bytes_eq-Decides}
 use Rattle.std.proofs.lemmas.Option.{same_Some, none-some}
 use Rattle.lists.proofs.Places.{length_more, get_last, get_front}
+use Rattle.hls_ints.specs.Types.{int_type}
 use Rattle.c_tree.specs.declared.declaration.Function.{Function}
 use Rattle.c_rules.specs.declared.names.Meaning.{Meaning}
 use Rattle.c_rules.specs.declared.names.Meaning.TheVariants as meaning
@@ -20,7 +21,8 @@ use Rattle.c_rules.specs.Names.{or_else, declared, declared_outside, look_up, kn
 use Rattle.c_resolution.specs.Resolving.{scope_with}
 use Rattle.c_resolution.specs.Functions as y
 use Rattle.c_broken_rules.specs.Sight.{Declared, Names, Where, declaration_in, with_names, inside}
-use Rattle.c_broken_rules.proofs.Walks.{IsUsual, IsParameter, IsGlobal, IsOpen, is_thread, is_thread_object, within}
+use Rattle.c_broken_rules.specs.Typing.{plain_type, type_of_words}
+use Rattle.c_broken_rules.proofs.Walks.{IsUsual, IsParameter, IsGlobal, IsOpen, is_thread, is_thread_object, type_of_meaning, within}
 
 -- ---- what a name stands for is one thing
 
@@ -78,9 +80,10 @@ module _ (D : List (List ℕ × ℕ)) where
   MeansIn headers (Declared.OfFunction f) (meaning.Object o) = ⊥
   MeansIn headers (Declared.OfFunction f) meaning.Argument = ⊥
   MeansIn headers (Declared.OfFunction f) meaning.Unusable = ⊥
-  MeansIn headers (Declared.OfParameter q) m = IsParameter q.is_pointer m
-  MeansIn headers (Declared.OfVariable words d) m = IsUsual m
-  MeansIn headers (Declared.OfObject words pointer d) m = IsGlobal m × (is_thread_object m ≡ is_thread words pointer)
+  MeansIn headers (Declared.OfParameter q) m = IsParameter q.is_pointer m × (type_of_meaning m ≡ (if q.is_pointer then int_type else plain_type q.specifiers))
+  MeansIn headers (Declared.OfVariable words d) m = IsUsual m × (type_of_meaning m ≡ plain_type words)
+  MeansIn headers (Declared.OfObject words pointer d) m =
+      IsGlobal m × (is_thread_object m ≡ is_thread words pointer d) × (type_of_meaning m ≡ (if pointer then int_type else type_of_words words))
 
   abbrev pub Same : List Header → Option Declared → Option Meaning → Type 0
   Same headers None None = Unit {0}

@@ -15,7 +15,7 @@ use Rattle.c_rules.specs.Findings.{nothing}
 use Rattle.c_rules.specs.Names as names
 use Rattle.c_rules.specs.Names.{look_up}
 use Rattle.c_rules.specs.Walks.{Outcome, through, place_in_tree}
-use Rattle.c_calls.specs.Arguments as a
+use Rattle.c_expressions.specs.Expressions as e
 use Rattle.c_calls.specs.Calls as k
 use Rattle.c_resolution.specs.Files.{File}
 use Rattle.c_resolution.specs.Functions as y
@@ -87,26 +87,28 @@ module _ (D : List (List ℕ × ℕ)) where
       record {
         other = o;
         constant = λ v at. quiet L (Part.Constant v at) (λ x h. h) (q.constant_is L constants v at);
-        used = λ name index. quiet L (Part.Use w name) (λ x h. h) (q.named_value L o (look_up s name.bytes) name.offset (Some index) (λ _. unknown) (λ _ _. threads));
-        read = λ name. quiet L (Part.Use w name) (λ x h. h) (quiet L (Part.Read w name) (λ x h. h) (q.named_value L o (look_up s name.bytes) name.offset None (λ _. unknown) (λ _ _. threads)));
-        converted = λ name h. quiet L (Part.Use w name) (λ x h. h) (q.named_value L o (look_up s name.bytes) name.offset None (λ _. unknown) (λ _ _. threads));
+        used = λ name more. quiet L (Part.Use w name) (λ x h. h) (q.misuse_quiet L o (look_up s name.bytes) (suc more) name.offset (λ _. unknown) (λ _ _. threads));
+        read = λ name. quiet L (Part.Use w name) (λ x h. h) (quiet L (Part.Read w name) (λ x h. h) (q.misuse_quiet L o (look_up s name.bytes) 0 name.offset (λ _. unknown) (λ _ _. threads)));
+        converted = λ name h. quiet L (Part.Use w name) (λ x h. h) (q.misuse_quiet L o (look_up s name.bytes) 0 name.offset (λ _. unknown) (λ _ _. threads));
         argument = λ name h x k. k;
-        target = λ name indexed. quiet L (Part.Use w name) (λ x h. h) (q.target_quiet L o (look_up s name.bytes) indexed name.offset (λ _. unknown));
-        object = λ kind name at index. quiet L (Part.Use w name) (λ x h. h) (q.object_named L o kind (look_up s name.bytes) name.offset at index (λ _. unknown));
-        routine = λ name h at is. quiet L (Part.Routine w name) (λ x h. h) (quiet L (Part.Use w name) (λ x h. h) (quiet L (Part.Read w name) (λ x h. h) (q.routine_quiet L o unknown h name.offset at)));
+        target = λ name indices. quiet L (Part.Use w name) (λ x h. h) (q.target_quiet L o (look_up s name.bytes) indices name.offset (λ _. unknown));
+        object = λ kind name at indices number. quiet L (Part.Use w name) (λ x h. h)
+            (q.object_named L o kind (look_up s name.bytes) name.offset at indices number (λ _. unknown));
+        routine = λ name h at is.
+            quiet L (Part.Routine w name) (λ x h. h) (quiet L (Part.Use w name) (λ x h. h) (quiet L (Part.Read w name) (λ x h. h) (q.routine_quiet L o unknown h name.offset at)));
         no_routine = λ name is x k. k;
-        misplaced = λ name count. u.misplaced_is D s w name count stands (look_up s name.bytes) refl;
+        misplaced = λ name count none. u.misplaced_is D s w name count stands none;
         library = λ name function count is. u.library_is D s w name function count stands is;
         function = λ name number count is_value is. u.function_is D s w name number count is_value stands is;
         no_function = λ name none own. u.no_function D s w name stands none;
         print = λ name first values. quiet L (Part.Print name (first ∷ values)) (λ x h. h)
-            (q.broken_if L (not (k.takes (k.format first) (length values))) rule.Format (a.argument_offset first) formats);
+            (q.broken_if L (not (k.takes (k.format first) (length values))) rule.Format (e.argument_offset first) formats);
         no_print = λ name. quiet L (Part.Print name []) (λ x h. h) (formats name.offset);
         length = λ v. quiet L (Part.Length v) (λ x h. h) (q.length_is L constants (constancy v) (out-Expression v).offset);
         local = λ words at is. quiet L (Part.Local words at) (λ x h. h) (q.local_quiet L o threads words at);
         no_local = λ words at ty is x k. k;
         initial = λ ty v. quiet L (Part.Initial v) (λ x h. h) (q.initial_is L constants ty (constancy v) (out-Expression v).offset);
-        listed = λ size v n index is. quiet L (Part.Listed size index v) (λ x h. h) (q.broken_if L _ rule.Constant (out-Expression v).offset constants);
+        listed = λ lengths n index at is. quiet L (Part.Listed lengths index at) (λ x h. h) (q.broken_if L _ rule.Constant at constants);
       }
 
   -- ---- scopes that open and close
@@ -166,7 +168,7 @@ module _ (tree : TranslationUnit) (few : IsOfFew tree) where
         is_open = λ s w h. N.is_open s w h.names;
         closed = λ s scope w is h. record { names = N.closed s scope w is h.names; function = closed_is D s ∙ h.function };
         no_names = λ s w h. record { names = N.no_names s w h.names; function = h.function };
-        loops = λ s w n h. record { names = N.loops s w n h.names; function = h.function };
+        loops = λ s w n m h. record { names = N.loops s w n m h.names; function = h.function };
         local = λ s w l h. record { names = N.local s w l h.names; function = h.function };
         declares = λ x w name d o h means.
             let still = q.declare_is L (others D) twice name o x in
@@ -177,6 +179,11 @@ module _ (tree : TranslationUnit) (few : IsOfFew tree) where
             };
         variable = N.variable;
         parameter = N.parameter;
+        IsSwitched = λ w over ty. Unit {0};
+        switched = λ s w over at cuts found h. tt;
+        case = λ s w over ty before l v c h is noted some. quiet L (Part.Label w over before l) (λ x k. k)
+            (q.noted_quiet L twice (broken D rule.Constant (λ j. j)) ty (constancy v) (out-Expression v).offset c);
+        default = λ s w over ty before l c h is noted none. quiet L (Part.Label w over before l) (λ x k. k) (q.default_quiet L twice l.offset c);
         Held = N.Held;
         object = N.object;
         held_object = N.held_object;

@@ -11,7 +11,6 @@ use Rattle.c_rules.specs.declared.fault.Fault.{Fault}
 use Rattle.c_rules.specs.declared.findings.CallSite.{CallSite}
 use Rattle.c_rules.specs.declared.findings.Findings.{Findings}
 use Rattle.c_rules.specs.declared.library.LibraryFunction.{LibraryFunction}
-use Rattle.c_rules.specs.declared.names.Meaning.{Meaning}
 use Rattle.c_rules.specs.declared.names.Meaning.TheVariants as meaning
 use Rattle.c_rules.specs.declared.names.Known.{Known}
 use Rattle.c_rules.specs.declared.names.Known.TheVariants as known
@@ -20,16 +19,14 @@ use Rattle.c_rules.specs.Faults.{first, is_before}
 use Rattle.c_rules.specs.Findings as findings
 use Rattle.c_rules.specs.Levels.{named_in}
 use Rattle.c_rules.specs.Names.{look_up}
-use Rattle.c_rules.specs.Walks.{Finds, pure, finds_if, calls, creates}
+use Rattle.c_rules.specs.Walks.{Finds, pure, calls, creates}
 use Rattle.c_expressions.specs.Callees as c
-use Rattle.c_calls.specs.Arguments as a
-use Rattle.c_calls.specs.Calls as k
 use Rattle.c_broken_rules.specs.Sight.{Declared, Where}
 use Rattle.c_broken_rules.specs.Parts.{Part, Parts}
 use Rattle.c_broken_rules.specs.Breaks.{StandsFor, IsIn}
 use Rattle.c_broken_rules.proofs.Ledgers.{Ledger, Entered, Good, good_pure, good_then, good_before, nothing_new, quiet}
-use Rattle.c_broken_rules.proofs.Sights.{Agrees, sees, header_in, same_function, same_meaning, not_library, not_nothing}
-use Rattle.c_broken_rules.proofs.UnknownNames.{IsNoFunction, named_function, no_function_meant, not_function}
+use Rattle.c_broken_rules.proofs.Sights.{Agrees, sees, header_in, same_function, not_library}
+use Rattle.c_broken_rules.proofs.UnknownNames.{named_function, no_function_meant}
 use Rattle.c_broken_rules.proofs.Quiets as q
 use Rattle.c_broken_rules.proofs.Quiets.{IsQuiet, OthersAreQuiet}
 use Rattle.c_broken_rules.proofs.Events.{IsOther}
@@ -268,29 +265,17 @@ module _ (D : List (List ℕ × ℕ)) where
       no_call s w name stands (known.Library f) is (λ n e. not_library f (meaning.Function n) e)
       (q.library_quiet site_ledger others (broken rule.Unknown (λ h. h)) (broken rule.Threads (λ h. h)) s f count name.offset)
 
-  other_call : {A : Type 0} {v : Finds A} (s : Scope) (w : Where) (name : Name) → Stands s w → (m : Meaning) → look_up s name.bytes ≡ known.Declared m → IsNoFunction m →
-      Plain v [] → Plain v (Part.Call w name ∷ [])
-  other_call s w name stands m is none h = no_call s w name stands (known.Declared m) is (λ n e. not_function m n none (same_meaning m (meaning.Function n) e)) h
+  no_number : (x : Known) (n : ℕ) → c.number_of x ≡ None → x ≡ known.Declared (meaning.Function n) → ⊥
+  no_number x n none e = none-some n (sym none ∙ ap c.number_of e)
 
-  pub misplaced_is : (s : Scope) (w : Where) (name : Name) (count : ℕ) → Stands s w → (x : Known) → look_up s name.bytes ≡ x →
-      Plain (c.misplaced_name s x count name.offset) (Part.Call w name ∷ [])
-  unfolding c.misplaced_name
-  misplaced_is s w name count stands (known.Library f) is = library_is s w name f count stands is
-  misplaced_is s w name count stands (known.Declared (meaning.Function n)) is =
-      good_before site_ledger (c.function_name s n count true name.offset) (λ _. pure tt) (Part.Call w name ∷ []) (function_is s w name n count true stands is)
-      (λ _. good_pure site_ledger tt)
-  misplaced_is s w name count stands (known.Declared meaning.Unusable) is = other_call s w name stands meaning.Unusable is tt (good_pure site_ledger tt)
-  misplaced_is s w name count stands (known.Declared (meaning.Variable v)) is = other_call s w name stands (meaning.Variable v) is tt (broken rule.Kind (λ h. h) name.offset)
-  misplaced_is s w name count stands (known.Declared meaning.Argument) is = other_call s w name stands meaning.Argument is tt (broken rule.Kind (λ h. h) name.offset)
-  misplaced_is s w name count stands (known.Declared (meaning.Object o)) is = other_call s w name stands (meaning.Object o) is tt (broken rule.Kind (λ h. h) name.offset)
-  misplaced_is s w name count stands known.Unknown is =
-      no_call s w name stands known.Unknown is (λ n e. not_nothing (meaning.Function n) e) (broken rule.Unknown (λ h. h) name.offset)
+  pub misplaced_is : (s : Scope) (w : Where) (name : Name) (count : ℕ) → Stands s w → c.number_of (look_up s name.bytes) ≡ None →
+      Plain (c.misplaced s (look_up s name.bytes) count name.offset) (Part.Call w name ∷ [])
+  misplaced_is s w name count stands none =
+      no_call s w name stands (look_up s name.bytes) refl (λ n e. no_number (look_up s name.bytes) n none e)
+      (q.misplaced_quiet site_ledger others (broken rule.Unknown (λ h. h)) (broken rule.Threads (λ h. h)) s (look_up s name.bytes) count name.offset)
 
-  no_number : (x : Known) (n : ℕ) → k.number_of x ≡ None → x ≡ known.Declared (meaning.Function n) → ⊥
-  no_number x n none e = none-some n (sym none ∙ ap k.number_of e)
-
-  pub no_function : (s : Scope) (w : Where) (name : Name) → Stands s w → k.number_of (look_up s name.bytes) ≡ None →
-      Plain (finds_if (a.is_unknown (look_up s name.bytes)) rule.Unknown name.offset) (Part.Call w name ∷ [])
+  pub no_function : (s : Scope) (w : Where) (name : Name) → Stands s w → c.number_of (look_up s name.bytes) ≡ None →
+      Plain (c.no_function (look_up s name.bytes) name.offset) (Part.Call w name ∷ [])
   no_function s w name stands none =
       no_call s w name stands (look_up s name.bytes) refl (λ n e. no_number (look_up s name.bytes) n none e)
-      (q.broken_if site_ledger (a.is_unknown (look_up s name.bytes)) rule.Unknown name.offset (broken rule.Unknown (λ h. h)))
+      (q.no_function_quiet site_ledger others (broken rule.Unknown (λ h. h)) (broken rule.Threads (λ h. h)) (look_up s name.bytes) name.offset)

@@ -11,7 +11,7 @@ use Rattle.c_broken_rules.proofs.Walks.{is_thread}
 
 -- whether a name is declared as a thread object at file scope
 abbrev pub is_thread_declared : Declared → Bool
-is_thread_declared (Declared.OfObject words pointer d) = is_thread words pointer
+is_thread_declared (Declared.OfObject words pointer d) = is_thread words pointer d
 is_thread_declared other = false
 
 abbrev pub thread_by : Bool → List ℕ → List (List ℕ)

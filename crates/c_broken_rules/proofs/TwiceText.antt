@@ -1,14 +1,19 @@
 -- Names that are declared twice: the first fault of a text, where it defines fewer than 2 ^ 32 functions.
-use Rattle.std.proofs.Common.{◌≡◌, refl, sym, subst, ap, ◌∙◌, ℕ, Bool, true, false, List, [], ◌∷◌, ◌++◌, length, Option, Some, append-nil, inl, inr}
+use Rattle.std.proofs.Common.{◌≡◌, refl, sym, subst, ap, ◌∙◌, ℕ, Bool, true, false, List, [], ◌∷◌, ◌++◌, length, Option, Some, None, append-nil, inl, inr, ℤ}
 use Rattle.std.proofs.lemmas.Bool.{false≢true, and_parts}
 use Rattle.std.specs.Prelude.{◌&&◌, Contains, is_some, not, if◌then◌else◌, ◌⊎◌}
 use Rattle.c_tree.specs.declared.expression.Name.{Name}
+use Rattle.c_tree.specs.declared.expression.Expression.{Expression, out-Expression}
+use Rattle.c_tree.specs.declared.statement.CaseLabel.{CaseLabel}
 use Rattle.c_tree.specs.declared.declaration.Function.{Function}
 use Rattle.c_tree.specs.declared.declaration.TranslationUnit.{TranslationUnit}
 use Rattle.c_rules.specs.declared.fault.Rule.{Rule}
 use Rattle.c_rules.specs.declared.fault.Fault.{Fault}
 use Rattle.c_rules.specs.declared.fault.Rule.TheVariants as rule
 use Rattle.c_rules.specs.declared.names.Header.{Header}
+use Rattle.c_rules.specs.declared.constants.Constancy.{Constancy}
+use Rattle.c_rules.specs.declared.constants.Constancy.TheVariants as is
+use Rattle.c_rules.specs.Constants.{constancy}
 use Rattle.c_rules.specs.Findings.{nothing}
 use Rattle.c_rules.specs.Levels.{named_in}
 use Rattle.c_resolution.specs.Functions as y
@@ -17,13 +22,15 @@ use Rattle.c_resolution.specs.Resolving as resolving
 use Rattle.c_resolution.specs.Texts as t
 use Rattle.c_broken_rules.specs.Sight.{Declared, Where, behind, with_names}
 use Rattle.c_broken_rules.specs.Parts.{Part, parts, function_names, at_first}
-use Rattle.c_broken_rules.proofs.Ledgers.{Writes}
+use Rattle.c_broken_rules.proofs.Ledgers.{Ledger, Writes, any_contains, contains_any}
 use Rattle.c_broken_rules.proofs.Walks.{Scoping}
 use Rattle.c_broken_rules.proofs.Calls.{no_creates}
 use Rattle.c_broken_rules.proofs.Functions.{text_is}
 use Rattle.c_broken_rules.proofs.Sights.{Agrees, header_in, same_function}
 use Rattle.c_broken_rules.specs.Breaks.{innermost}
-use Rattle.c_broken_rules.proofs.Twice.{IsJudged, BreaksAt, IsTwice, twice_ledger, creation_quiet}
+use Rattle.c_broken_rules.proofs.Labels.{IsValue, IsCaseOf}
+use Rattle.c_broken_rules.proofs.Twice.{IsJudged, BreaksAt, IsTwice, IsSecondCase, IsSecondDefault, twice_ledger, creation_quiet, case_is, default_is}
+use Rattle.c_broken_rules.proofs.Types.{switch_type_is}
 use Rattle.c_broken_rules.proofs.NameScope.{IsMeant}
 use Rattle.std.proofs.Common.{suc, ◌<◌, ◌≤◌, append_assoc, append-nil, arith}
 use Rattle.std.specs.Prelude.{◌+◌, ◌^◌}
@@ -36,7 +43,8 @@ use Rattle.c_tree.specs.declared.declaration.GlobalDeclarator.{GlobalDeclarator}
 use Rattle.c_tree.specs.declared.expression.Specifiers.{Specifiers as Words}
 use Rattle.c_rules.specs.Walks.{place_in_tree}
 use Rattle.c_resolution.specs.Resolving.{IsFirstFault}
-use Rattle.c_broken_rules.specs.Breaks.{Breaks, definitions, definition_in, definition_by}
+use Rattle.c_broken_rules.specs.Breaks.{Breaks, IsCase, definitions, definition_in, definition_by}
+use Rattle.c_broken_rules.specs.Typing.{switch_type}
 use Rattle.c_broken_rules.specs.Laws.{FaultsAreBrokenOfFew, BrokenAreFaultsOfFew, IsNotBehind, IsOfFew}
 use Rattle.c_broken_rules.specs.Parts.{names_of, number_behind, objects_names}
 use Rattle.c_broken_rules.proofs.NameScope as n
@@ -217,24 +225,34 @@ module _ (tree : TranslationUnit) (few : IsOfFew tree) where
             (numbers ∙ second_number B f rest tree.declarations here.text n here.count (few_before B (external.Function f ∷ rest) n here.text here.count) some));
       }
 
-  scoping_twice : Scoping twice_ledger
+  abbrev F : List Function
+  F = definitions tree.declarations
+
+  abbrev L : Ledger
+  L = twice_ledger F
+
+  scoping_twice : Scoping L
   unfolding n.scoping_named
   scoping_twice =
       let N = n.scoping_named D in
       record {
         Agrees = Agrees D;
         Means = λ w name. IsMeant D;
-        events = λ s w agrees. h.events s w;
-        creates = λ s w agrees. no_creates twice_ledger s w (h.events s w) creation_quiet (λ thread name x k. k);
+        events = λ s w agrees. h.events F s w;
+        creates = λ s w agrees. no_creates L s w (h.events F s w) (creation_quiet F) (λ thread name x k. k);
         opened = N.opened;
         is_open = N.is_open;
         closed = N.closed;
         no_names = N.no_names;
         loops = N.loops;
         local = N.local;
-        declares = λ x w name d o agrees means. record { writes = h.declares D x w name d o agrees means; agrees = (N.declares x w name d o agrees means).agrees; value = tt };
+        declares = λ x w name d o agrees means. record { writes = h.declares D F x w name d o agrees means; agrees = (N.declares x w name d o agrees means).agrees; value = tt };
         variable = N.variable;
         parameter = N.parameter;
+        IsSwitched = λ w over ty. ty ≡ switch_type F w over;
+        switched = λ s w over at cuts found agrees. switch_type_is tree s w over at cuts found agrees;
+        case = λ s w over ty before l e c agrees typed noted some. case_is F w over ty typed before l c noted e some;
+        default = λ s w over ty before l c agrees typed noted none. default_is F w over ty typed before l c noted none;
         Held = N.Held;
         object = N.object;
         held_object = N.held_object;
@@ -246,7 +264,7 @@ module _ (tree : TranslationUnit) (few : IsOfFew tree) where
         header = N.header;
         gives = λ s w k rest g here agrees. N.gives s w k rest g tt agrees;
         declares_function = λ x w k f z rest here agrees is. record {
-          writes = h.function_declared D x w f z (y.is_second f z k) agrees (second_is w k f z rest here is);
+          writes = h.function_declared D F x w f z (y.is_second f z k) agrees (second_is w k f z rest here is);
           agrees = (N.declares_function x w k f z rest tt agrees is).agrees;
           value = tt;
         };
@@ -255,10 +273,10 @@ module _ (tree : TranslationUnit) (few : IsOfFew tree) where
         no_locals = N.no_locals;
       }
 
-  text_twice : Writes twice_ledger nothing (resolving.behind tree.declarations).found (parts tree)
+  text_twice : Writes L nothing (resolving.behind tree.declarations).found (parts tree)
   unfolding resolving.behind t.declarations scoping_twice
   text_twice =
-      text_is twice_ledger scoping_twice tree.declarations tt at_first 0 (record { before = []; text = refl; scope = refl; count = refl }) (before tree.declarations) tt
+      text_is L scoping_twice tree.declarations tt at_first 0 (record { before = []; text = refl; scope = refl; count = refl }) (before tree.declarations) tt
       (record { defined = refl; scopes = (record { same = λ key own. tt }, refl) }) refl
 
   -- ---- the rule
@@ -269,18 +287,45 @@ module _ (tree : TranslationUnit) (few : IsOfFew tree) where
   twice_breaks w name d c (inr (inr k)) =
       Breaks.SecondBody w name k.f k.g k.earlier (subst (λ z. Contains (parts tree) (Part.Declares w name z)) k.is c) k.first k.function k.before k.defined k.again
 
-  part_breaks : (at : ℕ) (part : Part) → Contains (parts tree) part → BreaksAt part (fault_of rule.Twice at) → Breaks tree rule.Twice at
+  -- a label is a case of the value
+  case_of : (w : Where) (over : Expression) (l : CaseLabel) (z : ℤ) (e : Expression) → l.value ≡ Some e → (k : Constancy) → constancy e ≡ k →
+      IsValue (switch_type F w over) k z → IsCase tree w over l z
+  case_of w over l z e some (is.Constant x) constant h = record { e = e; case = some; x = x; constant = constant; value = h }
+  case_of w over l z e some is.Unknown constant h = absurd h
+  case_of w over l z e some is.NotConstant constant h = absurd h
+
+  case_by : (w : Where) (over : Expression) (l : CaseLabel) (z : ℤ) (v : Option Expression) → l.value ≡ v → IsCaseOf (switch_type F w over) v z → IsCase tree w over l z
+  case_by w over l z None e h = absurd h
+  case_by w over l z (Some x) e h = case_of w over l z x e (constancy x) refl h
+
+  case_is_value : (w : Where) (over : Expression) (l : CaseLabel) (z : ℤ) → IsCase tree w over l z → IsCaseOf (switch_type F w over) l.value z
+  case_is_value w over l z h =
+      subst (λ v. IsCaseOf (switch_type F w over) v z) (sym h.case) (subst (λ k. IsValue (switch_type F w over) k z) (sym h.constant) h.value)
+
+  label_breaks : (w : Where) (over : Expression) (before : List CaseLabel) (l : CaseLabel) (at : ℕ) → Contains (parts tree) (Part.Label w over before l) →
+      IsSecondCase F w over before l (fault_of rule.Twice at) ⊎ IsSecondDefault F before l (fault_of rule.Twice at) → Breaks tree rule.Twice at
+  label_breaks w over before l at c (inl h) =
+      let earlier = any_contains (λ (k : CaseLabel). IsCaseOf (switch_type F w over) k.value h.z) before h.seen in
+      at_place tree rule.Twice at (out-Expression h.e).offset h.here
+      (Breaks.SecondCase w over h.e before l earlier.0 h.z c h.case (case_by w over l h.z l.value refl h.value) earlier.1
+      (case_by w over earlier.0 h.z earlier.0.value refl earlier.2))
+  label_breaks w over before l at c (inr h) =
+      let earlier = any_contains (λ (k : CaseLabel). k.value ≡ None) before h.seen in
+      at_place tree rule.Twice at l.offset h.here (Breaks.SecondDefault w over before l earlier.0 c h.default earlier.1 earlier.2)
+
+  part_breaks : (at : ℕ) (part : Part) → Contains (parts tree) part → BreaksAt F part (fault_of rule.Twice at) → Breaks tree rule.Twice at
   part_breaks at (Part.Declares w name d) c h = at_place tree rule.Twice at name.offset h.1 (twice_breaks w name d c h.0)
+  part_breaks at (Part.Label w over before l) c h = label_breaks w over before l at c h
   part_breaks at other c h = absurd h
 
   pub sound : (at : ℕ) → IsFirstFault tree (Some (fault_of rule.Twice at)) → Breaks tree rule.Twice at
   sound at h =
-      let p = first_part IsJudged BreaksAt tree text_twice (fault_of rule.Twice at) tt tt h in
+      let p = first_part IsJudged (BreaksAt F) tree text_twice (fault_of rule.Twice at) tt tt h in
       part_breaks at p.0 p.1 p.2
 
   -- what breaks the rule is a part
   abbrev Broken : Rule → ℕ → Type 0
-  Broken rule.Twice at = IsPart BreaksAt tree (fault_of rule.Twice at)
+  Broken rule.Twice at = IsPart (BreaksAt F) tree (fault_of rule.Twice at)
   Broken r at = Unit {0}
 
   broken_part : (r : Rule) (at : ℕ) → Breaks tree r at → Broken r at
@@ -292,11 +337,28 @@ module _ (tree : TranslationUnit) (few : IsOfFew tree) where
     c,
     (inr (inr (record { f = f; is = refl; earlier = x; first = first; function = function; g = g; before = before; defined = defined; again = again })), refl),
   )
+  broken_part r at (Breaks.SecondCase w over e before label earlier z c here case seen also) = (
+    Part.Label w over before label,
+    c,
+    inl (record {
+      e = e;
+      case = here;
+      z = z;
+      value = case_is_value w over label z case;
+      seen = contains_any (λ (k : CaseLabel). IsCaseOf (switch_type F w over) k.value z) before earlier seen (case_is_value w over earlier z also);
+      here = refl;
+    }),
+  )
+  broken_part r at (Breaks.SecondDefault w over before label earlier c default seen also) = (
+    Part.Label w over before label,
+    c,
+    inr (record { default = default; seen = contains_any (λ (k : CaseLabel). k.value ≡ None) before earlier seen also; here = refl }),
+  )
   broken_part r at other = tt
 
   pub complete : (fault : Option Fault) (at : ℕ) → IsFirstFault tree fault → Breaks tree rule.Twice at → IsNotBehind fault rule.Twice at
   complete fault at h b =
-      not_behind fault rule.Twice at (part_reached IsJudged BreaksAt tree text_twice fault (fault_of rule.Twice at) h (broken_part rule.Twice at b))
+      not_behind fault rule.Twice at (part_reached IsJudged (BreaksAt F) tree text_twice fault (fault_of rule.Twice at) h (broken_part rule.Twice at b))
 
 pub twice_sound : FaultsAreBrokenOfFew rule.Twice
 twice_sound tree at few h = sound tree few at h

@@ -19,16 +19,15 @@ use Rattle.c_rules.specs.declared.names.Scope.{Scope}
 use Rattle.c_rules.specs.Levels.{named_in}
 use Rattle.c_rules.specs.Library.{function_named}
 use Rattle.c_rules.specs.Names.{look_up, is_argument, is_start_routine}
-use Rattle.c_rules.specs.Walks.{Finds, pure, finds, finds_if, finds_any}
+use Rattle.c_rules.specs.Walks.{Finds, finds, finds_if, finds_any}
 use Rattle.c_expressions.specs.Callees as c
 use Rattle.c_expressions.specs.Expressions as e
 use Rattle.c_expressions.specs.Targets as t
 use Rattle.c_calls.specs.Arguments as a
-use Rattle.c_calls.specs.Calls as k
 use Rattle.c_broken_rules.specs.Sight.{Declared, Where, declaration_in}
 use Rattle.c_broken_rules.specs.Parts.{Part, Parts}
 use Rattle.c_broken_rules.specs.Breaks.{IsUnknown, StandsFor}
-use Rattle.c_broken_rules.proofs.Ledgers.{Ledger, Good, good_pure, good_before, good_behind, nothing_new, quiet}
+use Rattle.c_broken_rules.proofs.Ledgers.{Ledger, Good, good_behind, nothing_new, quiet}
 use Rattle.c_broken_rules.proofs.Walks.{IsParameter}
 use Rattle.c_broken_rules.proofs.Sights.{Agrees, Sees, sees, MeansIn, header_in, same_function, same_meaning, not_library, not_nothing, unknown_library}
 use Rattle.c_broken_rules.proofs.Names as q
@@ -76,8 +75,8 @@ module _ (D : List (List ℕ × ℕ)) where
   function_by : (s : Scope) (w : Where) (name : Name) (number : ℕ) → function_named name.bytes ≡ None → (d : Declared) → declaration_in w.scopes name.bytes ≡ Some d →
       MeansIn D s.headers d (meaning.Function number) → IsFunctionName s w name number
   function_by s w name number own (Declared.OfFunction f) some means = record { f = f; means = record { declared = some; own = own }; header = means }
-  function_by s w name number own (Declared.OfParameter p) some means = absurd (no_parameter p.is_pointer number means)
-  function_by s w name number own (Declared.OfVariable words d) some means = absurd means
+  function_by s w name number own (Declared.OfParameter p) some means = absurd (no_parameter p.is_pointer number means.0)
+  function_by s w name number own (Declared.OfVariable words d) some means = absurd means.0
   function_by s w name number own (Declared.OfObject words pointer d) some means = absurd means.0
 
   pub named_function : (s : Scope) (w : Where) (name : Name) (number : ℕ) → Agrees D s w → look_up s name.bytes ≡ known.Declared (meaning.Function number) → IsFunctionName s w
@@ -137,15 +136,15 @@ module _ (D : List (List ℕ × ℕ)) where
       Good L (walk (look_up s name.bytes)) (Part.Use w name ∷ [])
   used s w name agrees {A} walk silent loud = used_by s w name (sees D s w name.bytes agrees) (look_up s name.bytes) refl A walk silent loud
 
-  pub value_is : (s : Scope) (w : Where) (name : Name) (index : Option Expression) → Agrees D s w → Good L (e.named_value (look_up s name.bytes) name.offset index)
+  pub value_is : (s : Scope) (w : Where) (name : Name) (indices : ℕ) → Agrees D s w → Good L (finds_any (e.misuse (look_up s name.bytes) indices) name.offset)
       (Part.Use w name ∷ [])
-  value_is s w name index agrees =
-      used s w name agrees (λ x. e.named_value x name.offset index) (λ x h. p.named_value L (q.others D) x name.offset index (is_quiet x h)
-      (λ _ _. q.other D rule.Threads (λ j. j))) (λ ps h. q.unknown_value D name.offset index ps h)
+  value_is s w name indices agrees =
+      used s w name agrees (λ x. finds_any (e.misuse x indices) name.offset) (λ x h. p.misuse_quiet L (q.others D) x indices name.offset (is_quiet x h)
+      (λ _ _. q.other D rule.Threads (λ j. j))) (λ ps h. q.unknown_value D name.offset indices ps h)
 
-  target_unknown : (name : Name) (indexed : Bool) (ps : Parts) → Good L (finds rule.Unknown name.offset) ps → Good L (finds_any (t.target_fault known.Unknown indexed)
+  target_unknown : (name : Name) (indices : ℕ) (ps : Parts) → Good L (finds rule.Unknown name.offset) ps → Good L (finds_any (t.target_fault known.Unknown indices)
       name.offset) ps
-  target_unknown name indexed ps h = record { writes = h.writes }
+  target_unknown name indices ps h = record { writes = h.writes }
 
   pub read_part : (w : Where) (name : Name) (ps : Parts) {A : Type 0} {walk : Finds A} → Good L walk ps → Good L walk (ps ++ Part.Read w name ∷ [])
   read_part w name ps h = good_behind L (Part.Read w name) ps (λ x k. k) h
@@ -202,34 +201,37 @@ module _ (D : List (List ℕ × ℕ)) where
   quiet_call s w name agrees x is h out walk_is =
       quiet L (Part.Call w name) (no_undefined s w name (sees D s w name.bytes agrees) (subst IsKnown (sym is) h) (λ n e. out n (sym is ∙ e))) walk_is
 
+  -- a name that is known
+  unknown_none : (x : Known) (at : ℕ) → IsKnown x → Good L (finds_if (c.is_unknown x) rule.Unknown at) []
+  unknown_none known.Unknown at h = absurd h
+  unknown_none (known.Declared m) at h = record { writes = λ found. nothing_new L found }
+  unknown_none (known.Library f) at h = record { writes = λ found. nothing_new L found }
+
+  known_call : (x : Known) (at : ℕ) → IsKnown x → Good L (c.no_function x at) []
+  known_call x at h = p.no_function_is L (q.others D) x at [] (unknown_none x at h)
+
   unknown_call : (s : Scope) (w : Where) (name : Name) → Agrees D s w → look_up s name.bytes ≡ known.Unknown → Good L (finds rule.Unknown name.offset) (Part.Call w name ∷ [])
   unknown_call s w name agrees is =
       q.part_fault D (Part.Call w name) name.offset (inl (is_unknown s w name (sees D s w name.bytes agrees) is), refl) (λ z h. h.1)
 
-  pub misplaced_by : (s : Scope) (w : Where) (name : Name) (count : ℕ) → Agrees D s w → (x : Known) → look_up s name.bytes ≡ x → Good L (c.misplaced_name s x count
-      name.offset) (Part.Call w name ∷ [])
-  unfolding c.misplaced_name
-  misplaced_by s w name count agrees (known.Library f) is = quiet_call s w name agrees (known.Library f) is tt (λ n e. not_library f (meaning.Function n) e)
-      (library_quiet s f count name.offset)
-  misplaced_by s w name count agrees (known.Declared (meaning.Function n)) is =
-      good_before L (c.function_name s n count true name.offset) (λ _. pure tt) (Part.Call w name ∷ []) (function_is s w name n count true agrees is) (λ _. good_pure L tt)
-  misplaced_by s w name count agrees (known.Declared meaning.Unusable) is =
-      quiet_call s w name agrees (known.Declared meaning.Unusable) is tt (λ n e. not_function meaning.Unusable n tt (same_meaning _ _ e)) (good_pure L tt)
-  misplaced_by s w name count agrees (known.Declared (meaning.Variable v)) is =
-      quiet_call s w name agrees (known.Declared (meaning.Variable v)) is tt (λ n e. not_function (meaning.Variable v) n tt (same_meaning _ _ e)) (q.other D rule.Kind (λ j. j) name.offset)
-  misplaced_by s w name count agrees (known.Declared meaning.Argument) is =
-      quiet_call s w name agrees (known.Declared meaning.Argument) is tt (λ n e. not_function meaning.Argument n tt (same_meaning _ _ e)) (q.other D rule.Kind (λ j. j) name.offset)
-  misplaced_by s w name count agrees (known.Declared (meaning.Object o)) is =
-      quiet_call s w name agrees (known.Declared (meaning.Object o)) is tt (λ n e. not_function (meaning.Object o) n tt (same_meaning _ _ e)) (q.other D rule.Kind (λ j. j) name.offset)
-  misplaced_by s w name count agrees known.Unknown is = record { writes = (unknown_call s w name agrees is).writes }
-
-  pub no_function_by : (s : Scope) (w : Where) (name : Name) → Agrees D s w → (x : Known) → look_up s name.bytes ≡ x → k.number_of x ≡ None →
-      Good L (finds_if (a.is_unknown x) rule.Unknown name.offset) (Part.Call w name ∷ [])
-  no_function_by s w name agrees known.Unknown is none = record { writes = (unknown_call s w name agrees is).writes }
+  -- what is no function, by whether it is unknown
+  pub no_function_by : (s : Scope) (w : Where) (name : Name) → Agrees D s w → (x : Known) → look_up s name.bytes ≡ x → c.number_of x ≡ None →
+      Good L (c.no_function x name.offset) (Part.Call w name ∷ [])
+  no_function_by s w name agrees known.Unknown is none =
+      p.no_function_is L (q.others D) known.Unknown name.offset (Part.Call w name ∷ []) (record { writes = (unknown_call s w name agrees is).writes })
   no_function_by s w name agrees (known.Library f) is none =
-      quiet_call s w name agrees (known.Library f) is tt (λ n e. not_library f (meaning.Function n) e) (record { writes = λ found. nothing_new L found })
+      quiet_call s w name agrees (known.Library f) is tt (λ n e. not_library f (meaning.Function n) e) (known_call (known.Library f) name.offset tt)
   no_function_by s w name agrees (known.Declared m) is none =
-      quiet_call s w name agrees (known.Declared m) is tt (λ n e. none-some n (sym none ∙ ap k.number_of e)) (record { writes = λ found. nothing_new L found })
+      quiet_call s w name agrees (known.Declared m) is tt (λ n e. none-some n (sym none ∙ ap c.number_of e)) (known_call (known.Declared m) name.offset tt)
+
+  pub misplaced_by : (s : Scope) (w : Where) (name : Name) (count : ℕ) → Agrees D s w → (x : Known) → look_up s name.bytes ≡ x → c.number_of x ≡ None →
+      Good L (c.misplaced s x count name.offset) (Part.Call w name ∷ [])
+  unfolding c.misplaced
+  misplaced_by s w name count agrees (known.Library f) is none =
+      quiet_call s w name agrees (known.Library f) is tt (λ n e. not_library f (meaning.Function n) e)
+      (p.library_value L (q.others D) s f count name.offset [] (library_quiet s f count name.offset))
+  misplaced_by s w name count agrees (known.Declared m) is none = no_function_by s w name agrees (known.Declared m) is none
+  misplaced_by s w name count agrees known.Unknown is none = no_function_by s w name agrees known.Unknown is none
 
   -- ---- start routines
 
@@ -262,16 +264,18 @@ module _ (D : List (List ℕ × ℕ)) where
 
   -- ---- the rest
 
-  pub target_is : (s : Scope) (w : Where) (name : Name) (indexed : Bool) → Agrees D s w →
-      Good L (finds_any (t.target_fault (look_up s name.bytes) indexed) name.offset) (Part.Use w name ∷ [])
-  target_is s w name indexed agrees =
-      used s w name agrees (λ x. finds_any (t.target_fault x indexed) name.offset) (λ x h. p.target_quiet L (q.others D) x indexed name.offset (is_quiet x h)) (λ ps h. target_unknown name indexed ps h)
+  pub target_is : (s : Scope) (w : Where) (name : Name) (indices : ℕ) → Agrees D s w →
+      Good L (finds_any (t.target_fault (look_up s name.bytes) indices) name.offset) (Part.Use w name ∷ [])
+  target_is s w name indices agrees =
+      used s w name agrees (λ x. finds_any (t.target_fault x indices) name.offset) (λ x h. p.target_quiet L (q.others D) x indices name.offset (is_quiet x h))
+      (λ ps h. target_unknown name indices ps h)
 
-  pub object_is : (s : Scope) (w : Where) (kind : ObjectKind) (name : Name) (at : ℕ) (index : Option Expression) → Agrees D s w →
-      Good L (a.object_named kind (look_up s name.bytes) name.offset at index) (Part.Use w name ∷ [])
-  object_is s w kind name at index agrees =
-      used s w name agrees (λ x. a.object_named kind x name.offset at index) (λ x h. p.object_named L (q.others D) kind x name.offset at index (is_quiet x h))
-      (λ ps h. q.unknown_object D kind name.offset at index ps h)
+  pub object_is : (s : Scope) (w : Where) (kind : ObjectKind) (name : Name) (at indices : ℕ) (number : Option Expression) → Agrees D s w →
+      Good L (a.object_named kind (look_up s name.bytes) name.offset at indices number) (Part.Use w name ∷ [])
+  object_is s w kind name at indices number agrees =
+      used s w name agrees (λ x. a.object_named kind x name.offset at indices number)
+      (λ x h. p.object_named L (q.others D) kind x name.offset at indices number (is_quiet x h))
+      (λ ps h. q.unknown_object D kind name.offset at indices number ps h)
 
   pub library_call : (s : Scope) (w : Where) (name : Name) (f : LibraryFunction) (count : ℕ) → Agrees D s w → look_up s name.bytes ≡ known.Library f →
       Good L (c.library_name s f count name.offset) (Part.Call w name ∷ [])

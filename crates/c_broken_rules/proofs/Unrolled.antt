@@ -1,7 +1,5 @@
 -- The parts of a tree by those of its own parts.
-use Rattle.std.proofs.Common.{◌≡◌, refl, ap, ◌∙◌, ℕ, ◌∷◌, Option, Some, None}
-use Rattle.std.specs.Prelude.{option_map}
-use Rattle.c_tree.specs.declared.expression.Name.{Name}
+use Rattle.std.proofs.Common.{◌≡◌, refl, ap, ◌∙◌, ℕ, List, [], ◌∷◌, map, Option, Some, None}
 use Rattle.c_tree.specs.declared.expression.Argument.{Argument as ArgumentTree, out-Argument}
 use Rattle.c_tree.specs.declared.expression.Form.{Form as FormTree, out-Form}
 use Rattle.c_tree.specs.declared.expression.Call.{Call as CallTree, out-Call}
@@ -10,13 +8,13 @@ use Rattle.c_tree.specs.declared.expression.Expression.{Expression as Expression
 use Rattle.c_tree.specs.declared.expression.Place.{Place as PlaceTree, out-Place}
 use Rattle.c_tree.specs.declared.expression.Pointer.{Pointer as PointerTree, out-Pointer}
 use Rattle.c_tree.specs.declared.expression.Term.{Term as TermTree}
-use Rattle.c_tree.specs.declared.expression.Argument.TheOpen.{Argument-F, Form-F, Place-F, Pointer-F}
-use Rattle.c_tree.specs.declared.expression.Argument.TheFolds.{map-Argument, map-Form, map-Place, map-Pointer}
+use Rattle.c_tree.specs.declared.expression.Argument.TheOpen.{Argument-F, Form-F, Pointer-F}
+use Rattle.c_tree.specs.declared.expression.Argument.TheFolds.{map-Argument, map-Form, map-Pointer}
 use Rattle.c_tree.specs.declared.expression.Argument.TheFolds.{fold-Form, fold-Call, fold-Choice, fold-Term}
 use Rattle.c_tree.specs.declared.expression.Argument.TheFolds.{fold_out-Argument, fold_out-Form, fold_out-Call, fold_out-Expression, fold_out-Place, fold_out-Pointer}
 use Rattle.c_broken_rules.specs.Sight.{Where}
 use Rattle.c_broken_rules.specs.Parts as p
-use Rattle.c_broken_rules.specs.Parts.{Part, Parts, Parted, Indexed, of_any}
+use Rattle.c_broken_rules.specs.Parts.{Part, Parts, Parted, Indexed, all_of, of_any, of_each}
 use Rattle.c_broken_rules.proofs.Values.{each_part}
 
 module _ (w : Where) where
@@ -58,13 +56,9 @@ module _ (w : Where) where
       (p.expression_layer w) (p.place_layer w) (p.pointer_layer w) (p.term_layer w) c ∙ ap (λ ps. Part.Call w (out-Call c).name ∷ ps) (each_part (p.argument_parts w)
       (out-Call c).arguments)
 
-  index_at : (name : Name) (index : Option ExpressionTree) → let y : Place-F ArgumentTree FormTree CallTree ChoiceTree ExpressionTree PlaceTree PointerTree TermTree =
-      record { name = name; index = index } in
-      (p.place_layer w (map-Place ArgumentTree FormTree CallTree ChoiceTree ExpressionTree PlaceTree PointerTree TermTree Parts Parted Parts Parts Parted Indexed Parts
-      Parts (p.argument_parts w) (form_parts) (inner_call_parts) (choice_parts) (p.parted w) (p.indexed w) (p.pointer_parts w) (term_parts) y)).index ≡ option_map (λ
-      (e : ExpressionTree). p.expression_parts w e) index
-  index_at name None = refl
-  index_at name (Some e) = refl
+  indices_at : (list : List ExpressionTree) → map (λ (e : Parted). e.parts) (map (p.parted w) list) ≡ map (p.expression_parts w) list
+  indices_at [] = refl
+  indices_at (e ∷ list) = ap (λ l. p.expression_parts w e ∷ l) (indices_at list)
 
   operand_at : (offset : ℕ) (operand : Option ExpressionTree) → let y : Pointer-F ArgumentTree FormTree CallTree ChoiceTree ExpressionTree PlaceTree PointerTree TermTree =
       record { offset = offset; operand = operand } in
@@ -78,9 +72,12 @@ module _ (w : Where) where
   place_name q = ap (λ (i : Indexed). i.name) (fold_out-Place Parts Parted Parts Parts Parted Indexed Parts Parts (p.argument_layer w) (p.form_layer w) (p.call_layer w)
       (p.choice_layer w) (p.expression_layer w) (p.place_layer w) (p.pointer_layer w) (p.term_layer w) q)
 
-  pub place_index : (q : PlaceTree) → (p.indexed w q).index ≡ option_map (λ (e : ExpressionTree). p.expression_parts w e) (out-Place q).index
-  place_index q = ap (λ (i : Indexed). i.index) (fold_out-Place Parts Parted Parts Parts Parted Indexed Parts Parts (p.argument_layer w) (p.form_layer w) (p.call_layer w)
-      (p.choice_layer w) (p.expression_layer w) (p.place_layer w) (p.pointer_layer w) (p.term_layer w) q) ∙ index_at (out-Place q).name (out-Place q).index
+  pub place_indices : (q : PlaceTree) → (p.indexed w q).indices ≡ map (p.expression_parts w) (out-Place q).indices
+  place_indices q = ap (λ (i : Indexed). i.indices) (fold_out-Place Parts Parted Parts Parts Parted Indexed Parts Parts (p.argument_layer w) (p.form_layer w) (p.call_layer
+      w) (p.choice_layer w) (p.expression_layer w) (p.place_layer w) (p.pointer_layer w) (p.term_layer w) q) ∙ indices_at (out-Place q).indices
+
+  pub indices_parts : (q : PlaceTree) → all_of (p.indexed w q).indices ≡ of_each (p.expression_parts w) (out-Place q).indices
+  indices_parts q = ap all_of (place_indices q) ∙ each_part (p.expression_parts w) (out-Place q).indices
 
   pub pointer_is : (q : PointerTree) → p.pointer_parts w q ≡ of_any (p.expression_parts w) (out-Pointer q).operand
   pointer_is q = fold_out-Pointer Parts Parted Parts Parts Parted Indexed Parts Parts (p.argument_layer w) (p.form_layer w) (p.call_layer w) (p.choice_layer w)

@@ -17,19 +17,18 @@ use Rattle.c_rules.specs.declared.names.Header.{Header}
 use Rattle.c_rules.specs.declared.names.Scope.{Scope}
 use Rattle.c_rules.specs.Library.{function_named}
 use Rattle.c_rules.specs.Names.{look_up, is_argument, is_start_routine, gives_pointer}
-use Rattle.c_rules.specs.Walks.{Finds, pure, finds_if}
+use Rattle.c_rules.specs.Walks.{Finds, finds, finds_if, finds_any}
 use Rattle.c_expressions.specs.Callees as c
 use Rattle.c_expressions.specs.Expressions as e
 use Rattle.c_calls.specs.Arguments as a
-use Rattle.c_calls.specs.Calls as k
 use Rattle.c_resolution.specs.Functions as y
 use Rattle.c_broken_rules.specs.Sight.{Declared, Where, declaration_in}
 use Rattle.c_broken_rules.specs.Parts.{Part}
 use Rattle.c_broken_rules.specs.Breaks.{StandsFor, IsElsewhere, IsMain, IsStartRoutine}
-use Rattle.c_broken_rules.proofs.Ledgers.{Ledger, Good, good_pure, good_before, quiet}
+use Rattle.c_broken_rules.proofs.Ledgers.{Ledger, Good, quiet}
 use Rattle.c_broken_rules.proofs.Walks.{IsParameter}
 use Rattle.c_broken_rules.proofs.Sights.{Agrees, Sees, sees, MeansIn, header_in, same_function, same_meaning, not_library, not_nothing, unknown_library}
-use Rattle.c_broken_rules.proofs.UnknownNames.{named_function, no_function_meant, not_function}
+use Rattle.c_broken_rules.proofs.UnknownNames.{IsNoFunction, named_function, no_function_meant, not_function}
 use Rattle.c_broken_rules.proofs.Headers.{main_is, main_back, routine_is, routine_back, pointer_is, pointer_back}
 use Rattle.c_broken_rules.proofs.Uses as q
 use Rattle.c_broken_rules.proofs.Uses.{IsRun, IsExit, IsPointer, BreaksAt, use_ledger}
@@ -107,7 +106,7 @@ module _ (D : List (List ℕ × ℕ)) where
   argument_by s w name (Sees.Nothing own none looks) u = absurd (none-some (Declared.OfParameter u.p) (sym none ∙ u.means.declared))
   argument_by s w name (Sees.Something own d m some looks means) u =
       let same = same_Some _ _ (sym some ∙ u.means.declared) in
-      looks ∙ ap known.Declared (pointer_means u.p.is_pointer m (subst (λ (x : Declared). MeansIn D s.headers x m) same means) u.pointer)
+      looks ∙ ap known.Declared (pointer_means u.p.is_pointer m (subst (λ (x : Declared). MeansIn D s.headers x m) same means).0 u.pointer)
 
   means_pointer : (b : Bool) → IsParameter b meaning.Argument → b ≡ true
   means_pointer true h = refl
@@ -116,9 +115,9 @@ module _ (D : List (List ℕ × ℕ)) where
   pointer_of : (s : Scope) (w : Where) (name : Name) → function_named name.bytes ≡ None → (d : Declared) → declaration_in w.scopes name.bytes ≡ Some d →
       MeansIn D s.headers d meaning.Argument → IsPointer w name
   pointer_of s w name own (Declared.OfParameter p) some means =
-      record { p = p; means = record { declared = some; own = own }; pointer = means_pointer p.is_pointer means }
+      record { p = p; means = record { declared = some; own = own }; pointer = means_pointer p.is_pointer means.0 }
   pointer_of s w name own (Declared.OfFunction f) some means = absurd means
-  pointer_of s w name own (Declared.OfVariable words d) some means = absurd means
+  pointer_of s w name own (Declared.OfVariable words d) some means = absurd means.0
   pointer_of s w name own (Declared.OfObject words pointer d) some means = absurd means.0
 
   pointer_seen : (s : Scope) (w : Where) (name : Name) → Sees D s w name.bytes → look_up s name.bytes ≡ known.Declared meaning.Argument → IsPointer w name
@@ -132,14 +131,14 @@ module _ (D : List (List ℕ × ℕ)) where
   no_read s w name agrees out x b = false≢true (sym out ∙ ap is_argument (argument_by s w name (sees D s w name.bytes agrees) b.0))
 
   quiet_read : (s : Scope) (w : Where) (name : Name) → Agrees D s w → (x : Known) → look_up s name.bytes ≡ x → is_argument x ≡ false →
-      Good L (e.named_value x name.offset None) (Part.Use w name ∷ Part.Read w name ∷ [])
+      Good L (finds_any (e.misuse x 0) name.offset) (Part.Use w name ∷ Part.Read w name ∷ [])
   quiet_read s w name agrees x is out =
       quiet L (Part.Use w name) (λ z h. h)
       (quiet L (Part.Read w name) (no_read s w name agrees (ap is_argument is ∙ out))
-      (p.named_value L q.others x name.offset None (λ _. q.other rule.Unknown (λ j. j)) (λ e _. absurd (false≢true (sym out ∙ ap is_argument e)))))
+      (p.misuse_quiet L q.others x 0 name.offset (λ _. q.other rule.Unknown (λ j. j)) (λ e _. absurd (false≢true (sym out ∙ ap is_argument e)))))
 
   pub read_by : (s : Scope) (w : Where) (name : Name) → Agrees D s w → (x : Known) → look_up s name.bytes ≡ x →
-      Good L (e.named_value x name.offset None) (Part.Use w name ∷ Part.Read w name ∷ [])
+      Good L (finds_any (e.misuse x 0) name.offset) (Part.Use w name ∷ Part.Read w name ∷ [])
   read_by s w name agrees (known.Declared meaning.Argument) is =
       q.argument_value name.offset (Part.Use w name ∷ Part.Read w name ∷ [])
       (quiet L (Part.Use w name) (λ z h. h)
@@ -244,30 +243,41 @@ module _ (D : List (List ℕ × ℕ)) where
   no_library : (m : Meaning) (f : LibraryFunction) → known.Declared m ≡ known.Library f → ⊥
   no_library m f h = not_library f m (sym h)
 
-  pub misplaced_by : (s : Scope) (w : Where) (name : Name) (count : ℕ) → Stands s w → (x : Known) → look_up s name.bytes ≡ x →
-      Good L (c.misplaced_name s x count name.offset) (Part.Call w name ∷ [])
-  unfolding c.misplaced_name
-  misplaced_by s w name count stands (known.Library f) is = library_call s w name f count stands is
-  misplaced_by s w name count stands (known.Declared (meaning.Function n)) is =
-      good_before L (c.function_name s n count true name.offset) (λ _. pure tt) (Part.Call w name ∷ []) (function_is s w name n count true stands.agrees is) (λ _. good_pure L tt)
-  misplaced_by s w name count stands (known.Declared meaning.Unusable) is =
-      quiet_call s w name stands.agrees (known.Declared meaning.Unusable) is (λ n e. not_function meaning.Unusable n tt (same_meaning _ _ e)) (no_library meaning.Unusable)
-      (good_pure L tt)
-  misplaced_by s w name count stands (known.Declared (meaning.Variable v)) is =
-      quiet_call s w name stands.agrees (known.Declared (meaning.Variable v)) is (λ n e. not_function (meaning.Variable v) n tt (same_meaning _ _ e))
-      (no_library (meaning.Variable v)) (q.other rule.Kind (λ j. j) name.offset)
-  misplaced_by s w name count stands (known.Declared meaning.Argument) is =
-      quiet_call s w name stands.agrees (known.Declared meaning.Argument) is (λ n e. not_function meaning.Argument n tt (same_meaning _ _ e)) (no_library meaning.Argument)
-      (q.other rule.Kind (λ j. j) name.offset)
-  misplaced_by s w name count stands (known.Declared (meaning.Object o)) is =
-      quiet_call s w name stands.agrees (known.Declared (meaning.Object o)) is (λ n e. not_function (meaning.Object o) n tt (same_meaning _ _ e)) (no_library (meaning.Object o))
-      (q.other rule.Kind (λ j. j) name.offset)
-  misplaced_by s w name count stands known.Unknown is =
-      quiet_call s w name stands.agrees known.Unknown is (λ n e. not_nothing (meaning.Function n) e) unknown_library (q.other rule.Unknown (λ j. j) name.offset)
+  other_call : (s : Scope) (w : Where) (name : Name) → Agrees D s w → (m : Meaning) → look_up s name.bytes ≡ known.Declared m → IsNoFunction m →
+      {A : Type 0} {walk : Finds A} → Good L walk [] → Good L walk (Part.Call w name ∷ [])
+  other_call s w name agrees m is none h =
+      quiet_call s w name agrees (known.Declared m) is (λ n e. not_function m n none (same_meaning _ _ e)) (no_library m) h
 
-  pub no_function_by : (s : Scope) (w : Where) (name : Name) → Agrees D s w → k.number_of (look_up s name.bytes) ≡ None →
+  unknown_rule : (at : ℕ) → Good L (finds rule.Unknown at) []
+  unknown_rule at = q.other rule.Unknown (λ j. j) at
+
+  no_function_found : (x : Known) (at : ℕ) → Good L (c.no_function x at) []
+  no_function_found x at = p.no_function_is L q.others x at [] (p.broken_if L (c.is_unknown x) rule.Unknown at unknown_rule)
+
+  no_named : (n : ℕ) → c.number_of (known.Declared (meaning.Function n)) ≡ None → ⊥
+  no_named n e = none-some n (sym e)
+
+  pub misplaced_by : (s : Scope) (w : Where) (name : Name) (count : ℕ) → Stands s w → (x : Known) → look_up s name.bytes ≡ x → c.number_of x ≡ None →
+      Good L (c.misplaced s x count name.offset) (Part.Call w name ∷ [])
+  unfolding c.misplaced
+  misplaced_by s w name count stands (known.Library f) is none =
+      p.library_value L q.others s f count name.offset (Part.Call w name ∷ []) (library_call s w name f count stands is)
+  misplaced_by s w name count stands (known.Declared (meaning.Function n)) is none = absurd (no_named n none)
+  misplaced_by s w name count stands (known.Declared meaning.Unusable) is none =
+      other_call s w name stands.agrees meaning.Unusable is tt (no_function_found (known.Declared meaning.Unusable) name.offset)
+  misplaced_by s w name count stands (known.Declared (meaning.Variable v)) is none =
+      other_call s w name stands.agrees (meaning.Variable v) is tt (no_function_found (known.Declared (meaning.Variable v)) name.offset)
+  misplaced_by s w name count stands (known.Declared meaning.Argument) is none =
+      other_call s w name stands.agrees meaning.Argument is tt (no_function_found (known.Declared meaning.Argument) name.offset)
+  misplaced_by s w name count stands (known.Declared (meaning.Object o)) is none =
+      other_call s w name stands.agrees (meaning.Object o) is tt (no_function_found (known.Declared (meaning.Object o)) name.offset)
+  misplaced_by s w name count stands known.Unknown is none =
+      quiet_call s w name stands.agrees known.Unknown is (λ n e. not_nothing (meaning.Function n) e) unknown_library
+      (no_function_found known.Unknown name.offset)
+
+  pub no_function_by : (s : Scope) (w : Where) (name : Name) → Agrees D s w → c.number_of (look_up s name.bytes) ≡ None →
       ((f : LibraryFunction) → look_up s name.bytes ≡ known.Library f → ⊥) →
-      Good L (finds_if (a.is_unknown (look_up s name.bytes)) rule.Unknown name.offset) (Part.Call w name ∷ [])
+      Good L (c.no_function (look_up s name.bytes) name.offset) (Part.Call w name ∷ [])
   no_function_by s w name agrees none own =
-      quiet_call s w name agrees (look_up s name.bytes) refl (λ n e. none-some n (sym none ∙ ap k.number_of e)) own
-      (p.broken_if L (a.is_unknown (look_up s name.bytes)) rule.Unknown name.offset (q.other rule.Unknown (λ j. j)))
+      quiet_call s w name agrees (look_up s name.bytes) refl (λ n e. none-some n (sym none ∙ ap c.number_of e)) own
+      (no_function_found (look_up s name.bytes) name.offset)

@@ -1,5 +1,5 @@
 -- Uses that break the thread rule, in a whole text.
-use Rattle.std.proofs.Common.{inl, inr, ◌≡◌, refl, sym, subst, ap, ◌∙◌, ℕ, Bool, true, false, List, [], ◌∷◌, length, Option, Some, None}
+use Rattle.std.proofs.Common.{inl, inr, ◌≡◌, refl, sym, subst, ap, ◌∙◌, ℕ, suc, Bool, true, false, List, [], ◌∷◌, length, Option, Some, None, arith}
 use Rattle.std.specs.Prelude.{◌-◌, is_none, not, slice_get}
 use Rattle.std.proofs.lemmas.Option.{none-some}
 use Rattle.std.proofs.lemmas.Bool.{false≢true}
@@ -17,7 +17,7 @@ use Rattle.c_rules.specs.Findings.{nothing}
 use Rattle.c_rules.specs.Names.{look_up, is_argument, opened, closed, closed_to}
 use Rattle.c_rules.specs.Names as names
 use Rattle.c_rules.specs.Specifiers.{base_of, plain, spelled_by}
-use Rattle.c_calls.specs.Arguments as a
+use Rattle.c_expressions.specs.Expressions as e
 use Rattle.c_calls.specs.Calls as k
 use Rattle.c_resolution.specs.Locals as l
 use Rattle.c_resolution.specs.Functions as y
@@ -90,32 +90,37 @@ local_is words at =
     q.local_is L u.others words at (Part.Local words at ∷ [])
     (λ is. u.part_fault (Part.Local words at) at (type_is (base_of words.words) is, refl) (λ z k. k.1)) (no_local_at words at)
 
+more_none : (n : ℕ) → suc n ≡ 0 → ⊥
+more_none n h = omega arith
+
 module _ (D : List (List ℕ × ℕ)) where
   events : (s : Scope) (w : Where) → Stands D s w → Events L s w
   events s w stands = record {
     other = u.others;
     constant = λ v at. quiet L (Part.Constant v at) (λ x k. k) (q.constant_is L constants v at);
-    used = λ name index. quiet L (Part.Use w name) (λ x k. k) (q.named_value L u.others (look_up s name.bytes) name.offset (Some index) (λ _. unknown) (λ _ h. absurd (false≢true (sym h))));
+    used = λ name more. quiet L (Part.Use w name) (λ x k. k) (q.misuse_quiet L u.others (look_up s name.bytes) (suc more) name.offset (λ _. unknown)
+        (λ _ h. absurd (more_none more h)));
     read = λ name. m.read_by D s w name stands.agrees (look_up s name.bytes) refl;
-    converted = λ name out. quiet L (Part.Use w name) (λ x k. k) (q.named_value L u.others (look_up s name.bytes) name.offset None (λ _. unknown)
+    converted = λ name out. quiet L (Part.Use w name) (λ x k. k) (q.misuse_quiet L u.others (look_up s name.bytes) 0 name.offset (λ _. unknown)
         (λ is _. absurd (false≢true (sym out ∙ ap is_argument is))));
     argument = λ name h x k. k;
-    target = λ name indexed. quiet L (Part.Use w name) (λ x k. k) (q.target_quiet L u.others (look_up s name.bytes) indexed name.offset (λ _. unknown));
-    object = λ kind name at index. quiet L (Part.Use w name) (λ x k. k) (q.object_named L u.others kind (look_up s name.bytes) name.offset at index (λ _. unknown));
+    target = λ name indices. quiet L (Part.Use w name) (λ x k. k) (q.target_quiet L u.others (look_up s name.bytes) indices name.offset (λ _. unknown));
+    object = λ kind name at indices number. quiet L (Part.Use w name) (λ x k. k)
+        (q.object_named L u.others kind (look_up s name.bytes) name.offset at indices number (λ _. unknown));
     routine = λ name h at is. m.routine_by D s w name h at stands.agrees is;
     no_routine = λ name is x k. k;
-    misplaced = λ name count. m.misplaced_by D s w name count stands (look_up s name.bytes) refl;
+    misplaced = λ name count none. m.misplaced_by D s w name count stands (look_up s name.bytes) refl none;
     library = λ name function count is. m.library_call D s w name function count stands is;
     function = λ name number count is_value is. m.function_is D s w name number count is_value stands.agrees is;
     no_function = λ name none own. m.no_function_by D s w name stands.agrees none own;
     print = λ name first values. quiet L (Part.Print name (first ∷ values)) (λ x k. k)
-        (q.broken_if L (not (k.takes (k.format first) (length values))) rule.Format (a.argument_offset first) formats);
+        (q.broken_if L (not (k.takes (k.format first) (length values))) rule.Format (e.argument_offset first) formats);
     no_print = λ name. quiet L (Part.Print name []) (λ x k. k) (formats name.offset);
     length = λ v. quiet L (Part.Length v) (λ x k. k) (q.length_is L constants (constancy v) (out-Expression v).offset);
     local = λ words at is. local_is words at;
     no_local = λ words at ty is x k. plain_type (spelled_by words).is_static (base_of words.words) ty is k.0;
     initial = λ ty v. quiet L (Part.Initial v) (λ x k. k) (q.initial_is L constants ty (constancy v) (out-Expression v).offset);
-    listed = λ size v n index is. quiet L (Part.Listed size index v) (λ x k. k) (q.broken_if L _ rule.Constant (out-Expression v).offset constants);
+    listed = λ lengths n index at is. quiet L (Part.Listed lengths index at) (λ x k. k) (q.broken_if L _ rule.Constant at constants);
   }
 
   -- ---- scopes that change
@@ -159,9 +164,9 @@ module _ (D : List (List ℕ × ℕ)) where
           body = body_as s (closed s) w.body (same_closed s) h.body;
         };
         no_names = λ s w h. record { agrees = N.no_names s w h.agrees; body = h.body };
-        loops = λ s w count h. record {
-          agrees = N.loops s w count h.agrees;
-          body = body_as s (record s { loops = count }) w.body (record { function = refl; gives = refl }) h.body;
+        loops = λ s w count exits h. record {
+          agrees = N.loops s w count exits h.agrees;
+          body = body_as s (record s { loops = count; exits = exits }) w.body (record { function = refl; gives = refl }) h.body;
         };
         local = λ s w v h. record {
           agrees = N.local s w v h.agrees;
@@ -179,6 +184,11 @@ module _ (D : List (List ℕ × ℕ)) where
             };
         variable = N.variable;
         parameter = N.parameter;
+        IsSwitched = λ w over ty. Unit {0};
+        switched = λ s w over at cuts found h. tt;
+        case = λ s w over ty before l v c h is noted some. quiet L (Part.Label w over before l) (λ x k. k)
+            (q.noted_quiet L twice constants ty (constancy v) (out-Expression v).offset c);
+        default = λ s w over ty before l c h is noted none. quiet L (Part.Label w over before l) (λ x k. k) (q.default_quiet L twice l.offset c);
         Held = N.Held;
         object = N.object;
         held_object = N.held_object;

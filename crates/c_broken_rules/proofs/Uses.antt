@@ -1,5 +1,5 @@
 -- Uses of objects, functions and parameters that break the thread rule: what the single findings of a walk write of them.
-use Rattle.std.proofs.Common.{◌≡◌, ℕ, Bool, true, false, [], ◌∷◌, Some, None}
+use Rattle.std.proofs.Common.{◌≡◌, ℕ, Bool, true, false, [], ◌∷◌, Some}
 use Rattle.std.specs.Prelude.{◌⊎◌, not, is_none, ◌||◌}
 use Rattle.c_tree.specs.declared.expression.Name.{Name}
 use Rattle.c_tree.specs.declared.declaration.Function.{Function}
@@ -14,13 +14,13 @@ use Rattle.c_rules.specs.declared.names.Scope.{Scope}
 use Rattle.c_rules.specs.Library.{function_named}
 use Rattle.c_rules.specs.Names.{gives_pointer}
 use Rattle.c_rules.specs.Specifiers.{base_of}
-use Rattle.c_rules.specs.Walks.{pure, finds, finds_if, creates}
+use Rattle.c_rules.specs.Walks.{finds, finds_if, finds_any, creates}
 use Rattle.c_expressions.specs.Callees as c
 use Rattle.c_expressions.specs.Expressions as e
 use Rattle.c_broken_rules.specs.Sight.{Declared, Where}
 use Rattle.c_broken_rules.specs.Breaks.{StandsFor, IsMain, IsStartRoutine, IsThreadType, IsElsewhere}
 use Rattle.c_broken_rules.specs.Parts.{Part, Parts}
-use Rattle.c_broken_rules.proofs.Ledgers.{Ledger, Good, good_pure, good_before}
+use Rattle.c_broken_rules.proofs.Ledgers.{Ledger, Good}
 use Rattle.c_broken_rules.specs.ThreadLaws.{fault_at}
 use Rattle.c_broken_rules.proofs.Events.{IsOther}
 use Rattle.c_broken_rules.proofs.Quiets.{IsQuiet, OthersAreQuiet, CallsAreQuiet}
@@ -89,6 +89,5 @@ pub exit_is : (s : Scope) (at : ℕ) (ps : Parts) → Good use_ledger (finds_if 
 unfolding c.library_place
 exit_is s at ps h = record { writes = h.writes }
 
-pub argument_value : (at : ℕ) (ps : Parts) → Good use_ledger (finds rule.Threads at) ps → Good use_ledger (e.named_value (known.Declared meaning.Argument) at None) ps
-unfolding e.named_value e.misused
-argument_value at ps h = good_before use_ledger (finds rule.Threads at) (λ _. pure e.nothing) ps h (λ _. good_pure use_ledger e.nothing)
+pub argument_value : (at : ℕ) (ps : Parts) → Good use_ledger (finds rule.Threads at) ps → Good use_ledger (finds_any (e.misuse (known.Declared meaning.Argument) 0) at) ps
+argument_value at ps h = record { writes = h.writes }

@@ -1,6 +1,7 @@
 -- The rules of the profile on names, declarations, calls, threads, constants and formats: which of them a text breaks, and
 -- where.
-use Rattle.std.specs.Prelude.{◌≡◌, ◌≢◌, ℕ, ◌<◌, ◌≤◌, Bool, true, false, ◌&&◌, is_some, min, pos, ◌≤ℤ◌, List, [], ◌∷◌, ◌++◌, length, Option, Some, None, slice_get, Contains, codes}
+use Rattle.std.specs.Prelude.{◌≡◌, ◌≢◌, ℕ, ◌*◌, ◌<◌, ◌≤◌, ℤ, Bool, true, false, ◌&&◌, is_some, min, pos, ◌≤ℤ◌, List, [], ◌∷◌, ◌++◌, length, Option, Some, None, slice_get, Contains, codes}
+use Rattle.hls_ints.specs.Types.{wrapped}
 use Rattle.c_token.specs.declared.constant.Constant.TheVariants as constant
 use Rattle.c_tree.specs.declared.expression.Name.{Name}
 use Rattle.c_tree.specs.declared.expression.Specifiers.{Specifiers}
@@ -8,6 +9,7 @@ use Rattle.c_tree.specs.declared.expression.TypeWord.TheVariants as word
 use Rattle.c_tree.specs.declared.expression.Expression.{Expression, out-Expression}
 use Rattle.c_tree.specs.declared.expression.Argument.{Argument, out-Argument}
 use Rattle.c_tree.specs.declared.expression.Argument.TheOpen.{Argument-F}
+use Rattle.c_tree.specs.declared.statement.CaseLabel.{CaseLabel}
 use Rattle.c_tree.specs.declared.declaration.Function.{Function}
 use Rattle.c_tree.specs.declared.declaration.Parameter.{Parameter}
 use Rattle.c_tree.specs.declared.declaration.ExternalDeclaration.{ExternalDeclaration}
@@ -25,10 +27,11 @@ use Rattle.c_rules.specs.Constants.{constancy}
 use Rattle.c_rules.specs.Library.{function_named}
 use Rattle.c_rules.specs.Levels.{named_in}
 use Rattle.c_rules.specs.Specifiers.{base_of, has}
-use Rattle.c_calls.specs.Arguments.{argument_offset}
+use Rattle.c_expressions.specs.Expressions.{argument_offset}
 use Rattle.c_broken_rules.specs.Sight.{Declared, Names, Where, declaration_in}
 use Rattle.c_broken_rules.specs.Parts.{Part, parts, parameters_of}
 use Rattle.c_broken_rules.specs.Formats.{IsFormat}
+use Rattle.c_broken_rules.specs.Typing.{switch_type}
 
 -- ---- names
 
@@ -121,9 +124,9 @@ IsThreadType base.Mutex = Unit {0}
 IsThreadType base.Barrier = Unit {0}
 IsThreadType other = ⊥
 
--- a pthread_t object at file scope
+-- a pthread_t object at file scope, or an array of them, of one dimension
 abbrev pub IsThreadObject : Declared → Type 0
-IsThreadObject (Declared.OfObject words pointer d) = (pointer ≡ false) × (base_of words.words ≡ base.Thread)
+IsThreadObject (Declared.OfObject words pointer d) = (pointer ≡ false) × (base_of words.words ≡ base.Thread) × (length d.lengths ≤ 1)
 IsThreadObject other = ⊥
 
 -- the part of that number is a create of the thread object of the name by the routine whose first definition has the other
@@ -157,6 +160,26 @@ pub record IsLength (e : Expression) (n : ℕ) : Type 0 where
   pub value : x.number ≡ pos number
   pub positive : 0 < number
   pub most : n ≡ min number 0xffff_ffff_ffff_ffff
+
+-- what a length counts as: an array whose length breaks a rule has one element
+pub data CountsAs (e : Expression) : ℕ → Type 0 where
+  Counted : (n : ℕ) (is : IsLength e n) → CountsAs e n
+  One : (none : (n : ℕ) → IsLength e n → ⊥) → CountsAs e 1
+
+-- the product of lengths, from the first on: at most 2 ^ 64 - 1
+pub data AreElements : ℕ → List Expression → ℕ → Type 0 where
+  All : (n : ℕ) → AreElements n [] n
+  Times : (m n k : ℕ) (e : Expression) (more : List Expression) (is : CountsAs e m) (others : AreElements (min (n * m) 0xffff_ffff_ffff_ffff) more k) → AreElements n (e ∷ more) k
+
+-- ---- labels
+
+-- the value of a case, converted to the type of its switch (6.8.4.2)
+pub record IsCase (tree : TranslationUnit) (w : Where) (over : Expression) (label : CaseLabel) (z : ℤ) : Type 0 where
+  pub e : Expression
+  pub case : label.value ≡ Some e
+  pub x : Typed
+  pub constant : constancy e ≡ is.Constant x
+  pub value : z ≡ wrapped (switch_type (definitions tree.declarations) w over) x.number
 
 -- ---- formats
 
@@ -203,6 +226,12 @@ pub data Breaks (tree : TranslationUnit) : Rule → ℕ → Type 0 where
       (first : IsDeclared w name earlier) (function : is_function earlier ≡ true)
       (before : Contains (innermost w.scopes) (name.bytes, Declared.OfFunction g)) (defined : is_some g.body ≡ true) (again : is_some f.body ≡ true) → Breaks tree
       rule.Twice name.offset
+  -- a second case of one value, and a second default, in one switch
+  SecondCase : (w : Where) (over e : Expression) (before : List CaseLabel) (label earlier : CaseLabel) (z : ℤ) (stands : Contains (parts tree) (Part.Label w over before label))
+      (here : label.value ≡ Some e) (case : IsCase tree w over label z) (seen : Contains before earlier) (also : IsCase tree w over earlier z) →
+      Breaks tree rule.Twice (out-Expression e).offset
+  SecondDefault : (w : Where) (over : Expression) (before : List CaseLabel) (label earlier : CaseLabel) (stands : Contains (parts tree) (Part.Label w over before label))
+      (default : label.value ≡ None) (seen : Contains before earlier) (also : earlier.value ≡ None) → Breaks tree rule.Twice label.offset
   -- recursion: the call lies on a cycle of calls
   Recursion : (f g at : ℕ) (call : CallsAt tree f g at) (back : LeadsTo tree g f) → Breaks tree rule.Recursive at
   -- thread rule: pthread object not global; pthread_t named in creates with two routines; main or a start routine called;
@@ -218,8 +247,8 @@ pub data Breaks (tree : TranslationUnit) : Rule → ℕ → Type 0 where
       (pointer : p.is_pointer ≡ true) → Breaks tree rule.Threads name.offset
   ExitElsewhere : (w : Where) (name : Name) (stands : Contains (parts tree) (Part.Call w name)) (exit : function_named name.bytes ≡ Some library.Exit)
       (elsewhere : IsElsewhere w.body) → Breaks tree rule.Threads name.offset
-  -- constant out of range: a constant without a type; a length or global initialiser that isn't a constant expression, or a
-  -- length below 1; more initialisers than elements
+  -- constant out of range: a constant without a type; a length, a global initialiser or a case that isn't a constant expression, or
+  -- a length below 1; more initialisers than elements
   ConstantTooLarge : (at : ℕ) (stands : Contains (parts tree) (Part.Constant constant.TooLarge at)) → Breaks tree rule.Constant at
   LengthNotConstant : (e : Expression) (stands : Contains (parts tree) (Part.Length e)) (no_constant : constancy e ≡ is.NotConstant) →
       Breaks tree rule.Constant (out-Expression e).offset
@@ -227,11 +256,10 @@ pub data Breaks (tree : TranslationUnit) : Rule → ℕ → Type 0 where
       Breaks tree rule.Constant (out-Expression e).offset
   InitialNotConstant : (e : Expression) (stands : Contains (parts tree) (Part.Initial e)) (no_constant : constancy e ≡ is.NotConstant) →
       Breaks tree rule.Constant (out-Expression e).offset
-  TooMany : (size : Expression) (n index : ℕ) (e : Expression) (stands : Contains (parts tree) (Part.Listed size index e)) (length : IsLength size n) (beyond : n ≤ index) →
-      Breaks tree rule.Constant (out-Expression e).offset
-  -- an array whose length breaks a rule has one element
-  TooManyForOne : (size : Expression) (index : ℕ) (e : Expression) (stands : Contains (parts tree) (Part.Listed size index e)) (none : (n : ℕ) → IsLength size n → ⊥)
-      (beyond : 1 ≤ index) → Breaks tree rule.Constant (out-Expression e).offset
+  TooMany : (lengths : List Expression) (n index at : ℕ) (stands : Contains (parts tree) (Part.Listed lengths index at)) (elements : AreElements 1 lengths n)
+      (beyond : n ≤ index) → Breaks tree rule.Constant at
+  CaseNotConstant : (w : Where) (over e : Expression) (before : List CaseLabel) (label : CaseLabel) (stands : Contains (parts tree) (Part.Label w over before label))
+      (case : label.value ≡ Some e) (no_constant : constancy e ≡ is.NotConstant) → Breaks tree rule.Constant (out-Expression e).offset
   -- format: printf's first argument is no format with as many conversions as there are values, at most 4
   BadFormat : (name : Name) (first : Argument) (values : List Argument) (stands : Contains (parts tree) (Part.Print name (first ∷ values))) (bad : IsPrint first values → ⊥) →
       Breaks tree rule.Format (argument_offset first)

@@ -1,4 +1,5 @@
 pub mod Sight
+pub mod Typing
 pub mod Parts
 pub mod Formats
 pub mod Breaks

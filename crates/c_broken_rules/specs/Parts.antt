@@ -1,5 +1,5 @@
 -- The parts of a text that the rules are about, each where it stands.
-use Rattle.std.specs.Prelude.{ℕ, suc, Bool, true, false, ◌&&◌, not, is_none, is_some, if◌then◌else◌, List, [], ◌∷◌, ◌++◌, length, Option, Some, None, option_map}
+use Rattle.std.specs.Prelude.{ℕ, suc, Bool, true, false, ◌&&◌, not, is_none, is_some, if◌then◌else◌, List, [], ◌∷◌, ◌++◌, length, map, nat_eq, Option, Some, None, option_map}
 use Rattle.std.specs.List.{flat_map}
 use Rattle.c_token.specs.declared.constant.Constant.{Constant as ConstantToken}
 use Rattle.c_tree.specs.declared.expression.Name.{Name}
@@ -18,6 +18,9 @@ use Rattle.c_tree.specs.declared.declaration.Declaration.{Declaration}
 use Rattle.c_tree.specs.declared.declaration.Declarator.{Declarator}
 use Rattle.c_tree.specs.declared.declaration.Function.{Function}
 use Rattle.c_tree.specs.declared.declaration.Parameter.{Parameter}
+use Rattle.c_tree.specs.declared.declaration.Initial.{Initial as InitialTree, out-Initial}
+use Rattle.c_tree.specs.declared.declaration.Initial.TheOpen.{Initial-F}
+use Rattle.c_tree.specs.declared.declaration.Initial.TheFolds.{fold-Initial}
 use Rattle.c_tree.specs.declared.declaration.Initializer.{Initializer}
 use Rattle.c_tree.specs.declared.declaration.Initializer.TheVariants as initial
 use Rattle.c_tree.specs.declared.declaration.GlobalDeclarator.{GlobalDeclarator}
@@ -33,8 +36,9 @@ use Rattle.c_tree.specs.declared.statement.ForStart.{ForStart}
 use Rattle.c_tree.specs.declared.statement.ForStart.TheVariants as start
 use Rattle.c_tree.specs.declared.statement.Block.{Block}
 use Rattle.c_tree.specs.declared.statement.BlockItem.{BlockItem}
+use Rattle.c_tree.specs.declared.statement.CaseLabel.{CaseLabel}
 use Rattle.c_tree.specs.declared.statement.Statement.{Statement}
-use Rattle.c_tree.specs.declared.statement.BlockItem.TheOpen.{Block-F, BlockItem-F, Statement-F}
+use Rattle.c_tree.specs.declared.statement.BlockItem.TheOpen.{Block-F, BlockItem-F, Group-F, Statement-F}
 use Rattle.c_tree.specs.declared.statement.BlockItem.TheFolds.{fold-Block, fold-BlockItem, fold-Statement}
 use Rattle.c_rules.specs.declared.specifiers.BaseType.{BaseType}
 use Rattle.c_rules.specs.declared.specifiers.BaseType.TheVariants as base
@@ -64,8 +68,11 @@ pub data Part : Type 0 where
   Length : (e : Expression) → Part
   -- an initial value of an integer object at file scope
   Initial : (e : Expression) → Part
-  -- one that stands at that index in the list of an array, whose length is the first expression
-  Listed : (size : Expression) (index : ℕ) (e : Expression) → Part
+  -- an item between braces, behind so many others, where there are as many elements as the lengths say; its first token stands
+  -- at the place
+  Listed : (lengths : List Expression) (index at : ℕ) → Part
+  -- a label of the switch over the value, behind its other labels
+  Label : (w : Where) (over : Expression) (before : List CaseLabel) (label : CaseLabel) → Part
   -- a declaration of a name behind those that are in sight
   Declares : (w : Where) (name : Name) (what : Declared) → Part
   -- the words of an object of a block, or of a parameter without a *, and the place of its name, or, where it has none, of
@@ -101,25 +108,25 @@ pub record Parted : Type 0 where
 abbrev pub plainly : Parts → Parted
 plainly parts = record { parts = parts; converted = parts }
 
--- a name with the parts of its index
+-- a name with the parts of its indices
 pub record Indexed : Type 0 where
   pub name : Name
-  pub index : Option Parts
+  pub indices : List Parts
 
 module _ (w : Where) where
-  abbrev pub place_by : Name → Option Parts → Parted
-  place_by name None = record { parts = Part.Use w name ∷ Part.Read w name ∷ []; converted = Part.Use w name ∷ [] }
-  place_by name (Some index) = plainly (index ++ Part.Use w name ∷ [])
+  abbrev pub place_by : Name → List Parts → Parted
+  place_by name [] = record { parts = Part.Use w name ∷ Part.Read w name ∷ []; converted = Part.Use w name ∷ [] }
+  place_by name (index ∷ more) = plainly (all_of (index ∷ more) ++ Part.Use w name ∷ [])
 
   abbrev pub argument_layer : Argument-F Parts Parted Parts Parts Parted Indexed Parts Parts → Parts
   argument_layer (Argument-F.Value e) = e.parts
   argument_layer (Argument-F.Text bytes at) = []
-  argument_layer (Argument-F.Address p at) = if_any p.index
+  argument_layer (Argument-F.Address p at) = all_of p.indices
   argument_layer (Argument-F.Pointer p) = p
 
   abbrev pub form_layer : Form-F Parts Parted Parts Parts Parted Indexed Parts Parts → Parted
   form_layer (Form-F.Constant value at) = plainly (Part.Constant value at ∷ [])
-  form_layer (Form-F.Place p) = place_by p.name p.index
+  form_layer (Form-F.Place p) = place_by p.name p.indices
   form_layer (Form-F.Call c) = plainly c
   form_layer (Form-F.Unary operator e) = plainly e.parts
   form_layer (Form-F.Cast words e) = plainly (if is_long (plain_integer words) then e.converted else e.parts)
@@ -136,7 +143,7 @@ module _ (w : Where) where
   expression_layer e = e.form
 
   abbrev pub place_layer : Place-F Parts Parted Parts Parts Parted Indexed Parts Parts → Indexed
-  place_layer p = record { name = p.name; index = option_map (λ (e : Parted). e.parts) p.index }
+  place_layer p = record { name = p.name; indices = map (λ (e : Parted). e.parts) p.indices }
 
   abbrev pub pointer_layer : Pointer-F Parts Parted Parts Parts Parted Indexed Parts Parts → Parts
   pointer_layer p = if_any (option_map (λ (e : Parted). e.parts) p.operand)
@@ -169,7 +176,7 @@ module _ (w : Where) where
 
   -- a place that is not read: one that is assigned to, or that is an object of POSIX threads
   abbrev pub place_parts : Place → Parts
-  place_parts p = if_any (indexed p).index ++ Part.Use w (out-Place p).name ∷ []
+  place_parts p = all_of (indexed p).indices ++ Part.Use w (out-Place p).name ∷ []
 
   abbrev pub arguments_parts : List Argument → Parts
   arguments_parts list = of_each argument_parts list
@@ -205,7 +212,7 @@ module _ (w : Where) where
 
   abbrev pub name_by : Option Place → Option Name
   name_by None = None
-  name_by (Some p) = if is_none (out-Place p).index then Some (out-Place p).name else None
+  name_by (Some p) = if nat_eq (length (out-Place p).indices) 0 then Some (out-Place p).name else None
 
   -- the name that an argument is
   abbrev pub name_alone : Argument → Option Name
@@ -270,7 +277,7 @@ module _ (w : Where) where
   -- ---- statements without statements in them
 
   abbrev pub simple_form_parts : SimpleForm → Parts
-  simple_form_parts (simple.Assign place operator e) = place_parts place ++ expression_parts e
+  simple_form_parts (simple.Assign place operator e) = expression_parts e ++ place_parts place
   simple_form_parts (simple.Step place way) = place_parts place
   simple_form_parts (simple.Call c) = call_parts c
 
@@ -293,7 +300,7 @@ declared_by words d = (d.name.bytes, Declared.OfVariable words d) ∷ []
 -- the name of a declarator is in sight in its initialiser
 abbrev pub declarator_parts : Where → Specifiers → Declarator → Parts
 declarator_parts w words d =
-    of_any (length_parts w) d.length
+    of_each (length_parts w) d.lengths
     ++ (Part.Local words d.name.offset
     ∷ Part.Declares w d.name (Declared.OfVariable words d)
     ∷ of_any (expression_parts (behind (declared_by words d) w)) d.initializer)
@@ -344,7 +351,28 @@ abbrev pub in_any : Option Sighted → Sighted
 in_any None w = []
 in_any (Some parts) w = parts w
 
-abbrev pub statement_layer : Statement-F Itemed Sighted Sighted → Sighted
+-- ---- switches
+
+-- a group: its label, and the parts of its statements
+pub record Grouped : Type 0 where
+  pub label : CaseLabel
+  pub parts : Sighted
+
+abbrev pub of_all : List Sighted → Sighted
+of_all [] w = []
+of_all (parts ∷ more) w = parts w ++ of_all more w
+
+abbrev pub group_layer : Group-F Itemed Sighted Sighted Grouped → Grouped
+group_layer g = record { label = g.label; parts = of_all g.statements }
+
+-- the groups of a switch over a value, behind those labels
+abbrev pub groups_parts : Expression → List CaseLabel → List Grouped → Sighted
+groups_parts over before [] w = []
+groups_parts over before (g ∷ more) w =
+    of_any (expression_parts w) g.label.value
+    ++ (Part.Label w over before g.label ∷ (g.parts w ++ groups_parts over (before ++ g.label ∷ []) more w))
+
+abbrev pub statement_layer : Statement-F Itemed Sighted Sighted Grouped → Sighted
 statement_layer (Statement-F.Block body) w = body (inside w)
 statement_layer Statement-F.Empty w = []
 statement_layer (Statement-F.Simple x) w = simple_parts w x
@@ -355,22 +383,23 @@ statement_layer (Statement-F.While test body) w = expression_parts w test ++ bod
 statement_layer (Statement-F.DoWhile body test) w = body w ++ expression_parts w test
 statement_layer (Statement-F.For begin test step body) w = for_parts begin test step body w
 statement_layer (Statement-F.Return x at) w = returned_parts w x
+statement_layer (Statement-F.Switch e groups at) w = expression_parts w e ++ groups_parts e [] groups w
 
-abbrev pub item_layer : BlockItem-F Itemed Sighted Sighted → Itemed
+abbrev pub item_layer : BlockItem-F Itemed Sighted Sighted Grouped → Itemed
 item_layer (BlockItem-F.Declaration d) = record { parts = λ w. declaration_parts w d; names = declared_names d }
 item_layer (BlockItem-F.Statement x) = record { parts = x; names = [] }
 
-abbrev pub block_layer : Block-F Itemed Sighted Sighted → Sighted
+abbrev pub block_layer : Block-F Itemed Sighted Sighted Grouped → Sighted
 block_layer b = items_parts b.items
 
 abbrev pub block_parts : Block → Sighted
-block_parts = fold-Block Itemed Sighted Sighted item_layer statement_layer block_layer
+block_parts = fold-Block Itemed Sighted Sighted Grouped item_layer statement_layer block_layer group_layer
 
 abbrev pub statement_parts : Statement → Sighted
-statement_parts = fold-Statement Itemed Sighted Sighted item_layer statement_layer block_layer
+statement_parts = fold-Statement Itemed Sighted Sighted Grouped item_layer statement_layer block_layer group_layer
 
 abbrev pub item_parts : BlockItem → Itemed
-item_parts = fold-BlockItem Itemed Sighted Sighted item_layer statement_layer block_layer
+item_parts = fold-BlockItem Itemed Sighted Sighted Grouped item_layer statement_layer block_layer group_layer
 
 -- ---- functions
 
@@ -424,10 +453,56 @@ function_parts number f w =
 abbrev pub object_names : Specifiers → Bool → GlobalDeclarator → Names
 object_names words pointer d = (d.name.bytes, Declared.OfObject words pointer d) ∷ []
 
-abbrev pub initializer_parts : Where → Initializer → Parts
-initializer_parts w (initial.Value e) = expression_parts w e
-initializer_parts w (initial.List list) = of_each (expression_parts w) list
-initializer_parts w initial.Mutex = []
+-- what stands between braces: the place of its first token, its parts where it is of another form than its place asks for, and its
+-- parts as an element of an array that has those further lengths
+pub record Item : Type 0 where
+  pub at : ℕ
+  pub looked : Parts
+  pub given : List Expression → Parts
+
+abbrev pub looked_items : List Item → Parts
+looked_items [] = []
+looked_items (x ∷ more) = x.looked ++ looked_items more
+
+-- items one after another, where there are as many elements as the first lengths say, each an array of the others
+abbrev pub items_given : List Expression → List Expression → ℕ → List Item → Parts
+items_given lengths inner index [] = []
+items_given lengths inner index (x ∷ more) = Part.Listed lengths index x.at ∷ (x.given inner ++ items_given lengths inner (suc index) more)
+
+module _ (w : Where) where
+  abbrev pub value_parts : Expression → Parts
+  value_parts e = expression_parts w e ++ Part.Initial e ∷ []
+
+  -- a value, which only a scalar has
+  abbrev pub value_given : Expression → List Expression → Parts
+  value_given e [] = value_parts e
+  value_given e (length ∷ inner) = expression_parts w e
+
+  -- braces, which only an array has: of as many elements as the first length says
+  abbrev pub list_given : List Item → List Expression → Parts
+  list_given list [] = looked_items list
+  list_given list (length ∷ inner) = items_given (length ∷ []) inner 0 list
+
+  abbrev pub item_layer_of : Initial-F Item → Item
+  item_layer_of (Initial-F.Value e) = record { at = (out-Expression e).offset; looked = expression_parts w e; given = value_given e }
+  item_layer_of (Initial-F.List list at) = record { at = at; looked = looked_items list; given = list_given list }
+
+  abbrev pub initial_item : InitialTree → Item
+  initial_item = fold-Initial Item item_layer_of
+
+  abbrev pub initializer_parts : Initializer → Parts
+  initializer_parts (initial.Value e) = expression_parts w e
+  initializer_parts (initial.List list at) = looked_items (map initial_item list)
+  initializer_parts initial.Mutex = []
+
+abbrev pub has_braces : Initial-F InitialTree → Bool
+has_braces (Initial-F.Value e) = false
+has_braces (Initial-F.List list at) = true
+
+-- whether the first item has braces of its own (6.7.8)
+abbrev pub is_by_rows : List InitialTree → Bool
+is_by_rows [] = false
+is_by_rows (first ∷ more) = has_braces (out-Initial first)
 
 abbrev pub is_integer_base : BaseType → Bool
 is_integer_base (base.Integer ty) = true
@@ -437,28 +512,33 @@ is_integer_base other = false
 abbrev pub is_integer : Specifiers → Bool → Bool
 is_integer words pointer = not pointer && is_integer_base (base_of words.words)
 
-abbrev pub value_parts : Where → Expression → Parts
-value_parts w e = expression_parts w e ++ Part.Initial e ∷ []
+-- the lengths behind the first: an array has three dimensions at most
+abbrev pub inner_lengths : List Expression → List Expression
+inner_lengths [] = []
+inner_lengths (second ∷ []) = second ∷ []
+inner_lengths (second ∷ third ∷ more) = second ∷ third ∷ []
 
-abbrev pub listed_parts : Where → Expression → ℕ → List Expression → Parts
-listed_parts w size index [] = []
-listed_parts w size index (e ∷ more) = Part.Listed size index e ∷ (value_parts w e ++ listed_parts w size (suc index) more)
+-- the braces of an array: one level for each length, or all elements in row order
+abbrev pub array_parts : Where → Expression → List Expression → List InitialTree → Parts
+array_parts w first inner list =
+    if is_by_rows list then items_given (first ∷ []) (inner_lengths inner) 0 (map (initial_item w) list)
+    else items_given (first ∷ inner_lengths inner) [] 0 (map (initial_item w) list)
 
 -- the initial values of an integer object: a scalar has one, and an array a list
-abbrev pub initial_parts : Where → Option Expression → Initializer → Parts
-initial_parts w None (initial.Value e) = value_parts w e
-initial_parts w (Some size) (initial.List list) = listed_parts w size 0 list
-initial_parts w size i = initializer_parts w i
+abbrev pub initial_parts : Where → List Expression → Initializer → Parts
+initial_parts w [] (initial.Value e) = value_parts w e
+initial_parts w (first ∷ inner) (initial.List list at) = array_parts w first inner list
+initial_parts w lengths i = initializer_parts w i
 
-abbrev pub given_parts : Where → Bool → Option Expression → Initializer → Parts
-given_parts w integer size i = if integer then initial_parts w size i else initializer_parts w i
+abbrev pub given_parts : Where → Bool → List Expression → Initializer → Parts
+given_parts w integer lengths i = if integer then initial_parts w lengths i else initializer_parts w i
 
 -- the name of an object is in sight in its initialiser
 abbrev pub object_parts_by : Where → Specifiers → Bool → GlobalDeclarator → Parts
 object_parts_by w words pointer d =
-    of_any (length_parts w) d.length
+    of_each (length_parts w) d.lengths
     ++ (Part.Declares w d.name (Declared.OfObject words pointer d)
-    ∷ of_any (given_parts (behind (object_names words pointer d) w) (is_integer words pointer) d.length) d.initializer)
+    ∷ of_any (given_parts (behind (object_names words pointer d) w) (is_integer words pointer) d.lengths) d.initializer)
 
 -- a * stands before the first name alone
 abbrev pub objects_parts : Where → Specifiers → Bool → List GlobalDeclarator → Parts
