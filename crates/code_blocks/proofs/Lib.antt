@@ -13,3 +13,5 @@ pub mod TypedExpressions
 pub mod Values
 pub mod Words
 pub mod TypedAssignments
+pub mod KeptValues
+pub mod KeptTruths

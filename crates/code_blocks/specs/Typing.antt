@@ -7,6 +7,7 @@ use Rattle.c_program.specs.Tree.{Expression, Place, Function, GlobalVariable, Pr
 use Rattle.c_program.specs.Types.{type_of}
 use Rattle.c_program.specs.Weight.{expression_weight, expressions_weight, place_weight}
 use Rattle.c_program.specs.Resolved.{IsExpression, AreExpressions, IsPlace, IsUpdate}
+use Rattle.thread_semantics.specs.Move.{slot_place}
 use Rattle.block_ir.specs.declared.operand.Operand.{Operand}
 use Rattle.code_blocks.specs.declared.homes.Home.{Home}
 use Rattle.code_blocks.specs.declared.homes.Home.TheVariants as home
@@ -63,6 +64,11 @@ WorksOnAssignment homes place e old new =
 abbrev pub WorksOnUpdate : List Home → Place → BinaryOperator → IntegerType → Expression → OpenBlock → OpenBlock → Type 0
 WorksOnUpdate homes place operator ty e old new =
     Works homes (4 * (place_weight place + expression_weight e + 2)) (λ S. IsUpdate S.program S.function place operator ty e) old new
+
+-- the chosen operand of ?: is kept in that local
+abbrev pub WorksOnKept : List Home → ℕ → Expression → OpenBlock → OpenBlock → Type 0
+WorksOnKept homes slot e old new =
+    Works homes (3 * expression_weight e + 2) (λ S. IsPlace S.program S.function (slot_place slot) × IsExpression S.program S.function e) old new
 
 -- values are put into the variables from n on
 abbrev pub WorksOnValue : List Home → ℕ → Expression → OpenBlock → OpenBlock → Type 0

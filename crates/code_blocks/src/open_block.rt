@@ -191,6 +191,7 @@ impl OpenBlock {
     #[tactic(auto, using(crate::proofs::Finals::closes_at))]
     pub fn close(&mut self, alloc: Global, next: Next) -> Result<Block, AllocError>
         ensures block { IfOk result (λ b. closing.Closes self.old next b) }
+        ensures operations { OnOk result (self.new.operations ≡ []) }
         ensures left { OnOk result (closing.HasNoted self.old → closing.IsFresh (length self.old.current) self.new) }
     {
         let finals = self.finals(alloc)?;

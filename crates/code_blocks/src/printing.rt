@@ -40,9 +40,10 @@ pub fn conversions_of(alloc: Global, format: &[Piece]) -> Result<Items<CType>, A
     Ok(types)
 }
 
-/// The value of an argument, converted to its conversion's type, is put into a variable of 64 bits.
+/// A value, converted to the type, is put into a variable of 64 bits: that of an argument, to its conversion's type, or of a
+/// switch's operand.
 #[tactic(auto, using(crate::proofs::Puts::puts_value, crate::proofs::TypedAssignments::value_works))]
-fn lower_value(
+pub fn lower_value(
     alloc: Global,
     homes: &[Home],
     block: &mut OpenBlock,
