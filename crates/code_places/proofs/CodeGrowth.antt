@@ -1,5 +1,5 @@
 -- What the parts of the code keep, and where the thread goes on before them.
-use Rattle.std.proofs.Common.{◌≡◌, ℕ, ◌+◌, ◌*◌, ◌<◌, ◌≤◌, true, false, List, [], ◌∷◌, length, Some, None, refl, sym, ap, ◌∙◌, subst, inl, inr, arith}
+use Rattle.std.proofs.Common.{◌≡◌, ℕ, ◌+◌, ◌<◌, ◌≤◌, true, false, List, [], ◌∷◌, length, Some, None, refl, sym, ap, ◌∙◌, subst, inl, inr, arith}
 use Rattle.std.specs.Prelude.{slice_get, slice_set, ◌⊎◌}
 use Rattle.lists.proofs.Places.{get_front}
 use Rattle.c_program.specs.Tree.{Program}
@@ -22,11 +22,11 @@ use Rattle.code_storage.specs.Objects.{AreObjects}
 use Rattle.code_blocks.specs.Typing.{Typing}
 use Rattle.code_places.specs.Resuming.{Keeping, nothing_kept, InBlock, AtFresh, IsSound}
 use Rattle.code_places.specs.Labels.{IsWhole, Pushes, is_used, with_used, IsOpen, IsTarget}
-use Rattle.code_places.specs.Apart.{IsTypedAnywhere, IsTypedNow, IsGood}
+use Rattle.code_places.specs.Apart.{idle_now, room, IsTypedAnywhere, IsTypedNow, IsGood}
 use Rattle.code_places.specs.Control.{with_label, marked, placed, EndsAt, LeadsOn, EndsBusy, Jumps, Begins, Binds, Leaps, BeginsStage, ActsAt, EndsCall, Whole, IsIn, GoesOn}
 use Rattle.code_places.specs.Doing.{Grows, Shifts, Relabels, at_site, OnwardUpTo, IfUsed, IsNew, Starts}
 use Rattle.code_places.proofs.ResumedPlaces.{fresh_sound}
-use Rattle.code_places.proofs.TypedGrowth.{IsTypedBut, typed_but, stages_more, jump_typed, ends_typed}
+use Rattle.code_places.proofs.TypedGrowth.{IsTypedBut, typed_but, open_more, room_more, stages_more, jump_typed, ends_typed}
 use Rattle.code_places.proofs.LabelTargets.{target_marked, open_ended, whole_placed, whole_pushed, whole_settled, jump_goes_on, begin_at, begun_idle, begin_goes_on}
 use Rattle.code_places.proofs.NewLabel.{label_keeps, goes_before_label}
 use Rattle.code_places.proofs.LabelSteps.{None_, advances_both, labels_more, binds_label}
@@ -76,7 +76,7 @@ site_grows site c = record {
 }
 
 pub site_typed : (site : ℕ) (c : Lowering) (S : Typing) (w : ℕ) → IsTypedNow S w c → IsTypedNow S w (at_site site c)
-site_typed site c S w now = record { block = now.block; size = now.size; steps = now.steps; stages = now.stages }
+site_typed site c S w now = record { block = now.block; idle = now.idle; size = now.size; steps = now.steps; stages = now.stages }
 
 -- ---- labels
 
@@ -96,7 +96,7 @@ label_relabels c = record {
       used = (label_keeps c).used;
     };
     site = refl;
-    typed = λ S w size good now. record { block = now.block; size = now.size; steps = now.steps; stages = now.stages };
+    typed = λ S w size good now. record { block = now.block; idle = now.idle; size = now.size; steps = now.steps; stages = now.stages };
   };
   block = refl;
   items = refl;
@@ -132,7 +132,7 @@ marked_shifts label c = record {
     used = λ other is. marks_keep c.stages.used label other is;
   };
   site = refl;
-  typed = λ S w size good now. record { block = now.block; size = now.size; steps = now.steps; stages = now.stages };
+  typed = λ S w size good now. record { block = now.block; idle = now.idle; size = now.size; steps = now.steps; stages = now.stages };
 }
 
 placed_shifts : (label : ℕ) (c : Lowering) → IsOpen label c.stages → Shifts c (placed label c)
@@ -150,7 +150,7 @@ placed_shifts label c open_ = record {
     used = λ other is. is;
   };
   site = refl;
-  typed = λ S w size good now. record { block = now.block; size = now.size; steps = now.steps; stages = now.stages };
+  typed = λ S w size good now. record { block = now.block; idle = now.idle; size = now.size; steps = now.steps; stages = now.stages };
 }
 
 settled_shifts : (label : ℕ) (old new : Lowering) → IsTarget label old.stages → LeadsOn label old new → Shifts old new
@@ -174,7 +174,7 @@ settled_shifts label old new target p = record {
   site = ap (λ (z : Lowering). z.site) p.same;
   typed = λ S w size good now.
       subst (IsTypedNow S w) (sym p.same)
-      (record { block = now.block; size = now.size; steps = now.steps; stages = λ l s e. now.stages l s (ap (λ v. slice_get v.items l) (sym p.settles.stages) ∙ e) });
+      (open_more S w w old (record old { stages = new.stages; reached = false }) (ap (λ v. v.items) p.settles.stages) (omega arith) now.block (omega arith) now.steps now);
 }
 
 pub ends_grows : (next : Next) (old new : Lowering) → EndsAt next old new → Grows old new
@@ -215,7 +215,7 @@ jumps_but label old new p busy noted S w typed = by p.way
     by (inl q) = absurd (let idle = q.idle in omega (arith, busy, idle))
     by (inr q) =
         ends_typed S w (Jump label) (marked label old) new q.busy noted q.ends (jump_typed S.types old.block.operations label)
-        (record { block = typed.block; size = typed.size; stages = typed.stages })
+        (record { block = typed.block; idle = typed.idle; size = typed.size; stages = typed.stages })
 
 pub begins_shifts : (label : ℕ) (old new : Lowering) → Begins label old new → Shifts old new
 begins_shifts label old new (inl p) =
@@ -282,15 +282,17 @@ module _ (act : Act) (old new : Lowering) (a : ActsAt act old new) where
   pub acts_site : new.site ≡ old.site
   acts_site = ap (λ (z : Lowering). z.site) a.same ∙ (stage_shifts old a.mid a.begins).site
 
-  pub acts_typed : (S : Typing) (w size : ℕ) → IsGood size old → IsTypedAnywhere S.types S.program (4 * w) (stage.Act act a.next) → IsTypedNow S w old → IsTypedNow S w new
+  pub acts_typed : (S : Typing) (w size : ℕ) → IsGood size old → ((m : ℕ) → IsTypedAnywhere S.types S.program m (stage.Act act a.next)) → IsTypedNow S w old → IsTypedNow S w new
   acts_typed S w size good typed now =
+      let after = record a.mid { stages = record a.pushed { labels = slice_set a.pushed.labels a.next (Some (length a.pushed.places)) } } in
       let m = (stage_shifts old a.mid a.begins).typed S w size good now in
+      let count : idle_now after ≡ idle_now a.mid = room_more w a.mid after (stage.Act act a.next) a.pushes.stages refl in
       subst (IsTypedNow S w) (sym a.same) (record {
         block = m.block;
-        size = m.size;
+        idle = (let few = m.idle in omega (arith, few, count));
+        size = (let size = m.size in omega (arith, size, count));
         steps = m.steps;
-        stages = stages_more S w a.mid (record a.mid { stages = record a.pushed { labels = slice_set a.pushed.labels a.next (Some (length a.pushed.places)) } })
-            (stage.Act act a.next) a.pushes.stages (typed_but S w a.mid m) typed;
+        stages = stages_more S w a.mid after (stage.Act act a.next) a.pushes.stages refl (typed_but S w a.mid m) (typed (room w a.mid));
       })
 
 module _ (old new : Lowering) (e : EndsCall old new) where
@@ -321,12 +323,15 @@ module _ (old new : Lowering) (e : EndsCall old new) where
     grows = call_grows;
     site = ap (λ (z : Lowering). z.site) e.same ∙ (stage_shifts old e.mid e.begins).site;
     typed = λ S w size good now.
+        let after = record e.mid { stages = new.stages; reached = false } in
         let m = (stage_shifts old e.mid e.begins).typed S w size good now in
+        let count : idle_now after ≡ idle_now e.mid = room_more w e.mid after (stage.Act Return 0) e.pushes.stages refl in
         subst (IsTypedNow S w) (sym e.same) (record {
           block = m.block;
-          size = m.size;
+          idle = (let few = m.idle in omega (arith, few, count));
+          size = (let size = m.size in omega (arith, size, count));
           steps = m.steps;
-          stages = stages_more S w e.mid (record e.mid { stages = new.stages; reached = false }) (stage.Act Return 0) e.pushes.stages (typed_but S w e.mid m) (λ n stage_of below. tt);
+          stages = stages_more S w e.mid after (stage.Act Return 0) e.pushes.stages refl (typed_but S w e.mid m) (λ n stage_of below. tt);
         });
   }
 

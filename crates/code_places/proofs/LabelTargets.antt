@@ -25,7 +25,7 @@ use Rattle.code_places.specs.Resuming.{home_value, Setting, Keeping, nothing_kep
 use Rattle.code_places.specs.Apart.{IsGood}
 use Rattle.code_places.specs.Labels.{IsHere, leading, led_next, led_stage, led, IsWhole, Pushes, Settles, IsOpen, IsTarget}
 use Rattle.code_places.specs.Control.{marked, placed, Branches, EndsAt, LeadsOn, EndsBusy, Jumps, BeginsHere, BeginsAfter, Begins, Whole, IsIn, AtLabelUpTo, GoesOn}
-use Rattle.code_places.proofs.LabelSteps.{target_after, marks, binds_label, pushes_advance, pushed_here, leads_advance, led_here}
+use Rattle.code_places.proofs.LabelSteps.{target_after, marks, binds_label, pushed_open, pushed_obeys, pushed_here, leads_advance, led_here}
 use Rattle.code_places.proofs.ResumedPlaces.{stage_at, fresh_of_in}
 
 led_append : (stage_of : ℕ → ℕ) (xs ys : List Stage) → led stage_of (xs ++ ys) ≡ led stage_of xs ++ led stage_of ys
@@ -47,7 +47,7 @@ module _ (stage_of : ℕ → ℕ) (all : List Stage) (old new : Stages) (whole :
           ∙ ap (λ l. l ++ whole.part.more) (led_append stage_of old.stages.items (s ∷ []))
           ∙ append_assoc (led stage_of old.stages.items) (led_stage stage_of s ∷ []) whole.part.more;
     };
-    obeys = (pushes_advance s old new p).obeys stage_of whole.obeys;
+    obeys = pushed_obeys s old new p stage_of whole.obeys;
   }
 
   -- and the stage is there
@@ -81,7 +81,7 @@ pub open_marked : (label other : ℕ) (c : Lowering) → IsOpen other c.stages �
 open_marked label other c open_ = (marks label c.stages (marked label c).stages refl).open_ other (λ b. b) open_
 
 pub open_ended : (next : Next) (label : ℕ) (old new : Lowering) → EndsAt next old new → IsOpen label old.stages → IsOpen label new.stages
-open_ended next label old new e open_ = (pushes_advance (stage.Run e.block) old.stages new.stages e.pushes).open_ label (λ b. b) open_
+open_ended next label old new e open_ = pushed_open (stage.Run e.block) old.stages new.stages e.pushes label open_
 
 -- a label that is given the place at hand is there, and so are those that were
 pub placed_here : (label : ℕ) (c : Lowering) → IsOpen label c.stages → IsHere (placed label c).stages label
@@ -205,9 +205,9 @@ begin_goes_on W homes n k Kept label size old new good reached (inr p) whole g =
 
 -- What the code of the parts gives.
 
-pub ends_at : (next : Next) (old new : Lowering) (block : Block) → Closes old.block next block → (HasNoted old.block → IsFresh (length old.block.current) new.block) →
+pub ends_at : (next : Next) (old new : Lowering) (block : Block) → Closes old.block next block → new.block.operations ≡ [] → (HasNoted old.block → IsFresh (length old.block.current) new.block) →
     Pushes (stage.Run block) old.stages new.stages → new ≡ record old { block = new.block; stages = new.stages; reached = false } → EndsAt next old new
-ends_at next old new block closes left pushes same = record { block = block; closes = closes; left = left; pushes = pushes; same = same }
+ends_at next old new block closes none left pushes same = record { block = block; closes = closes; none = none; left = left; pushes = pushes; same = same }
 
 pub jumps_idle : (label : ℕ) (old marked_ new : Lowering) → IsTarget label old.stages → marked_ ≡ marked label old → marked_.block.steps ≡ 0 →
     Settles (leading marked_.stages.places (slice_get marked_.stages.labels label) label) marked_.stages new.stages →

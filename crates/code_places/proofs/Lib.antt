@@ -1,8 +1,11 @@
 pub mod LabelSteps
 pub mod LabelTargets
 pub mod CodeGrowth
+pub mod Comparisons
+pub mod HeadPlaces
 pub mod KeptValues
 pub mod LabelStages
+pub mod LedComparisons
 pub mod NewLabel
 pub mod OpenLabels
 pub mod OpenParts

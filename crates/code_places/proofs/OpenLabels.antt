@@ -1,5 +1,5 @@
 -- Labels of parts of the code, and where the code begins.
-use Rattle.std.proofs.Common.{◌≡◌, ℕ, zero, suc, Bool, true, false, List, [], ◌∷◌, length, Some, None, refl, sym, ap, ◌∙◌, subst, ⊎_elim, inl, inr, arith}
+use Rattle.std.proofs.Common.{◌≡◌, ℕ, zero, suc, Bool, true, false, List, [], ◌∷◌, length, length-append, Some, None, refl, sym, ap, ◌∙◌, subst, ⊎_elim, inl, inr, arith}
 use Rattle.std.specs.Prelude.{◌⊎◌, slice_get, slice_set}
 use Rattle.std.proofs.lemmas.Bool.Decides.{eqb_tells}
 use Rattle.std.proofs.lemmas.Option.{slice_get_within}
@@ -14,7 +14,7 @@ use Rattle.code_places.specs.declared.lowering.Lowering.{Lowering}
 use Rattle.code_places.specs.Labels.{IsHere, Pushes, with_used, is_used, IsOpen, HasNoPlace, Advances, IsFirst}
 use Rattle.code_places.specs.Control.{marked, placed, with_label, LeadsOn, EndsBusy, Jumps, Begins, Binds, Leaps, BeginsStage, ActsAt, EndsCall, IsAtHand, Begun, Waits, BegunOr}
 use Rattle.code_places.proofs.LabelSteps.{None_, advances_refl, advances_new, advances_both, advances_label, first_after, labels_more, marks, binds_label}
-use Rattle.code_places.proofs.LabelSteps.{pushes_advance, pushed_first, leads_advance, led_here}
+use Rattle.code_places.proofs.LabelSteps.{pushes_advance, pushed_open, pushed_obeys, busy_may, act_may, pushed_first, leads_advance, led_here}
 use Rattle.code_places.proofs.LabelTargets.{target_marked, open_ended, placed_here, here_placed}
 
 -- ---- labels that are led to
@@ -49,7 +49,7 @@ label_open label old new number is = ap (λ (z : Lowering). slice_get z.stages.l
 pub act_next : (act : Act) (next : ℕ) (mid : Lowering) (labelled pushed : Stages) → next ≡ length mid.stages.labels → labelled ≡ (with_label mid).stages → Pushes (stage.Act act next) labelled pushed →
     IsOpen next pushed
 act_next act next mid labelled pushed number is pushes =
-    (pushes_advance (stage.Act act next) labelled pushed pushes).open_ next (λ b. b)
+    pushed_open (stage.Act act next) labelled pushed pushes next
     (ap (λ (z : Stages). slice_get z.labels next) is ∙ ap (slice_get (with_label mid).stages.labels) number ∙ get_last mid.stages.labels None)
 
 -- ---- where the code begins
@@ -61,7 +61,11 @@ pub pushed_begun : (stage_ : Stage) (old : Lowering) (mid new : Stages) → Adva
 pushed_begun stage_ old mid new to_mid items here pushes start (inl hand) =
     pushed_first stage_ mid new pushes start hand.label (items ∙ hand.none) (here hand.label hand.here) (λ stage_of o. hand.alike stage_of (to_mid.obeys stage_of o))
 pushed_begun stage_ old mid new to_mid items here pushes start (inr first) =
-    first_after None_ mid new start (pushes_advance stage_ mid new pushes) (first_after None_ old.stages mid start to_mid first)
+    let f = first_after None_ old.stages mid start to_mid first in
+    record {
+      some = (let s = f.some in let long = ap length pushes.stages ∙ length-append mid.stages.items (stage_ ∷ []) in omega (arith, s, long));
+      first = λ stage_of o. f.first stage_of (pushed_obeys stage_ mid new pushes stage_of o);
+    }
 
 pub label_begun : (start : ℕ) (c : Lowering) → Begun start c → Begun start (with_label c)
 label_begun start c (inr first) = inr (first_after None_ c.stages (with_label c).stages start (labels_more c.stages (with_label c).stages refl) first)
@@ -133,7 +137,8 @@ module _ (label : ℕ) (old new : Lowering) where
   after_marked : (mid : Lowering) → EndsBusy label (marked label old) mid → Advances None_ old.stages mid.stages
   after_marked mid p =
       advances_both None_ old.stages (marked label old).stages mid.stages (marks label old.stages (marked label old).stages refl)
-      (pushes_advance (stage.Run p.ends.block) (marked label old).stages mid.stages p.ends.pushes)
+      (pushes_advance (stage.Run p.ends.block) (marked label old).stages mid.stages p.ends.pushes
+      (busy_may p.ends.block (marked label old).stages (let busy = p.busy in let steps = p.ends.closes.steps in omega (arith, busy, steps))))
 
   pub first_marked : (mid : Lowering) → EndsBusy label (marked label old) mid → (start : ℕ) → Begun start old → IsFirst start mid.stages
   first_marked mid p =
@@ -236,20 +241,22 @@ module _ (act : Act) (old new : Lowering) (a : ActsAt act old new) where
 
   pub act_open : IsOpen a.next a.pushed
   act_open =
-      (pushes_advance (stage.Act act a.next) (with_label a.mid).stages a.pushed a.pushes).open_ a.next (λ b. b)
+      pushed_open (stage.Act act a.next) (with_label a.mid).stages a.pushed a.pushes a.next
       (ap (slice_get (with_label a.mid).stages.labels) a.next_ ∙ get_last a.mid.stages.labels None)
 
   mid_pushed : Advances None_ a.mid.stages a.pushed
-  mid_pushed = advances_both None_ a.mid.stages (with_label a.mid).stages a.pushed label_mid (pushes_advance (stage.Act act a.next) (with_label a.mid).stages a.pushed a.pushes)
+  mid_pushed = advances_both None_ a.mid.stages (with_label a.mid).stages a.pushed label_mid (pushes_advance (stage.Act act a.next) (with_label a.mid).stages a.pushed a.pushes (act_may act a.next (with_label a.mid).stages))
 
   pushed_new : Advances (λ other. other ≡ a.next) a.pushed new.stages
   pushed_new = subst (λ (z : Lowering). Advances (λ other. other ≡ a.next) a.pushed z.stages) (sym a.same) (binds_label a.next a.pushed placed_ act_open refl)
 
+  pub acts_after : Advances None_ a.mid.stages new.stages
+  acts_after =
+      advances_new None_ (λ other. other ≡ a.next) a.mid.stages a.pushed new.stages mid_pushed pushed_new
+      (λ other e o. absurd (let lt = slice_get_within a.mid.stages.labels other None o in let n = a.next_ in omega (arith, lt, e, n)))
+
   pub acts_advance : Advances None_ old.stages new.stages
-  acts_advance =
-      advances_both None_ old.stages a.mid.stages new.stages (stage_advance old a.mid a.begins)
-      (advances_new None_ (λ other. other ≡ a.next) a.mid.stages a.pushed new.stages mid_pushed pushed_new
-      (λ other e o. absurd (let lt = slice_get_within a.mid.stages.labels other None o in let n = a.next_ in omega (arith, lt, e, n))))
+  acts_advance = advances_both None_ old.stages a.mid.stages new.stages (stage_advance old a.mid a.begins) acts_after
 
   pub acts_first : (start : ℕ) → Begun start old → IsFirst start new.stages
   acts_first start begun =
@@ -258,9 +265,11 @@ module _ (act : Act) (old new : Lowering) (a : ActsAt act old new) where
       (λ label here. get_front a.mid.stages.labels (None ∷ []) label (Some (length a.mid.stages.places)) here) a.pushes start (stage_begun old a.mid a.begins start begun))
 
 module _ (old new : Lowering) (e : EndsCall old new) where
+  pub call_after : Advances None_ e.mid.stages new.stages
+  call_after = pushes_advance (stage.Act Return 0) e.mid.stages new.stages e.pushes (act_may Return 0 e.mid.stages)
+
   pub call_advance : Advances None_ old.stages new.stages
-  call_advance =
-      advances_both None_ old.stages e.mid.stages new.stages (stage_advance old e.mid e.begins) (pushes_advance (stage.Act Return 0) e.mid.stages new.stages e.pushes)
+  call_advance = advances_both None_ old.stages e.mid.stages new.stages (stage_advance old e.mid e.begins) call_after
 
   pub call_first : (start : ℕ) → Begun start old → IsFirst start new.stages
   call_first start begun =

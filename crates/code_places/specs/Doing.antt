@@ -1,5 +1,5 @@
 -- What the code of a statement does.
-use Rattle.std.specs.Prelude.{◌≡◌, ℕ, ◌+◌, ◌≤◌, Bool, true, List, [], ◌++◌, ◌∷◌, length, map, replicate, Option, Some, None, Contains, ◌⊎◌, string_bytes}
+use Rattle.std.specs.Prelude.{◌≡◌, ℕ, ◌+◌, ◌<◌, ◌≤◌, Bool, true, List, [], ◌++◌, ◌∷◌, length, map, replicate, Option, Some, None, IfSome, IsSomeAnd, Contains, ◌⊎◌, string_bytes}
 use Rattle.hls_ints.specs.Types.{long_int}
 use Rattle.c_program.specs.Tree.{Statement, Program}
 use Rattle.c_program.specs.Limits.{print_count}
@@ -22,7 +22,7 @@ use Rattle.code_blocks.specs.Typing.{Typing, Fits, HasWords}
 use Rattle.code_storage.specs.Housing.{AreHomes, homes_in, site_in}
 use Rattle.code_places.specs.Resuming.{nothing_kept}
 use Rattle.code_storage.specs.Formats.{HasSites}
-use Rattle.code_places.specs.Labels.{IsHere, Finishes, is_used, IsTarget, Advances}
+use Rattle.code_places.specs.Labels.{IsHere, Finishes, is_used, IsTarget, IsAt, IsBusy, Advances}
 use Rattle.code_places.specs.Apart.{IsTypedNow, IsGood}
 use Rattle.code_places.specs.Control.{with_label, Begun, BegunOr, Begins, Whole, IsIn, AtLabelUpTo, GoesOn}
 
@@ -70,12 +70,12 @@ module _ (W : Whole) (homes : List Home) (n : ℕ) where
   -- where break and continue lead
   abbrev pub LeadsOut : List Bool → Option Loop → List Work → Type 0
   LeadsOut used None k = Unit {0}
-  LeadsOut used (Some l) k = IfUsed used l.leaving (settled Leaving k) × IfUsed used l.turning (settled Turning k)
+  LeadsOut used (Some l) k = IfUsed used l.leaving (settled Leaving k) × IfSome l.turning (λ turning. IfUsed used turning (settled Turning k))
 
 -- the labels where break and continue lead
 abbrev pub AreTargets : Option Loop → Stages → Type 0
 AreTargets None s = Unit {0}
-AreTargets (Some l) s = IsTarget l.leaving s × IsTarget l.turning s
+AreTargets (Some l) s = IsTarget l.leaving s × IfSome l.turning (λ turning. IsTarget turning s)
 
 -- the label where a return into a caller leads
 abbrev pub IsBackTarget : Option Back → Stages → Type 0
@@ -84,13 +84,29 @@ IsBackTarget (Some b) s = IsTarget b.label s
 
 abbrev pub IsOut : Option Loop → ℕ → Type 0
 IsOut None label = ⊥
-IsOut (Some l) label = (label ≡ l.leaving) ⊎ (label ≡ l.turning)
+IsOut (Some l) label = (label ≡ l.leaving) ⊎ IsSomeAnd l.turning (λ turning. label ≡ turning)
 
--- the code of a statement leaves open what was, and begins where it did
+-- the label's place is that of the block at hand, which takes a step already and will be stage l
+pub record IsHead (label l : ℕ) (c : Lowering) : Type 0 where
+  pub here : IsHere c.stages label
+  pub number : length c.stages.stages.items ≡ l
+  pub busy : 0 < c.block.steps
+  pub on : c.reached ≡ true
+
+-- the label's place is stage l, which takes a step
+pub record HasCome (label l : ℕ) (s : Stages) : Type 0 where
+  pub at : IsAt label l s
+  pub busy : IsBusy l s
+
+abbrev pub Heads : ℕ → ℕ → Lowering → Type 0
+Heads label l c = IsHead label l c ⊎ HasCome label l c.stages
+
+-- the code of a statement leaves open what was, begins where it did, and makes a stage of a block that takes a step
 pub record Proceeds (around : Option Loop) (old new : Lowering) : Type 0 where
   pub back : new.back ≡ old.back
   pub advances : Advances (λ label. ⊥) old.stages new.stages
   pub begun : (start : ℕ) → BegunOr (IsOut around) start old → BegunOr (IsOut around) start new
+  pub heads : (label l : ℕ) → Heads label l old → Heads label l new
 
 -- what the code of a statement rests on
 pub record Suits (P : Program) (W : Whole) (homes : List Home) (size : ℕ) (s : Statement) (c : Lowering) : Type 0 where
