@@ -1,5 +1,5 @@
 -- Calls: the step that begins one, the code of the function that is called, and what follows in the caller.
-use Rattle.std.proofs.Common.{◌≡◌, ℕ, zero, suc, ◌+◌, ◌*◌, ◌<◌, ◌≤◌, true, List, [], ◌∷◌, ◌++◌, length, map, ℤ, Option, Some, None, refl, sym, ap, ◌∙◌, subst}
+use Rattle.std.proofs.Common.{◌≡◌, ℕ, zero, suc, ◌+◌, ◌<◌, ◌≤◌, true, List, [], ◌∷◌, ◌++◌, length, map, ℤ, Option, Some, None, refl, sym, ap, ◌∙◌, subst}
 use Rattle.std.proofs.Common.{arith, append-nil, length-append}
 use Rattle.std.specs.Prelude.{slice_get, Contains}
 use Rattle.std.proofs.lemmas.List.Elements.{Contains-push}
@@ -45,7 +45,7 @@ use Rattle.code_places.proofs.Shapes.{have_homes, length_blank, blank_none}
 use Rattle.code_storage.proofs.Housed.{local_there}
 use Rattle.code_places.proofs.InlinedWeight.{body_weighs}
 use Rattle.code_storage.proofs.Reached.{runs_callee, is_function}
-use Rattle.code_places.proofs.TypedGrowth.{anywhere_more, now_more}
+use Rattle.code_places.proofs.TypedGrowth.{open_more, now_more}
 use Rattle.code_places.proofs.ResumedPlaces.{Goes, resume_less}
 use Rattle.code_places.proofs.KeptLocals.{callers_kept, all_waiting, seat_on}
 use Rattle.code_places.proofs.LabelTargets.{begin_at, begun_idle}
@@ -203,12 +203,11 @@ module _ (P : Program) (into : Option ℕ) (g : ℕ) (es : List Expression) (old
     typed_begun =
         let room = subst (Fits there) (ap (λ (z : Lowering). z.homes) opens.new_is) seats_fit in
         let open_ = opens.works.typed S fits (is.call.passed, λ x l at. room.locals x l at) now.block in
-        subst (IsTypedNow there (w + arguments_weight es + 1)) (sym opens.new_is) (record {
-          block = record { operations = open_.operations; few = open_.few; current = open_.current };
-          size = (let c = opens.works.count in let f = now.size in omega (arith, c, f));
-          steps = (let k = opens.passes.steps in let f = now.steps in omega (arith, k, f));
-          stages = λ l s e. anywhere_more S.types S.program (4 * w) (4 * (w + arguments_weight es + 1)) (omega arith) s (now.stages l s e);
-        })
+        let more : IsTypedNow S (w + arguments_weight es + 1) stepped =
+        open_more S w (w + arguments_weight es + 1) old stepped refl (omega arith) (record { operations = open_.operations; few = open_.few; current = open_.current })
+        (let c = opens.works.count in omega (arith, c)) (let k = opens.passes.steps in let f = now.steps in omega (arith, k, f)) now in
+        subst (IsTypedNow there (w + arguments_weight es + 1)) (sym opens.new_is)
+        (record { block = more.block; idle = more.idle; size = more.size; steps = more.steps; stages = more.stages })
 
     word_typed : HasWord S.types begun_.back
     word_typed = subst (HasWord S.types) (sym (ap (λ (z : Lowering). z.back) opens.new_is)) (variable_typed S old.homes fits into is.slot)
@@ -317,8 +316,8 @@ module _ (P : Program) (into : Option ℕ) (g : ℕ) (es : List Expression) (old
         lead.typed (record S { function = call.function }) (w + arguments_weight es + 1) size
         (suits_there P into g es old call.begun call.function call.found call.caller call.opens on S w size seated fits good is called now)
         (typed_begun P into g es old call.begun call.function call.found call.caller call.opens on S w size seated fits good is called now) in
-        let at_closed = done_closed.typed S total size (done_good size good) (record { block = at_done.block; size = at_done.size; steps = at_done.steps; stages = at_done.stages }) in
-        let at_new = back_new.typed S total size (back_good size good) (record { block = at_closed.block; size = at_closed.size; steps = at_closed.steps; stages = at_closed.stages }) in
+        let at_closed = done_closed.typed S total size (done_good size good) (record { block = at_done.block; idle = at_done.idle; size = at_done.size; steps = at_done.steps; stages = at_done.stages }) in
+        let at_new = back_new.typed S total size (back_good size good) (record { block = at_closed.block; idle = at_closed.idle; size = at_closed.size; steps = at_closed.steps; stages = at_closed.stages }) in
         let weighs = body_weighs S.program g call.function seated.resolved.acyclic at in
         now_more S total (w + (arguments_weight es + function_weight S.program.functions g)) new (omega (arith, weighs)) at_new
 

@@ -1,5 +1,5 @@
 -- A printf: the step that evaluates its arguments, and the act.
-use Rattle.std.proofs.Common.{◌≡◌, ℕ, zero, suc, ◌+◌, ◌*◌, ◌≤◌, true, List, [], ◌∷◌, ◌++◌, length, ℤ, Option, Some, refl, sym, ap, None, ◌∙◌, subst, arith, append-nil}
+use Rattle.std.proofs.Common.{◌≡◌, ℕ, zero, suc, ◌+◌, ◌≤◌, true, List, [], ◌∷◌, ◌++◌, length, ℤ, Option, Some, refl, sym, ap, None, ◌∙◌, subst, arith, append-nil}
 use Rattle.std.proofs.Common.{length-append}
 use Rattle.std.specs.Prelude.{slice_get}
 use Rattle.std.proofs.lemmas.Option.{slice_get_within}
@@ -34,7 +34,7 @@ use Rattle.code_blocks.proofs.Puts.{arguments_converted}
 use Rattle.code_blocks.proofs.Words.{words_are_values}
 use Rattle.code_blocks.specs.Evaluating.{held_by}
 use Rattle.code_storage.proofs.Sites.{site_at, conversions_length}
-use Rattle.code_places.proofs.TypedGrowth.{anywhere_more, print_typed}
+use Rattle.code_places.proofs.TypedGrowth.{open_more, print_typed}
 use Rattle.code_places.proofs.Shapes.{have_homes}
 use Rattle.code_places.proofs.ResumedPlaces.{Goes, resume_less}
 use Rattle.code_places.proofs.KeptLocals.{seat_kept}
@@ -89,19 +89,17 @@ module _ (P : Program) (format : List Piece) (arguments : List Expression) (old 
   mid_typed S w size suits now =
       let size_is : first ≡ size = first_is ∙ suits.good.variables in
       let open_ = works.typed S suits.fits (suits.resolved.passed, subst (λ n. HasWords S.types n (length arguments)) (sym size_is) suits.words) now.block in
-      subst (IsTypedNow S (w + inlined_weight S.program statement)) (sym stepped) (record {
-        block = record { operations = open_.operations; few = open_.few; current = open_.current };
-        size = (let c = works.count in let f = now.size in let m = suits.resolved.most in omega (arith, c, f, m));
-        steps = (let f = now.steps in let p = puts.steps in omega (arith, f, p));
-        stages = λ l s e. anywhere_more S.types S.program (4 * w) (4 * (w + inlined_weight S.program statement)) (omega arith) s (now.stages l s e);
-      })
+      subst (IsTypedNow S (w + inlined_weight S.program statement)) (sym stepped)
+      (open_more S w (w + inlined_weight S.program statement) old (at_site (old.site + 1) between) refl (omega arith)
+      (record { operations = open_.operations; few = open_.few; current = open_.current }) (let c = works.count in let m = suits.resolved.most in omega (arith, c, m))
+      (let f = now.steps in let p = puts.steps in omega (arith, f, p)) now)
 
   print_stays : (S : Typing) (w size : ℕ) → SuitsTyping P S size statement old → IsTypedNow S w old → IsTypedNow S (w + inlined_weight S.program statement) new
   print_stays S w size suits now =
       let size_is : first ≡ size = first_is ∙ suits.good.variables in
       let typed =
       print_typed S size format arguments offset old.site site operands suits.words suits.resolved suits.sites (operands_are ∙ ap (λ n. word_operands n (length arguments)) size_is) site_is in
-      acts_typed (code.Print site operands) mid new acts S (w + inlined_weight S.program statement) size (mid_grows.good size suits.good) (λ n stage_of below. (typed, below acts.next))
+      acts_typed (code.Print site operands) mid new acts S (w + inlined_weight S.program statement) size (mid_grows.good size suits.good) (λ m n stage_of below. (typed, below acts.next))
       (mid_typed S w size suits now)
 
   module _ (W : Whole) (homes : List Home) (size n : ℕ) (k : List Work) (puts_here : PutsValues homes size types arguments old.block b)

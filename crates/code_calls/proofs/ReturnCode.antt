@@ -39,7 +39,7 @@ use Rattle.code_blocks.proofs.OperationRuns.{reads_none}
 use Rattle.code_blocks.proofs.Steps.{fits_on, read_held, length_on}
 use Rattle.code_blocks.proofs.TypedExpressions.{operand_converted}
 use Rattle.code_blocks.proofs.TypedAssignments.{variable_stored}
-use Rattle.code_places.proofs.TypedGrowth.{IsTypedBut, anywhere_more, now_more}
+use Rattle.code_places.proofs.TypedGrowth.{IsTypedBut, open_more, now_more}
 use Rattle.code_places.proofs.CodeGrowth.{grows_both, shifts_refl, jumps_shifts, jumps_but, call_shifts}
 use Rattle.code_places.proofs.BlockSteps.{block_grows, call_goes}
 use Rattle.code_calls.proofs.ReturnTargets.{Leaves, into_small, returned_goes, back_goes, IsReturned, is_returned, returned_none}
@@ -125,12 +125,10 @@ module _ (P : Program) (b : Back) (old code new : Lowering) (more : List Operati
       let put_open = put_typed S word typed open_ in
       let same = ap length ir.operations in
       (jumps_shifts b.label ret.stepped new ret.jumps).typed S (w + most) size (value_stepped.good size good)
-      (subst (IsTypedNow S (w + most)) (sym stepped_is) (record {
-        block = record { operations = put_open.operations; few = put_open.few; current = put_open.current };
-        size = (let f = now.size in omega (arith, same, count, f));
-        steps = (let f = now.steps in let t = ir.steps in let u = ap (λ (z : OpenBlock). z.steps) added in omega (arith, f, t, u, some));
-        stages = λ l s e. anywhere_more S.types S.program (4 * w) (4 * (w + most)) (omega arith) s (now.stages l s e);
-      }))
+      (subst (IsTypedNow S (w + most)) (sym stepped_is)
+      (open_more S w (w + most) old (record old { block = record ret.put { steps = suc ret.put.steps } }) refl (omega arith)
+      (record { operations = put_open.operations; few = put_open.few; current = put_open.current }) (omega (arith, same, count))
+      (let f = now.steps in let t = ir.steps in let u = ap (λ (z : OpenBlock). z.steps) added in omega (arith, f, t, u, some)) now))
 
   module _ (W : Whole) (homes : List Home) (size n : ℕ) (Kept : Keeping) (k : List Work) (good : IsGood size old) (seated : IsSeated P W homes size old) (whole : IsIn W new)
       (outcome : (variables : ℕ → ℤ) (r : Running) (f : Frame) (fs : List Frame) (globals : List (List ℤ)) → f.work ≡ k → IsMid W.setting homes Kept old.block variables r f fs globals →
@@ -197,7 +195,7 @@ module _ (old new : Lowering) (p : StepsBack old new) where
         typed = λ S w size good now.
             jumps_but p.back.label p.stepped new p.jumps (let e = ap (λ (z : OpenBlock). z.steps) nothing_is in omega (arith, e)) (nothing_sounds size good.sound).noted S w
             (subst (IsTypedBut S w) (sym p.is)
-            (record { block = record { operations = now.block.operations; few = now.block.few; current = now.block.current }; size = now.size; stages = now.stages }));
+            (record { block = record { operations = now.block.operations; few = now.block.few; current = now.block.current }; idle = now.idle; size = now.size; stages = now.stages }));
       }
 
   steps_back_goes : (P : Program) (W : Whole) (homes : List Home) (size n : ℕ) (k : List Work) → IsGood size old → IsSeated P W homes size old → IsIn W new → (offset : Frame → ℕ) →

@@ -20,7 +20,7 @@ use Rattle.code_places.specs.declared.lowering.Lowering.{Lowering}
 use Rattle.code_places.specs.Apart.{IsTypedNow}
 use Rattle.code_places.specs.Control.{ActsAt}
 use Rattle.code_places.specs.Doing.{Grows, SuitsTyping}
-use Rattle.code_places.proofs.TypedGrowth.{anywhere_more, act_stage}
+use Rattle.code_places.proofs.TypedGrowth.{open_more, act_stage}
 use Rattle.code_places.proofs.CodeGrowth.{acts_typed}
 use Rattle.code_storage.specs.Objects.{AreObjects, first_in}
 use Rattle.code_storage.specs.Values.{operand_count}
@@ -206,10 +206,8 @@ module _ (P : Program) (call : ThreadCall) (old mid new : Lowering) (b : OpenBlo
       (λ some. second_word S.types first (length (values_of call)) words_ some)) in
       let more = w + inlined_weight S.program (Statement.Thread offset call) in
       acts_typed code_act mid new acts S more size (grows.good size suits.good)
-      (λ n stage_of below. act_stage S.types S.program n (4 * more) (stage_of acts.next) code_act typed (below acts.next))
-      (subst (IsTypedNow S more) (sym stepped) (record {
-        block = record { operations = open_.operations; few = open_.few; current = open_.current };
-        size = (let c = works.count in let f = now.size in omega (arith, c, f));
-        steps = (let f = now.steps in let p = prepares.steps in omega (arith, f, p));
-        stages = λ l s e. anywhere_more S.types S.program (4 * w) (4 * more) (omega arith) s (now.stages l s e);
-      }))
+      (λ m n stage_of below. act_stage S.types S.program n m (stage_of acts.next) code_act typed (below acts.next))
+      (subst (IsTypedNow S more) (sym stepped)
+      (open_more S w more old (record old { block = record b { steps = suc b.steps } }) refl (omega arith)
+      (record { operations = open_.operations; few = open_.few; current = open_.current }) (let c = works.count in omega (arith, c))
+      (let f = now.steps in let p = prepares.steps in omega (arith, f, p)) now))

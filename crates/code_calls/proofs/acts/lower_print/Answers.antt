@@ -32,6 +32,8 @@ returns-clause-labels c = λ around.
     acts_proceed _ c.args.code.now c.skip_sites.new.self c.act.new.self (ap (λ (z : Lowering). z.stages) c.in_ok-skip_sites.ensures.after)
     (ap (λ (z : Lowering). z.reached) c.in_ok-skip_sites.ensures.after)
     (ap (λ (z : Lowering). z.back) c.in_ok-skip_sites.ensures.after)
+    (let e = ap (λ (z : Lowering). z.block.steps) c.in_ok-skip_sites.ensures.after in let s = ap (λ (z : OpenBlock). z.steps) c.in_ok-step.ensures.after in
+    let p = c.in_ok-lower_values.ensures.puts.steps in omega (arith, e, s, p))
     c.requires.reached c.in_ok-act.ensures around
 
 pub returns-in_err-first : goal.returns-in_err-first

@@ -11,7 +11,8 @@ use Rattle.code_calls.proofs.acts.lower_thread_call.Goals as goal
 
 pub returns-clause-labels : goal.returns-clause-labels
 returns-clause-labels c = λ around.
-    acts_proceed _ c.args.code.now (record c.args.code.now { block = c.step.new.self }) c.act.new.self refl refl refl c.requires.reached c.in_ok-act-2.ensures around
+    acts_proceed _ c.args.code.now (record c.args.code.now { block = c.step.new.self }) c.act.new.self refl refl refl
+    (let s = ap (λ (z : OpenBlock). z.steps) c.in_ok-step.ensures.after in let p = c.in_ok-act.ensures.prepares.steps in omega (arith, s, p)) c.requires.reached c.in_ok-act-2.ensures around
 
 pub returns-clause-lowers : goal.returns-clause-lowers
 returns-clause-lowers c = λ offset P around on.

@@ -26,7 +26,8 @@ returns-in_ok-value-in-Some c =
     record {
       labels =
           on_ok_weaker c.return_value.result
-          (λ returns around. returns_proceed c.in-Some.back _ c.args.code.now mid c.return_value.new.code refl refl refl returns c.requires.reached around)
+          (λ returns around. returns_proceed c.in-Some.back _ c.args.code.now mid c.return_value.new.code refl refl refl
+          (let s = ap (λ (z : OpenBlock). z.steps) c.in_ok-value-in-Some.ensures.value.added in omega (arith, s)) returns c.requires.reached around)
           c.return_value.ensures.returns;
       lowers =
           on_ok_weaker c.return_value.result
