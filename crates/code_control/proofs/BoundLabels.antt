@@ -1,7 +1,7 @@
 -- The labels of an if and of loops get their places.
-use Rattle.std.proofs.Common.{◌≡◌, ℕ, suc, ◌<◌, [], ◌∷◌, length, None, sym, ap, ◌∙◌, subst, inl, inr, arith, length-append}
+use Rattle.std.proofs.Common.{◌≡◌, ℕ, suc, ◌<◌, [], ◌∷◌, length, Some, None, sym, ap, ◌∙◌, subst, inl, inr, arith, length-append}
 use Rattle.std.proofs.lemmas.Option.{slice_get_within}
-use Rattle.c_program.specs.Tree.{Statement}
+use Rattle.c_program.specs.Tree.{Statement, Program}
 use Rattle.code_control.specs.declared.branching.ChoiceLabels.{ChoiceLabels}
 use Rattle.code_control.specs.declared.branching.LoopLabels.{LoopLabels}
 use Rattle.code_places.specs.declared.stages.Stages.{Stages}
@@ -19,11 +19,11 @@ use Rattle.code_places.specs.declared.targets.Loop.{Loop}
 
 -- of a while, whose continue goes to its head
 abbrev pub while_labels : LoopLabels → Loop
-while_labels l = record { leaving = l.leaving; turning = l.head }
+while_labels l = record { leaving = l.leaving; turning = Some l.head }
 
 -- of a do and of a for
 abbrev pub labels_of : LoopLabels → Loop
-labels_of l = record { leaving = l.leaving; turning = l.turning }
+labels_of l = record { leaving = l.leaving; turning = Some l.turning }
 
 -- ---- new labels
 
@@ -79,8 +79,8 @@ loop_new l a b c two relabels more =
 pub open_target : (label : ℕ) (s : Stages) → IsOpen label s → IsTarget label s
 open_target label s o = inl o
 
-pub choice_open : (d : Statement) (l : ChoiceLabels) (old labelled decided : Lowering) → AreChoice l old labelled → Decides d l.if_true l.if_false labelled decided → IsOpen l.if_true decided.stages
-choice_open d l old labelled decided labels decides = decides.advances.open_ l.if_true (λ m. m) labels.if_true.open_
+pub choice_open : (P : Program) (d : Statement) (l : ChoiceLabels) (old labelled decided : Lowering) → AreChoice l old labelled → Decides P d None l.if_true l.if_false labelled decided → IsOpen l.if_true decided.stages
+choice_open P d l old labelled decided labels decides = decides.advances.open_ l.if_true (λ m. m) labels.if_true.open_
 
 pub leaps_open : (label other : ℕ) (old new : Lowering) → Leaps label old new → IsOpen other old.stages → IsOpen other new.stages
 leaps_open label other old new leaps o = (leaps_advance label old new leaps).open_ other (λ m. m) o
@@ -89,17 +89,17 @@ pub begun_new : (l : LoopLabels) (label : ℕ) (old begun : Lowering) → (opens
 begun_new l label old begun opens lt n =
     record { after = n.after; open_ = (begins_advance l.head opens.labelled begun opens.begins).open_ label (λ e. absurd (omega (arith, lt, e))) n.open_ }
 
-pub body_open : (d : Statement) (l : LoopLabels) (old begun decided : Lowering) → OpensLoop l old begun → Decides d l.body l.leaving begun decided → IsOpen l.body decided.stages
-body_open d l old begun decided opens decides = decides.advances.open_ l.body (λ m. m) (begun_new l l.body old begun opens opens.labels.first opens.labels.body).open_
+pub body_open : (P : Program) (d : Statement) (l : LoopLabels) (old begun decided : Lowering) → OpensLoop l old begun → Decides P d None l.body l.leaving begun decided → IsOpen l.body decided.stages
+body_open P d l old begun decided opens decides = decides.advances.open_ l.body (λ m. m) (begun_new l l.body old begun opens opens.labels.first opens.labels.body).open_
 
-pub asks_advance : (d : Statement) (l : LoopLabels) (old new : Lowering) → Asks d l old new → Advances None_ old.stages new.stages
-asks_advance d l old new (inl p) = subst (λ (z : Lowering). Advances None_ old.stages z.stages) (sym p.same) (advances_refl None_ old.stages)
-asks_advance d l old new (inr p) = p.decides.advances
+pub asks_advance : (P : Program) (d : Statement) (l : LoopLabels) (old new : Lowering) → Asks P d l old new → Advances None_ old.stages new.stages
+asks_advance P d l old new (inl p) = subst (λ (z : Lowering). Advances None_ old.stages z.stages) (sym p.same) (advances_refl None_ old.stages)
+asks_advance P d l old new (inr p) = p.decides.advances
 
-pub leaving_open : (d : Statement) (l : LoopLabels) (old turned asked : Lowering) → l.turning < l.leaving → IsOpen l.leaving old.stages → Binds l.turning old turned → Asks d l turned asked →
+pub leaving_open : (P : Program) (d : Statement) (l : LoopLabels) (old turned asked : Lowering) → l.turning < l.leaving → IsOpen l.leaving old.stages → Binds l.turning old turned → Asks P d l turned asked →
     IsOpen l.leaving asked.stages
-leaving_open d l old turned asked lt o binds asks =
-    (asks_advance d l turned asked asks).open_ l.leaving (λ m. m) ((binds_advance l.turning old turned binds).open_ l.leaving (λ e. absurd (omega (arith, lt, e))) o)
+leaving_open P d l old turned asked lt o binds asks =
+    (asks_advance P d l turned asked asks).open_ l.leaving (λ m. m) ((binds_advance l.turning old turned binds).open_ l.leaving (λ e. absurd (omega (arith, lt, e))) o)
 
 pub site_open : (label site : ℕ) (old mid : Lowering) → mid ≡ at_site site old → IsOpen label old.stages → IsOpen label mid.stages
 site_open label site old mid is o = subst (λ (z : Lowering). IsOpen label z.stages) (sym is) o

@@ -2,7 +2,7 @@
 use Rattle.std.proofs.Common.{◌≡◌, ℕ, ◌+◌, ◌*◌, ◌≤◌, true, false, [], ◌++◌, length, None, Some, refl, sym, ap, ◌∙◌, subst, arith, append-nil, append_assoc, length-append}
 use Rattle.std.specs.Prelude.{Option, Contains}
 use Rattle.std.proofs.lemmas.List.Elements.{Contains-append_left, Contains-append_right}
-use Rattle.c_program.specs.Tree.{Expression, Statement, Program}
+use Rattle.c_program.specs.Tree.{Expression, Statement, Function, Program}
 use Rattle.c_program.specs.Limits.{print_count}
 use Rattle.c_program.specs.Calls.{calls_of}
 use Rattle.c_program.specs.Weight.{expression_weight}
@@ -13,6 +13,8 @@ use Rattle.code_places.specs.declared.targets.Loop.{Loop}
 use Rattle.code_control.specs.declared.branching.ChoiceLabels.{ChoiceLabels}
 use Rattle.code_control.specs.declared.branching.LoopLabels.{LoopLabels}
 use Rattle.code_blocks.specs.declared.fault.LoweringFault.{LoweringFault}
+use Rattle.code_blocks.specs.declared.truths.Note.{Note}
+use Rattle.code_blocks.specs.Truths.{opposite_note, HasSlot}
 use Rattle.code_places.specs.declared.lowering.Lowering.{Lowering}
 use Rattle.code_places.specs.Weighing.{inlined_weight}
 use Rattle.code_storage.specs.Values.{most_values}
@@ -20,77 +22,78 @@ use Rattle.code_blocks.specs.Typing.{Typing, Fits}
 use Rattle.code_storage.specs.Formats.{HasSites}
 use Rattle.code_places.specs.Apart.{IsTypedNow, IsGood}
 use Rattle.code_places.specs.Control.{with_label, Begins, Binds}
-use Rattle.code_control.specs.Deciding.{Decides}
+use Rattle.code_control.specs.Deciding.{SuitsAskedTyping, Decides, IsFullAsked}
 use Rattle.code_places.specs.Doing.{Grows, Shifts, at_site, SuitsTyping, Leads}
 use Rattle.code_control.specs.Branching.{OpensChoice, TurnsChoice, OpensLoop, OpensTurn}
 use Rattle.code_blocks.specs.Room.{IsFull}
-use Rattle.code_places.specs.Needing.{IsFullAt, IsDeep, needed, IsFullFor}
+use Rattle.code_places.specs.Needing.{IsDeep, needed, IsFullFor}
 use Rattle.code_blocks.proofs.Room.{full_more}
 use Rattle.code_storage.proofs.Sites.{formats_length, part_sites}
 use Rattle.code_places.proofs.CodeGrowth.{grows_refl, grows_both, site_grows, site_typed, label_relabels, begins_shifts, binds_shifts, leaps_shifts}
-use Rattle.code_control.proofs.ControlGrowth.{decides_grows}
-use Rattle.code_control.proofs.NestedStatements.{typing_part, loop_shifts, turn_grows, turn_site, turn_typed}
+use Rattle.code_control.proofs.Decisions.{asked_typing_part, slot_opposite, decided_typed}
+use Rattle.code_control.proofs.NestedStatements.{typing_part, typing_asked, no_sites, loop_shifts, turn_grows, turn_site, turn_typed}
 use Rattle.code_control.proofs.BoundLabels.{labels_of}
 
 -- Conditions.
 
--- the place before the condition is another
-pub shifted_at : (d : Statement) (more : ℕ) (old mid : Lowering) (fault : LoweringFault) → Shifts old mid → IsFullAt d more mid fault → IsFullAt d more old fault
-shifted_at d more old mid fault shifts full = λ S w size fits is good now.
-    full S w size (subst (Fits S) (sym shifts.grows.homes) fits) is (shifts.grows.good size good) (shifts.typed S w size good now)
+module _ (P : Program) (depth : ℕ) where
+  -- the place before the condition is another
+  pub shifted_at : (d : Statement) (note : Option Note) (old mid : Lowering) (fault : LoweringFault) → Shifts old mid → IsFullAsked P depth d note mid fault → IsFullAsked P depth d note old fault
+  shifted_at d note old mid fault shifts full = λ S w size slot suits deep now.
+      full S w size slot (asked_typing_part P S size d d old mid shifts.grows shifts.site suits.resolved (λ g c. c) suits) deep (shifts.typed S w size suits.good now)
 
-pub opposite_at : (d inner : Statement) (c : Lowering) (fault : LoweringFault) → d ≡ Statement.Opposite inner → IsFullAt inner 0 c fault → IsFullAt d 0 c fault
-opposite_at d inner c fault is full = rw is (λ S w size fits ok good now.
-    full_more fault (5 * (w + (inlined_weight S.program inner + 1)) + 0) (5 * (w + (inlined_weight S.program inner + 1 + 1)) + 0) (omega arith) (full S w size fits ok good now))
+  pub opposite_at : (d inner : Statement) (note : Option Note) (c : Lowering) (fault : LoweringFault) → d ≡ Statement.Opposite inner → IsFullAsked P depth inner (opposite_note note) c fault → IsFullAsked P depth d note c fault
+  opposite_at d inner note c fault is full = rw is (λ S w size slot suits deep now.
+      full_more fault (needed S size (w + inlined_weight S.program inner)) (needed S size (w + (inlined_weight S.program inner + 1))) (omega arith)
+      (full S w size (slot_opposite S.function note slot) (asked_typing_part P S size (Statement.Opposite inner) inner c c (grows_refl c) refl suits.resolved (λ g c. c) suits) deep now))
 
--- the operand of a condition of one
-pub test_at : (d : Statement) (offset : ℕ) (e : Expression) (c : Lowering) (fault : LoweringFault) → d ≡ Statement.Test offset e →
-    IsFull (length c.block.operations + c.block.steps + (3 * expression_weight e + 1)) fault → IsFullAt d 0 c fault
-test_at d offset e c fault is full = rw is (λ S w size fits ok good now.
-    let operations = now.size in
-    let steps = now.steps in
-    full_more fault (length c.block.operations + c.block.steps + (3 * expression_weight e + 1)) (5 * (w + (expression_weight e + 1)) + 0) (omega (arith, operations, steps)) full)
+  -- the operand of a condition of one
+  pub test_at : (d : Statement) (note : Option Note) (offset : ℕ) (e : Expression) (c : Lowering) (fault : LoweringFault) → d ≡ Statement.Test offset e →
+      IsFull (length c.block.operations + c.block.steps + (3 * expression_weight e + 4)) fault → IsFullAsked P depth d note c fault
+  test_at d note offset e c fault is full = rw is (λ S w size slot suits deep now.
+      let operations = now.size in
+      let steps = now.steps in
+      full_more fault (length c.block.operations + c.block.steps + (3 * expression_weight e + 4)) (needed S size (w + expression_weight e)) (let few = now.idle in omega (arith, operations, steps, few)) full)
 
-labelled : (old a : Lowering) → a ≡ with_label old → Shifts old a
-labelled old a label = subst (Shifts old) (sym label) (label_relabels old).shifts
+  labelled : (old a : Lowering) → a ≡ with_label old → Shifts old a
+  labelled old a label = subst (Shifts old) (sym label) (label_relabels old).shifts
 
--- the first operand of a condition of two
-pub first_at : (e c d : Statement) (old a : Lowering) (fault : LoweringFault) → ((P : Program) → inlined_weight P e ≡ inlined_weight P c + inlined_weight P d + 1) →
-    ((S : Typing) → IsCondition S.program S.function e → IsCondition S.program S.function c × IsCondition S.program S.function d) → a ≡ with_label old →
-    IsFullAt c 0 a fault → IsFullAt e 0 old fault
-first_at e c d old a fault weighs parts label full = λ S w size fits ok good now.
-    full_more fault (5 * (w + (inlined_weight S.program c + 1)) + 0) (5 * (w + (inlined_weight S.program e + 1)) + 0) (let sum = weighs S.program in omega (arith, sum))
-    (shifted_at c 0 old a fault (labelled old a label) full S w size fits (parts S ok).0 good now)
+  -- the first operand of a condition of two
+  module _ (e c d : Statement) (note : Option Note) (old a : Lowering) (fault : LoweringFault) (weighs : (Q : Program) → inlined_weight Q e ≡ inlined_weight Q c + inlined_weight Q d + 1)
+      (parts : (Q : Program) (f : Function) → IsCondition Q f e → IsCondition Q f c × IsCondition Q f d) (called : calls_of e ≡ calls_of c ++ calls_of d) (label : a ≡ with_label old) where
+    pub first_at : IsFullAsked P depth c note a fault → IsFullAsked P depth e note old fault
+    first_at full = λ S w size slot suits deep now.
+        let to_a = labelled old a label in
+        full_more fault (needed S size (w + inlined_weight S.program c)) (needed S size (w + inlined_weight S.program e)) (let sum = weighs S.program in omega (arith, sum))
+        (full S w size slot
+        (asked_typing_part P S size e c old a to_a.grows to_a.site (parts S.program S.function suits.resolved).0
+        (λ g h. subst (λ l. Contains l g) (sym called) (Contains-append_left (calls_of c) (calls_of d) g h)) suits)
+        deep (to_a.typed S w size suits.good now))
 
--- the second, behind the first
-pub second_at : (e c d : Statement) (next x y : ℕ) (old a m b : Lowering) (fault : LoweringFault) → ((P : Program) → inlined_weight P e ≡ inlined_weight P c + inlined_weight P d + 1) →
-    ((S : Typing) → IsCondition S.program S.function e → IsCondition S.program S.function c × IsCondition S.program S.function d) → a ≡ with_label old →
-    Decides c x y a m → Begins next m b → IsFullAt d 0 b fault → IsFullAt e 0 old fault
-second_at e c d next x y old a m b fault weighs parts label first begins full = λ S w size fits ok good now.
-    let to_a = labelled old a label in
-    let to_m = decides_grows c x y a m first in
-    let to_b = begins_shifts next m b begins in
-    let good_a = to_a.grows.good size good in
-    let good_m = to_m.good size good_a in
-    let fits_a = subst (Fits S) (sym to_a.grows.homes) fits in
-    let now_m = first.typed S w size fits_a (parts S ok).0 good_a (to_a.typed S w size good now) in
-    full_more fault (5 * (w + (inlined_weight S.program c + 1) + (inlined_weight S.program d + 1)) + 0) (5 * (w + (inlined_weight S.program e + 1)) + 0)
-    (let sum = weighs S.program in omega (arith, sum))
-    (full S (w + (inlined_weight S.program c + 1)) size (subst (Fits S) (sym (to_b.grows.homes ∙ to_m.homes)) fits_a) (parts S ok).1 (to_b.grows.good size good_m)
-    (to_b.typed S (w + (inlined_weight S.program c + 1)) size good_m now_m))
+    -- the second, behind the first
+    pub second_at : (next x y : ℕ) (m b : Lowering) → Decides P c note x y a m → Begins next m b → IsFullAsked P depth d note b fault → IsFullAsked P depth e note old fault
+    second_at next x y m b first begins full = λ S w size slot suits deep now.
+        let to_a = labelled old a label in
+        let to_b = begins_shifts next m b begins in
+        let good_a = to_a.grows.good size suits.good in
+        let ok = parts S.program S.function suits.resolved in
+        let now_m = decided_typed P c note x y a m first S w size slot
+        (asked_typing_part P S size e c old a to_a.grows to_a.site ok.0 (λ g h. subst (λ l. Contains l g) (sym called) (Contains-append_left (calls_of c) (calls_of d) g h)) suits)
+        (to_a.typed S w size suits.good now) in
+        let v = w + (inlined_weight S.program c + 1) in
+        full_more fault (needed S size (v + inlined_weight S.program d)) (needed S size (w + inlined_weight S.program e)) (let sum = weighs S.program in omega (arith, sum))
+        (full S v size slot
+        (asked_typing_part P S size e d old b (grows_both old m b (grows_both old a m to_a.grows first.grows) to_b.grows) (to_b.site ∙ first.site ∙ to_a.site) ok.1
+        (λ g h. subst (λ l. Contains l g) (sym called) (Contains-append_right (calls_of c) (calls_of d) g h)) suits)
+        deep (to_b.typed S v size (first.grows.good size good_a) now_m))
 
--- the parts of loops
+  -- the parts of loops
 
-pub turn_at : (d : Statement) (l : LoopLabels) (old begun : Lowering) (fault : LoweringFault) → OpensLoop l old begun → IsFullAt d 0 begun fault → IsFullAt d 0 old fault
-turn_at d l old begun fault opens full = shifted_at d 0 old begun fault (loop_shifts l old begun opens) full
+  pub turn_at : (d : Statement) (note : Option Note) (l : LoopLabels) (old begun : Lowering) (fault : LoweringFault) → OpensLoop l old begun → IsFullAsked P depth d note begun fault → IsFullAsked P depth d note old fault
+  turn_at d note l old begun fault opens full = shifted_at d note old begun fault (loop_shifts l old begun opens) full
 
-pub bound_at : (d : Statement) (label : ℕ) (old turned : Lowering) (fault : LoweringFault) → Binds label old turned → IsFullAt d 0 turned fault → IsFullAt d 0 old fault
-bound_at d label old turned fault binds full = shifted_at d 0 old turned fault (binds_shifts label old turned binds) full
-
-pub sited_at : (d : Statement) (more n : ℕ) (c mid : Lowering) (fault : LoweringFault) → mid ≡ at_site n c → IsFullAt d 0 mid fault → IsFullAt d more c fault
-sited_at d more n c mid fault is full = λ S w size fits ok good now.
-    full_more fault (5 * (w + (inlined_weight S.program d + 1)) + 0) (5 * (w + (inlined_weight S.program d + 1)) + more) (omega arith)
-    (subst (λ (z : Lowering). IsFullAt d 0 z fault) is full S w size fits ok ((site_grows n c).good size good) (site_typed n c S w now))
+  pub bound_at : (d : Statement) (note : Option Note) (label : ℕ) (old turned : Lowering) (fault : LoweringFault) → Binds label old turned → IsFullAsked P depth d note turned fault → IsFullAsked P depth d note old fault
+  bound_at d note label old turned fault binds full = shifted_at d note old turned fault (binds_shifts label old turned binds) full
 
 -- Statements that have no others in them.
 
@@ -126,11 +129,10 @@ module _ (P : Program) (depth : ℕ) where
         (full S v size (typing_part P S size s t old c grows suits around most resolved sites calls) deep now)
 
   -- a condition in a statement
-  condition_for : (s : Statement) (d : Statement) (more : ℕ) (c : Lowering) (fault : LoweringFault) → IsFullAt d more c fault → (S : Typing) (w v size : ℕ) → Fits S c.homes →
-      IsCondition S.program S.function d → IsGood size c → IsTypedNow S v c → v + inlined_weight S.program d + 1 ≤ w + inlined_weight S.program s → more ≤ length (print_formats S.program) →
-      IsFull (needed S size (w + inlined_weight S.program s)) fault
-  condition_for s d more c fault full S w v size fits is good now le few =
-      full_more fault (5 * (v + (inlined_weight S.program d + 1)) + more) (needed S size (w + inlined_weight S.program s)) (omega (arith, le, few)) (full S v size fits is good now)
+  condition_for : (s d : Statement) (c : Lowering) (fault : LoweringFault) → IsFullAsked P depth d None c fault → (S : Typing) (w v size : ℕ) → SuitsAskedTyping P S size d c →
+      IsDeep S.program S.function depth → IsTypedNow S v c → v + inlined_weight S.program d + 1 ≤ w + inlined_weight S.program s → IsFull (needed S size (w + inlined_weight S.program s)) fault
+  condition_for s d c fault full S w v size suits deep now le =
+      full_more fault (needed S size (v + inlined_weight S.program d)) (needed S size (w + inlined_weight S.program s)) (omega (arith, le)) (full S v size tt suits deep now)
 
   pub sequence_first : (a b : Statement) (old : Lowering) (fault : LoweringFault) → IsFullFor P depth a old fault → IsFullFor P depth (Statement.Sequence a b) old fault
   sequence_first a b old fault full = λ S w size suits deep now.
@@ -156,12 +158,14 @@ module _ (P : Program) (depth : ℕ) where
 
   -- an if
 
-  pub choice_condition : (s : Statement) (d : Statement) (one other : Statement) (old : Lowering) (fault : LoweringFault) → s ≡ Statement.If d one other → IsFullAt d 0 old fault →
+  pub choice_condition : (s : Statement) (d : Statement) (one other : Statement) (old : Lowering) (fault : LoweringFault) → s ≡ Statement.If d one other → IsFullAsked P depth d None old fault →
       IsFullFor P depth s old fault
   choice_condition s d one other old fault is full = rw is (λ S w size suits deep now.
-      condition_for (Statement.If d one other) d 0 old fault full S w w size suits.fits suits.resolved.0 suits.good now (omega arith) (omega arith))
+      condition_for (Statement.If d one other) d old fault full S w w size
+      (typing_asked P S size (Statement.If d one other) d old old (grows_refl old) suits suits.resolved.0 (no_sites S.program (Statement.If d one other) old.site old.site suits.sites refl)
+      (Contains-append_left (calls_of d) (calls_of one ++ calls_of other))) deep now (omega arith))
 
-  module _ (around : Option Loop) (d : Statement) (l : ChoiceLabels) (one other : Statement) (old a : Lowering) (opens : OpensChoice d l old a) where
+  module _ (around : Option Loop) (d : Statement) (l : ChoiceLabels) (one other : Statement) (old a : Lowering) (opens : OpensChoice P d l old a) where
     abbrev choice : Statement
     choice = Statement.If d one other
 
@@ -172,7 +176,7 @@ module _ (P : Program) (depth : ℕ) where
     other_called g c = Contains-append_right (calls_of d) (calls_of one ++ calls_of other) g (Contains-append_right (calls_of one) (calls_of other) g c)
 
     to_decided : Grows opens.labelled opens.decided
-    to_decided = decides_grows d l.if_true l.if_false opens.labelled opens.decided opens.decides
+    to_decided = opens.decides.grows
 
     decided_a : Shifts opens.decided a
     decided_a = binds_shifts l.if_true opens.decided a opens.binds
@@ -193,7 +197,10 @@ module _ (P : Program) (depth : ℕ) where
     at_a S w size suits now =
         let good = opens.relabels.shifts.grows.good size suits.good in
         decided_a.typed S (w + (inlined_weight S.program d + 1)) size (to_decided.good size good)
-        (opens.decides.typed S w size (subst (Fits S) (sym opens.relabels.shifts.grows.homes) suits.fits) suits.resolved.0 good (opens.relabels.shifts.typed S w size suits.good now))
+        (decided_typed P d None l.if_true l.if_false opens.labelled opens.decided opens.decides S w size tt
+        (typing_asked P S size choice d old opens.labelled opens.relabels.shifts.grows suits suits.resolved.0
+        (no_sites S.program choice old.site opens.labelled.site suits.sites opens.relabels.shifts.site) (Contains-append_left (calls_of d) (calls_of one ++ calls_of other)))
+        (opens.relabels.shifts.typed S w size suits.good now))
 
     pub choice_one : (fault : LoweringFault) → IsFullFor P depth one a fault → IsFullFor P depth choice old fault
     choice_one fault full = λ S w size suits deep now.
@@ -224,29 +231,33 @@ module _ (P : Program) (depth : ℕ) where
           at_e (omega arith)
 
   pub one_for : (around : Option Loop) (s : Statement) (d : Statement) (one other : Statement) (l : ChoiceLabels) (old a : Lowering) (fault : LoweringFault) → s ≡ Statement.If d one other →
-      OpensChoice d l old a → IsFullFor P depth one a fault → IsFullFor P depth s old fault
+      OpensChoice P d l old a → IsFullFor P depth one a fault → IsFullFor P depth s old fault
   one_for around s d one other l old a fault is opens full = rw is (choice_one around d l one other old a opens fault full)
 
   pub other_for : (around : Option Loop) (s : Statement) (d : Statement) (one other : Statement) (l : ChoiceLabels) (old a b e : Lowering) (fault : LoweringFault) → s ≡ Statement.If d one other →
-      OpensChoice d l old a → Leads P around one a b → TurnsChoice l b e → IsFullFor P depth other e fault → IsFullFor P depth s old fault
+      OpensChoice P d l old a → Leads P around one a b → TurnsChoice l b e → IsFullFor P depth other e fault → IsFullFor P depth s old fault
   other_for around s d one other l old a b e fault is opens lowers turns full = rw is (choice_other around d l one other old a opens b e lowers turns fault full)
 
   -- while
 
-  pub while_condition : (s : Statement) (d : Statement) (body : Statement) (old : Lowering) (fault : LoweringFault) → s ≡ Statement.While d body → IsFullAt d 0 old fault →
+  pub while_condition : (s : Statement) (d : Statement) (body : Statement) (old : Lowering) (fault : LoweringFault) → s ≡ Statement.While d body → IsFullAsked P depth d None old fault →
       IsFullFor P depth s old fault
   while_condition s d body old fault is full = rw is (λ S w size suits deep now.
-      condition_for (Statement.While d body) d 0 old fault full S w w size suits.fits suits.resolved.0 suits.good now (omega arith) (omega arith))
+      condition_for (Statement.While d body) d old fault full S w w size
+      (typing_asked P S size (Statement.While d body) d old old (grows_refl old) suits suits.resolved.0 (no_sites S.program (Statement.While d body) old.site old.site suits.sites refl)
+      (Contains-append_left (calls_of d) (calls_of body))) deep now (omega arith))
 
-  pub while_body : (s : Statement) (d : Statement) (body : Statement) (l : LoopLabels) (old a : Lowering) (fault : LoweringFault) → s ≡ Statement.While d body → OpensTurn d l old a →
+  pub while_body : (s : Statement) (d : Statement) (body : Statement) (l : LoopLabels) (old a : Lowering) (fault : LoweringFault) → s ≡ Statement.While d body → OpensTurn P d l old a →
       IsFullFor P depth body a fault → IsFullFor P depth s old fault
   while_body s d body l old a fault is opens full = rw is (λ S w size suits deep now.
       let loop = while_loop d body in
-      let now_a = turn_typed loop l old a opens S w size suits.fits suits.resolved.0 suits.good now in
-      part_for (Statement.While d body) body old a fault full (turn_grows loop l old a opens) S w (w + (inlined_weight S.program d + 1)) size suits deep in_loop
+      let now_a = turn_typed P loop l old a opens S w size
+      (typing_asked P S size (Statement.While d body) d old old (grows_refl old) suits suits.resolved.0 (no_sites S.program (Statement.While d body) old.site old.site suits.sites refl)
+      (Contains-append_left (calls_of d) (calls_of body))) now in
+      part_for (Statement.While d body) body old a fault full (turn_grows P loop l old a opens) S w (w + (inlined_weight S.program d + 1)) size suits deep in_loop
       (Contains-append_right (calls_of d) (calls_of body)) (omega arith) suits.resolved.1
       (part_sites S.program (Statement.While d body) body [] [] old.site a.site suits.sites (sym (append-nil (formats_of body)))
-      (let x = turn_site loop l old a opens in omega (arith, x)))
+      (let x = turn_site P loop l old a opens in omega (arith, x)))
       now_a (omega arith))
 
   -- do
@@ -266,21 +277,24 @@ module _ (P : Program) (depth : ℕ) where
         part_for do_ body old a fault full to_a.grows S w w size suits deep in_loop (Contains-append_left (calls_of body) (calls_of d)) (omega arith) suits.resolved.0 (do_sites S.program suits.sites)
         (to_a.typed S w size suits.good now) (omega arith)
 
-    pub do_asks : (b : Lowering) (fault : LoweringFault) → Leads P (Some (labels_of l)) body a b → IsFullAt d 0 b fault → IsFullFor P depth do_ old fault
+    pub do_asks : (b : Lowering) (fault : LoweringFault) → Leads P (Some (labels_of l)) body a b → IsFullAsked P depth d None b fault → IsFullFor P depth do_ old fault
     do_asks b fault inner full = λ S w size suits deep now.
         let now_b = inner.typed S w size (typing_part P S size do_ body old a to_a.grows suits in_loop (omega arith) suits.resolved.0 (do_sites S.program suits.sites)
         (Contains-append_left (calls_of body) (calls_of d)))
         (to_a.typed S w size suits.good now) in
         let old_b = grows_both old a b to_a.grows inner.grows in
-        condition_for do_ d 0 b fault full S w (w + inlined_weight S.program body) size (subst (Fits S) (sym old_b.homes) suits.fits) suits.resolved.1 (old_b.good size suits.good) now_b (omega arith)
-        (omega arith)
+        condition_for do_ d b fault full S w (w + inlined_weight S.program body) size
+        (typing_asked P S size do_ d old b old_b suits suits.resolved.1
+        (part_sites S.program do_ Statement.Done (formats_of body) [] old.site b.site suits.sites (sym (append-nil (formats_of body)))
+        (let c = formats_length body in let x = to_a.site in let y = inner.site in omega (arith, c, x, y)))
+        (Contains-append_right (calls_of body) (calls_of d))) deep now_b (omega arith)
 
   pub do_body : (s : Statement) (d : Statement) (body : Statement) (l : LoopLabels) (old a : Lowering) (fault : LoweringFault) → s ≡ Statement.DoWhile body d → OpensLoop l old a →
       IsFullFor P depth body a fault → IsFullFor P depth s old fault
   do_body s d body l old a fault is opens full = rw is (do_inner d body l old a opens fault full)
 
   pub do_condition : (s : Statement) (d : Statement) (body : Statement) (l : LoopLabels) (old a b : Lowering) (fault : LoweringFault) → s ≡ Statement.DoWhile body d → OpensLoop l old a →
-      Leads P (Some (labels_of l)) body a b → IsFullAt d 0 b fault → IsFullFor P depth s old fault
+      Leads P (Some (labels_of l)) body a b → IsFullAsked P depth d None b fault → IsFullFor P depth s old fault
   do_condition s d body l old a b fault is opens lowers full = rw is (do_asks d body l old a opens b fault lowers full)
 
   -- for
@@ -314,14 +328,33 @@ module _ (P : Program) (depth : ℕ) where
           first.typed S w size (typing_part P S size for_ first_ old old (grows_refl old) suits nowhere (omega arith) suits.resolved.0
           (first_sites S.program suits.sites) (Contains-append_left (calls_of first_) (calls_of d ++ (calls_of last ++ calls_of body)))) now
 
-      pub for_opens : (fault : LoweringFault) → IsFullAt d (a0.site + print_count last) a0 fault → IsFullFor P depth for_ old fault
-      for_opens fault full = λ S w size suits deep now.
+      -- the number of the printfs behind it
+      pub for_skips : (n : ℕ) (fault : LoweringFault) → n ≤ a0.site + print_count last → IsFull n fault → IsFullFor P depth for_ old fault
+      for_skips n fault le full = λ S w size suits deep now.
           let p = sites_within S.program for_ old.site suits.sites in
           let e = first.site in
-          condition_for for_ d (a0.site + print_count last) a0 fault full S w (w + inlined_weight S.program first_) size (subst (Fits S) (sym first.grows.homes) suits.fits) suits.resolved.1
-          (first.grows.good size suits.good) (at_a0 S w size suits now) (omega arith) (omega (arith, p, e))
+          full_more fault n (needed S size (w + inlined_weight S.program for_)) (omega (arith, p, e, le)) full
 
-      module _ (l : LoopLabels) (a : Lowering) (opens : OpensTurn d l (at_site (a0.site + print_count last) a0) a) where
+      abbrev sited : Lowering
+      sited = at_site (a0.site + print_count last) a0
+
+      old_sited : Grows old sited
+      old_sited = grows_both old a0 sited first.grows (site_grows (a0.site + print_count last) a0)
+
+      asked_here : (S : Typing) (size : ℕ) → SuitsTyping P S size for_ old → SuitsAskedTyping P S size d sited
+      asked_here S size suits =
+          typing_asked P S size for_ d old sited old_sited suits suits.resolved.1
+          (part_sites S.program for_ Statement.Done (formats_of first_ ++ formats_of last) (formats_of body) old.site sited.site suits.sites
+          (sym (append_assoc (formats_of first_) (formats_of last) (formats_of body)))
+          (let x = formats_length first_ in let y = formats_length last in let z = first.site in let u = length-append (formats_of first_) (formats_of last) in omega (arith, x, y, z, u)))
+          (λ g c. Contains-append_right (calls_of first_) (calls_of d ++ (calls_of last ++ calls_of body)) g (Contains-append_left (calls_of d) (calls_of last ++ calls_of body) g c))
+
+      pub for_opens : (fault : LoweringFault) → IsFullAsked P depth d None sited fault → IsFullFor P depth for_ old fault
+      for_opens fault full = λ S w size suits deep now.
+          condition_for for_ d sited fault full S w (w + inlined_weight S.program first_) size (asked_here S size suits) deep
+          (site_typed (a0.site + print_count last) a0 S (w + inlined_weight S.program first_) (at_a0 S w size suits now)) (omega arith)
+
+      module _ (l : LoopLabels) (a : Lowering) (opens : OpensTurn P d l (at_site (a0.site + print_count last) a0) a) where
         abbrev loop : WorkLoop
         loop = while_loop d body
 
@@ -332,19 +365,18 @@ module _ (P : Program) (depth : ℕ) where
         old_skipped = grows_both old a0 skipped first.grows (site_grows (a0.site + print_count last) a0)
 
         for_old_a : Grows old a
-        for_old_a = grows_both old skipped a old_skipped (turn_grows loop l skipped a opens)
+        for_old_a = grows_both old skipped a old_skipped (turn_grows P loop l skipped a opens)
 
         for_at_a : (S : Typing) (w size : ℕ) → SuitsTyping P S size for_ old → IsTypedNow S w old →
             IsTypedNow S (w + inlined_weight S.program first_ + (inlined_weight S.program d + 1)) a
         for_at_a S w size suits now =
-            turn_typed loop l skipped a opens S (w + inlined_weight S.program first_) size (subst (Fits S) (sym old_skipped.homes) suits.fits) suits.resolved.1
-            (old_skipped.good size suits.good)
+            turn_typed P loop l skipped a opens S (w + inlined_weight S.program first_) size (asked_here S size suits)
             (site_typed (a0.site + print_count last) a0 S (w + inlined_weight S.program first_) (at_a0 S w size suits now))
 
         body_sites : (Q : Program) → HasSites Q for_ old.site → HasSites Q body a.site
         body_sites Q sites = part_sites Q for_ body (formats_of first_ ++ formats_of last) [] old.site a.site sites
             (sym (append_assoc (formats_of first_) (formats_of last) (formats_of body ++ []) ∙ ap (λ z. formats_of first_ ++ (formats_of last ++ z)) (append-nil (formats_of body))))
-            (let x = formats_length first_ in let y = formats_length last in let z = turn_site loop l skipped a opens in let f = first.site in
+            (let x = formats_length first_ in let y = formats_length last in let z = turn_site P loop l skipped a opens in let f = first.site in
             let u = length-append (formats_of first_) (formats_of last) in omega (arith, x, y, z, f, u))
 
         pub for_goes : (fault : LoweringFault) → IsFullFor P depth body a fault → IsFullFor P depth for_ old fault
@@ -378,15 +410,19 @@ module _ (P : Program) (depth : ℕ) where
   for_first s first_ d last body old fault is full = rw is (for_begins first_ d last body old fault full)
 
   pub for_condition : (s first_ : Statement) (d : Statement) (last body : Statement) (old a0 : Lowering) (fault : LoweringFault) → s ≡ Statement.For first_ d last body →
-      Leads P None first_ old a0 → IsFullAt d (a0.site + print_count last) a0 fault → IsFullFor P depth s old fault
+      Leads P None first_ old a0 → IsFullAsked P depth d None (at_site (a0.site + print_count last) a0) fault → IsFullFor P depth s old fault
   for_condition s first_ d last body old a0 fault is first full = rw is (for_opens first_ d last body old a0 first fault full)
 
+  pub for_skipped : (s first_ : Statement) (d : Statement) (last body : Statement) (old a0 : Lowering) (n : ℕ) (fault : LoweringFault) → s ≡ Statement.For first_ d last body →
+      Leads P None first_ old a0 → n ≤ a0.site + print_count last → IsFull n fault → IsFullFor P depth s old fault
+  for_skipped s first_ d last body old a0 n fault is first le full = rw is (for_skips first_ d last body old a0 first n fault le full)
+
   pub for_body : (s first_ : Statement) (d : Statement) (last body : Statement) (l : LoopLabels) (old a0 a : Lowering) (fault : LoweringFault) → s ≡ Statement.For first_ d last body →
-      Leads P None first_ old a0 → OpensTurn d l (at_site (a0.site + print_count last) a0) a → IsFullFor P depth body a fault → IsFullFor P depth s old fault
+      Leads P None first_ old a0 → OpensTurn P d l (at_site (a0.site + print_count last) a0) a → IsFullFor P depth body a fault → IsFullFor P depth s old fault
   for_body s first_ d last body l old a0 a fault is first opens full = rw is (for_goes first_ d last body old a0 first l a opens fault full)
 
   pub for_last : (s first_ : Statement) (d : Statement) (last body : Statement) (l : LoopLabels) (old a0 a b c : Lowering) (last_site : ℕ) (fault : LoweringFault) →
-      s ≡ Statement.For first_ d last body → Leads P None first_ old a0 → OpensTurn d l (at_site (a0.site + print_count last) a0) a → Leads P (Some (labels_of l)) body a b →
+      s ≡ Statement.For first_ d last body → Leads P None first_ old a0 → OpensTurn P d l (at_site (a0.site + print_count last) a0) a → Leads P (Some (labels_of l)) body a b →
       last_site ≡ a0.site → Binds l.turning (at_site last_site b) c → IsFullFor P depth last c fault → IsFullFor P depth s old fault
   for_last s first_ d last body l old a0 a b c last_site fault is first opens inner site turns full =
       rw is (for_turns first_ d last body old a0 first l a opens b c inner (subst (λ n. Binds l.turning (at_site n b) c) site turns) fault full)

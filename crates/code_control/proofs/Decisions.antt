@@ -1,17 +1,21 @@
 -- Conditions.
-use Rattle.std.proofs.Common.{◌≡◌, ℕ, suc, ◌+◌, ◌*◌, ◌<◌, Bool, true, false, not, List, [], ◌∷◌, ◌++◌, length, ℤ, Some, None, refl, sym, ap, ◌∙◌, subst, inl, inr, arith}
-use Rattle.std.proofs.Common.{append-nil}
-use Rattle.std.specs.Prelude.{if◌then◌else◌, slice_get}
+use Rattle.std.proofs.Common.{◌≡◌, ℕ, suc, ◌+◌, ◌<◌, Bool, true, false, not, List, [], ◌∷◌, ◌++◌, length, ℤ, Some, None, refl, sym, ap, ◌∙◌, subst}
+use Rattle.std.proofs.Common.{inl, inr, arith, append-nil, zero, ◌*◌, ◌≤◌, pos, Option, ⊎_elim, length-append}
+use Rattle.std.specs.Prelude.{if◌then◌else◌, slice_get, Contains, ◌⊎◌}
 use Rattle.std.proofs.lemmas.Bool.{and_parts, and_from}
+use Rattle.std.proofs.lemmas.List.Elements.{Contains-append_left, Contains-append_right}
 use Rattle.std.proofs.lemmas.Option.{slice_get_within}
 use Rattle.lists.proofs.Places.{get_front}
+use Rattle.hls_ints.specs.Types.{long_int, wrapped}
+use Rattle.hls_ints.specs.Residues.{bit_of}
 use Rattle.hls_ints.specs.Operators.{is_zero}
-use Rattle.c_program.specs.Tree.{Expression, Statement, Program}
+use Rattle.c_program.specs.Tree.{Expression, Statement, Program, Function}
+use Rattle.c_program.specs.Calls.{calls_of}
 use Rattle.c_program.specs.Weight.{expression_weight}
-use Rattle.c_program.specs.Resolved.{IsExpression, IsCondition}
+use Rattle.c_program.specs.Resolved.{scalar, IsExpression, IsCut, IsCondition}
 use Rattle.thread_semantics.specs.Memory.{Location, Memory, Evaluation, Gives, Fails}
 use Rattle.thread_semantics.specs.Value.{value}
-use Rattle.thread_semantics.specs.Work.{Work, Do, Going, Onward, opened, settled, decided, ThenOpposite, ThenBoth, ThenEither}
+use Rattle.thread_semantics.specs.Work.{Work, Do, Going, Onward, in_order, opened, settled, decided, ThenOpposite, ThenBoth, ThenEither, Choose, Note as NoteWork}
 use Rattle.thread_semantics.specs.State.{Frame}
 use Rattle.thread_semantics.specs.Move.{operand_move, truth_in, work_move}
 use Rattle.block_ir.specs.declared.operand.Operand.{Operand}
@@ -21,38 +25,65 @@ use Rattle.block_ir.specs.declared.block.Block.{Block}
 use Rattle.block_ir.specs.declared.code.Stage.TheVariants as stage
 use Rattle.block_ir.specs.Run.{Running, operand_value, operations_run, leads_to, variables_after, stage_after}
 use Rattle.code_following.specs.Following.{reads_of, AfterMove, Follows}
+use Rattle.code_following.specs.Idle.{idle_count}
+use Rattle.code_following.specs.Typed.{IsTypedOperand}
 use Rattle.code_blocks.specs.declared.homes.Home.{Home}
 use Rattle.code_blocks.specs.declared.open_block.OpenBlock.{OpenBlock}
-use Rattle.code_places.specs.declared.lowering.Lowering.{Lowering}
-use Rattle.code_blocks.specs.Evaluating.{local_value, Reads, Evaluates, held_by}
+use Rattle.code_blocks.specs.declared.truths.Note.{Note}
+use Rattle.code_blocks.specs.Assigning.{HaveHomes}
 use Rattle.code_blocks.specs.Closing.{HasNoted, IsFresh}
-use Rattle.code_following.specs.Typed.{IsTypedOperand}
+use Rattle.code_blocks.specs.Evaluating.{local_value, held_by}
+use Rattle.code_blocks.specs.Truths.{opposite_note, turned_truth, noted_truth, IsNoted, HasSlot, HasElementIfAny, HasLooked, LooksAt}
 use Rattle.code_blocks.specs.Typing.{Typing, Fits, IsTypedOpen}
-use Rattle.code_places.specs.Apart.{IsTypedNow, IsGood}
-use Rattle.code_places.specs.Resuming.{nothing_kept, AreHeld, CallersResume, IsMid, Comes, InBlock, IsSound}
-use Rattle.code_places.specs.Labels.{IsHere, led_next, led, with_used, is_used, IsAt, Advances, IsFirst}
-use Rattle.code_places.specs.Control.{marked, Begun, EndsAt, Begins, Branches, Keeps, StaysTyped, with_label, Whole, IsIn, AtLabel, GoesOn}
-use Rattle.code_control.specs.Deciding.{is_asked, side, IsNotKept, Tests, Decides}
-use Rattle.code_places.specs.Weighing.{inlined_weight}
-use Rattle.code_blocks.proofs.Steps.{hold_on, read_held}
 use Rattle.code_blocks.proofs.OperationRuns.{same_function}
-use Rattle.code_places.proofs.LabelTargets.{whole_placed, begin_at, after_held, after_local, whole_pushed, pushed_at, goes_of_in}
-use Rattle.code_places.proofs.ResumedPlaces.{fresh_sound}
-use Rattle.code_places.proofs.TypedGrowth.{anywhere_more, now_more, ends_typed}
-use Rattle.code_places.proofs.LabelSteps.{None_, advances_both, advances_new, first_after, labels_more, marks, pushes_advance, pushed_here, pushed_is}
-use Rattle.code_places.proofs.OpenLabels.{marks_keep, is_marked, pushed_begun, label_begun, begins_advance}
+use Rattle.code_blocks.proofs.Puts.{homes_more}
+use Rattle.code_storage.specs.Formats.{HasSites}
+use Rattle.code_storage.specs.Housing.{AreHomes}
+use Rattle.code_places.specs.declared.lowering.Lowering.{Lowering}
+use Rattle.code_places.specs.Apart.{room, IsTypedNow, IsGood}
+use Rattle.code_places.specs.Resuming.{HasShape, nothing_kept, AreHeld, CallersResume, IsMid, Comes, InBlock, IsSound}
+use Rattle.code_places.specs.Labels.{IsHere, led_next, led, with_used, is_used, IsAt, IsBusy, IsOpen, Advances, IsFirst}
+use Rattle.code_places.specs.Control.{marked, Begun, EndsAt, Begins, BeginsStage, Branches, Keeps, with_label, Whole, IsIn, AtLabel, GoesOn}
+use Rattle.code_places.specs.Doing.{Grows, Shifts, OnwardUpTo, HasCome, Proceeds, Suits, SuitsTyping, Leads}
+use Rattle.code_places.specs.Seats.{IsSeated, IsSeatedTyping}
+use Rattle.code_places.specs.Weighing.{inlined_weight}
+use Rattle.code_places.proofs.CodeGrowth.{grows_refl, grows_both, label_relabels, begins_shifts, begun_reached, stage_shifts, stage_idle, stage_reached, stage_goes}
+use Rattle.code_places.proofs.HeadPlaces.{come_on}
+use Rattle.code_places.proofs.KeptLocals.{seat_on, typed_seat_on, seat_kept}
+use Rattle.code_places.proofs.LabelSteps.{None_, advances_both, advances_new, first_after, labels_more, marks, pushes_advance, pushed_busy, busy_takes, busy_may, pushed_here, pushed_is}
+use Rattle.code_places.proofs.LabelTargets.{begin_at, begun_idle, after_held, after_local, whole_pushed, pushed_at, goes_of_in}
 use Rattle.code_places.proofs.NewLabel.{label_keeps, goes_before_label}
+use Rattle.code_places.proofs.OpenLabels.{marks_keep, is_marked, pushed_begun, label_begun, begins_advance, stage_advance, stage_begun}
+use Rattle.code_places.proofs.OpenParts.{none_begun}
+use Rattle.code_places.proofs.ResumedPlaces.{fresh_sound}
+use Rattle.code_places.proofs.Shapes.{have_homes, row_at, lengths_with_element}
+use Rattle.code_places.proofs.TypedGrowth.{anywhere_more, typed_but, now_more, ends_typed}
+use Rattle.code_control.specs.Deciding.{is_asked, side, unmet, SuitsAsked, SuitsAskedTyping, Tests, Decides, IsStill, ComesThrough}
 
--- a step that evaluates the first operand of a condition, at the end of a block that leads to a label for each truth
-module _ (W : Whole) (homes : List Home) (n : ℕ) (e : Expression) (k : List Work) (none : IsNotKept k) (next : Next) (old mid new : Lowering) (b : OpenBlock) (test : Operand) (target : Bool → ℕ)
-    (first : Evaluates homes e old.block b test) (block_is : mid.block ≡ record b { steps = suc b.steps }) (items_same : mid.stages.stages ≡ old.stages.stages)
+-- ---- the locals of a call whose condition keeps a truth
+
+has_element : (f : Function) (locals : List (List (Option ℤ))) (note : Option Note) → HasShape f.locals locals → HasSlot f note → HasElementIfAny note locals
+has_element f locals None shape slot = tt
+has_element f locals (Some note) shape slot =
+    let r = row_at f.locals locals note.slot (scalar long_int) shape slot in
+    record { row = r.0; found = r.1; within = (let long = r.2 in omega (arith, long)) }
+
+shape_noted : (f : Function) (locals : List (List (Option ℤ))) (note : Option Note) (truth : Bool) → HasShape f.locals locals → HasShape f.locals (truth_in (noted_truth note truth) locals)
+shape_noted f locals None truth shape = shape
+shape_noted f locals (Some note) truth shape =
+    lengths_with_element locals note.slot 0 (Some (wrapped long_int (pos (bit_of (turned_truth note.turned truth))))) ∙ shape
+
+-- a step that evaluates an operand of a condition, at the end of a block that leads to a label for each truth
+module _ (P : Program) (W : Whole) (homes : List Home) (size n : ℕ) (note : Option Note) (e : Expression) (k : List Work) (keeps : IsNoted note k) (next : Next) (old mid new : Lowering)
+    (b : OpenBlock) (test : Operand) (target : Bool → ℕ)
+    (looks : LooksAt homes note e old.block b test) (block_is : mid.block ≡ record b { steps = suc b.steps }) (items_same : mid.stages.stages ≡ old.stages.stages)
     (here_same : (label : ℕ) → IsHere old.stages label → IsHere mid.stages label) (ends : EndsAt next mid new) (whole : IsIn W new)
-    (size : ℕ) (sound : IsSound size old.block)
+    (seated : IsSeated P W homes size old) (locals : AreHomes W.setting.function.locals homes size) (slot : HasSlot W.setting.function note) (good : IsGood size old)
     (route : (variables : ℕ → ℤ) (values : List ℤ) → leads_to variables values (led_next W.stage_of next) ≡ W.stage_of (target (not (is_zero (operand_value variables values test)))))
     (at : (j : ℕ) → j < n → (variables : ℕ → ℤ) (values : List ℤ) →
     AtLabel W homes j (target (not (is_zero (operand_value variables values test)))) (decided (not (is_zero (operand_value variables values test))) k)) where
-  noted : HasNoted mid.block
-  noted = subst HasNoted (sym block_is) (subst HasNoted (sym first.added) sound.noted)
+  noted_ : HasNoted mid.block
+  noted_ = subst HasNoted (sym block_is) (looks.noted good.sound.noted)
 
   abbrev final : Block
   final = record ends.block { next = led_next W.stage_of ends.block.next }
@@ -67,46 +98,50 @@ module _ (W : Whole) (homes : List Home) (n : ℕ) (e : Expression) (k : List Wo
       seen = record { locals = f.locals; globals = globals }
 
       abbrev ran : Running
-      ran = operations_run variables first.operations r
+      ran = operations_run variables looks.operations r
+
+      homed : HaveHomes homes (length old.block.current) f.locals
+      homed =
+          homes_more homes size (length old.block.current) f.locals (let long = good.sound.size in omega arith)
+          (have_homes W.setting.function.locals homes size f.locals locals mid_.shape)
 
       module _ (v : ℤ) (ls : List Location) (gives_ : value e seen ≡ Gives v ls) where
-        reads : Reads r ran ls
-        reads = first.reads variables r seen v ls sound.below mid_.values mid_.holds gives_
+        done : HasLooked homes note old.block.current b.current variables seen r ran test v ls
+        done =
+            looks.does variables r seen v ls good.sound.below mid_.values homed (has_element W.setting.function f.locals note mid_.shape slot) mid_.holds gives_
 
-        gives : operand_value variables ran.values test ≡ v
-        gives = first.gives variables r seen v ls sound.below mid_.values mid_.holds gives_
+        abbrev truth_ : Bool
+        truth_ = not (is_zero v)
 
         abbrev left : Frame
-        left = record f { work = decided (not (is_zero v)) k; kept = [] }
+        left = record f { locals = truth_in (noted_truth note truth_) f.locals; work = decided truth_ k; kept = [] }
 
         busy : 0 < mid.block.steps
         busy = let t = ap (λ (z : OpenBlock). z.steps) block_is in omega (arith, t)
 
-        held : held_by old.block.current variables r.values ≡ variables_after final variables ran
+        held : held_by b.current variables ran.values ≡ variables_after final variables ran
         held =
-            same_function (held_by old.block.current variables r.values) (variables_after final variables ran)
+            same_function (held_by b.current variables ran.values) (variables_after final variables ran)
             (λ x.
-            sym (read_held homes old.block b first.operations first.added variables r seen ls sound.below mid_.values reads x)
-            ∙ ap (λ (z : OpenBlock). held_by z.current variables ran.values x) (sym block_is)
-            ∙ ap (λ vs. vs x) (after_held W homes n (decided (not (is_zero v)) k) next mid new noted busy ends whole variables ran))
+            ap (λ (z : OpenBlock). held_by z.current variables ran.values x) (sym block_is)
+            ∙ ap (λ vs. vs x) (after_held W homes n (decided truth_ k) next mid new noted_ busy ends whole variables ran))
 
         lands : Follows W.setting.program W.setting.stages j (stage_after final variables ran) (variables_after final variables ran) ran.arrays (left ∷ fs)
         lands =
-            let holds = hold_on homes old.block b first.operations first.added variables r seen ls sound.below mid_.values reads mid_.holds in
             subst (λ l. Follows W.setting.program W.setting.stages j l (variables_after final variables ran) ran.arrays (left ∷ fs))
             (sym (ap (λ (z : Next). leads_to variables ran.values (led_next W.stage_of z)) ends.closes.next_ ∙ route variables ran.values))
             (at j lt variables ran.values resume (variables_after final variables ran) ran.arrays left fs
-            (ap (λ z. decided (not (is_zero z)) k) (sym gives))
+            (ap (λ z. decided (not (is_zero z)) k) (sym done.gives))
             (record {
               number = mid_.number;
-              shape = mid_.shape;
+              shape = shape_noted W.setting.function f.locals note truth_ mid_.shape;
               locals = λ x i u q.
-                  after_local W homes n (decided (not (is_zero v)) k) next mid new noted busy ends whole variables ran x i (slice_get homes x)
+                  after_local W homes n (decided truth_ k) next mid new noted_ busy ends whole variables ran x i (slice_get homes x)
                   ∙ ap (λ (z : OpenBlock). local_value (slice_get homes x) z.current variables ran x i) block_is
-                  ∙ holds.locals x i u q;
+                  ∙ done.holds.locals x i u q;
               kept = tt;
               callers = subst (λ vs. AreHeld W.setting.callers vs ran.arrays fs) held
-                  (subst (λ cells. AreHeld W.setting.callers (held_by old.block.current variables r.values) cells fs) (sym reads.arrays) mid_.callers);
+                  (seat_kept P W homes size old (held_by old.block.current variables r.values) (held_by b.current variables ran.values) r.arrays ran.arrays fs seated (done.spares size) mid_.callers);
             }))
 
       decides : (E : Evaluation ℤ) → value e seen ≡ E →
@@ -116,8 +151,8 @@ module _ (W : Whole) (homes : List Home) (n : ℕ) (e : Expression) (k : List Wo
       decides (Gives v ls) q =
           subst (λ o. Comes W.setting homes nothing_kept final j variables ran
           (record f { locals = truth_in o f.locals; work = decided (not (is_zero v)) k; kept = [] } ∷ fs) (r.accesses ++ (reads_of ls ++ [])))
-          (sym (none (not (is_zero v))))
-          ((reads v ls q).accesses ∙ ap (λ l. r.accesses ++ l) (sym (append-nil (reads_of ls))), lands v ls q)
+          (sym (keeps (not (is_zero v))))
+          ((done v ls q).accesses ∙ ap (λ l. r.accesses ++ l) (sym (append-nil (reads_of ls))), lands v ls q)
 
     inside : InBlock W.setting homes nothing_kept n (length old.stages.stages.items) old.block work
     inside = record {
@@ -125,18 +160,18 @@ module _ (W : Whole) (homes : List Home) (n : ℕ) (e : Expression) (k : List Wo
       at =
           ap (λ v. slice_get W.setting.stages (length v.items)) (sym items_same)
           ∙ pushed_at W.stage_of W.setting.stages mid.stages new.stages whole (stage.Run ends.block) ends.pushes;
-      rest = first.operations;
-      operations = ends.closes.operations ∙ ap (λ (z : OpenBlock). z.operations) block_is ∙ ap (λ (z : OpenBlock). z.operations) first.added;
+      rest = looks.operations;
+      operations = ends.closes.operations ∙ ap (λ (z : OpenBlock). z.operations) block_is ∙ looks.added;
       count = 1;
-      steps = (let s = ends.closes.steps in let t = ap (λ (z : OpenBlock). z.steps) block_is in let u = ap (λ (z : OpenBlock). z.steps) first.added in omega (arith, s, t, u));
+      steps = (let s = ends.closes.steps in let t = ap (λ (z : OpenBlock). z.steps) block_is in let u = looks.steps in omega (arith, s, t, u));
       goes = λ j lt resume variables r f fs globals is m.
           subst (λ w. AfterMove (work_move W.setting.program (record { locals = f.locals; globals = globals }) f fs w) globals
-          (λ after left_ more. Comes W.setting homes nothing_kept final j variables (operations_run variables first.operations r) after (r.accesses ++ more))) (sym is)
+          (λ after left_ more. Comes W.setting homes nothing_kept final j variables (operations_run variables looks.operations r) after (r.accesses ++ more))) (sym is)
           (decides j lt resume variables r f fs globals m (value e (record { locals = f.locals; globals = globals })) refl);
     }
 
     pub asks : GoesOn W homes nothing_kept n old work
-    asks = goes_of_in W homes nothing_kept size n old work sound inside
+    asks = goes_of_in W homes nothing_kept size n old work good.sound inside
         (λ label among.
         pushed_here (stage.Run ends.block) mid.stages new.stages ends.pushes W.stage_of whole.obeys label (here_same label among) ∙ ap (λ v. length v.items) items_same)
 
@@ -146,151 +181,250 @@ branch_route stage_of nonzero otherwise true = refl
 branch_route stage_of nonzero otherwise false = refl
 
 -- after a test the block at hand is fresh
-test_fresh : (next : Next) (old mid new : Lowering) (e : Expression) (b : OpenBlock) (test : Operand) → Evaluates old.homes e old.block b test → mid.block ≡ record b { steps = suc b.steps } →
-    EndsAt next mid new → (size : ℕ) → IsSound size old.block → IsFresh (size + 4) new.block
-test_fresh next old mid new e b test first block_is ends size sound =
-    let noted : HasNoted mid.block = subst HasNoted (sym block_is) (subst HasNoted (sym first.added) sound.noted) in
-    subst (λ n. IsFresh n new.block)
-    (ap (λ (z : OpenBlock). length z.current) block_is ∙ ap (λ (z : OpenBlock). length z.current) first.added ∙ sound.size)
-    (ends.left noted)
+test_fresh : (next : Next) (old mid new : Lowering) (note : Option Note) (e : Expression) (b : OpenBlock) (test : Operand) → LooksAt old.homes note e old.block b test →
+    mid.block ≡ record b { steps = suc b.steps } → EndsAt next mid new → (size : ℕ) → IsSound size old.block → IsFresh (size + 4) new.block
+test_fresh next old mid new note e b test looks block_is ends size sound =
+    let noted_ : HasNoted mid.block = subst HasNoted (sym block_is) (looks.noted sound.noted) in
+    subst (λ n. IsFresh n new.block) (ap (λ (z : OpenBlock). length z.current) block_is ∙ looks.size ∙ sound.size) (ends.left noted_)
 
--- what a test keeps
-test_keeps : (next : Next) (old mid new : Lowering) (e : Expression) (b : OpenBlock) (test : Operand) → Evaluates old.homes e old.block b test → mid.block ≡ record b { steps = suc b.steps } →
-    mid.homes ≡ old.homes → mid.back ≡ old.back → mid.rooms ≡ old.rooms → mid.variables ≡ old.variables → mid.arrays ≡ old.arrays → mid.objects ≡ old.objects → mid.act_operands ≡ old.act_operands →
-    mid.stages.stages ≡ old.stages.stages → mid.stages.labels ≡ old.stages.labels → mid.stages.places ≡ old.stages.places →
-    ((label : ℕ) → is_used old.stages.used label ≡ true → is_used mid.stages.used label ≡ true) → EndsAt next mid new → Keeps old new
-test_keeps next old mid new e b test first block_is homes back rooms variables arrays objects words items labels places used ends = record {
-  homes = ap (λ (z : Lowering). z.homes) ends.same ∙ homes;
-  back = ap (λ (z : Lowering). z.back) ends.same ∙ back;
-  rooms = ap (λ (z : Lowering). z.rooms) ends.same ∙ rooms;
-  variables = ap (λ (z : Lowering). z.variables) ends.same ∙ variables;
-  arrays = ap (λ (z : Lowering). z.arrays) ends.same ∙ arrays;
-  objects = ap (λ (z : Lowering). z.objects) ends.same ∙ objects;
-  words = ap (λ (z : Lowering). z.act_operands) ends.same ∙ words;
-  sound = λ size is sound. fresh_sound size new.block (test_fresh next old mid new e b test first block_is ends size sound);
-  whole = λ W whole.
-      let w = whole_pushed W.stage_of W.setting.stages mid.stages new.stages whole (stage.Run ends.block) ends.pushes in
-      record {
-        part = record { more = w.part.more; is = w.part.is ∙ ap (λ v. led W.stage_of v.items ++ w.part.more) items };
-        obeys = λ label number p bound came. w.obeys label number p (ap (λ ls. slice_get ls label) labels ∙ bound) (ap (λ ps. slice_get ps number) places ∙ came);
-      };
-  used = λ label is. ap (λ us. is_used us label) ends.pushes.used ∙ used label is;
-}
+module _ (note : Option Note) (e : Expression) (nonzero otherwise : ℕ) (old mid new : Lowering) (b : OpenBlock) (test : Operand) (looks : LooksAt old.homes note e old.block b test)
+    (same : mid ≡ record old { block = record b { steps = suc b.steps } }) (branches : Branches test nonzero otherwise mid new) where
+  abbrev both : Lowering
+  both = marked otherwise (marked nonzero mid)
 
-test_typed : (e : Expression) (nonzero otherwise : ℕ) (old mid new : Lowering) (b : OpenBlock) (test : Operand) → Evaluates old.homes e old.block b test →
-    mid ≡ record old { block = record b { steps = suc b.steps } } → EndsAt (Branch test nonzero otherwise) (marked otherwise (marked nonzero mid)) new →
-    StaysTyped (expression_weight e + 1) (λ S. IsExpression S.program S.function e) old new
-test_typed e nonzero otherwise old mid new b test first same ends = λ S w size fits is good now.
-    let c = first.computes.typed S fits is now.block in
-    let block_is : (marked otherwise (marked nonzero mid)).block ≡ record b { steps = suc b.steps } = ap (λ (z : Lowering). z.block) same in
-    ends_typed S (w + (expression_weight e + 1)) (Branch test nonzero otherwise) (marked otherwise (marked nonzero mid)) new (let t = ap (λ (z : OpenBlock). z.steps) block_is in omega (arith, t))
-    (subst HasNoted (sym block_is) (subst HasNoted (sym first.added) good.sound.noted)) ends
-    (λ n stage_of below.
-    (subst (λ (z : OpenBlock). IsTypedOperand S.types z.operations test) (sym block_is) c.operand, below nonzero, below otherwise))
-    (record {
-      block = subst (IsTypedOpen S.types) (sym block_is) (record { operations = c.block.operations; few = c.block.few; current = c.block.current });
-      size = (let l = first.computes.count in let f = now.size in let t = ap (λ (z : OpenBlock). length z.operations) block_is in omega (arith, l, f, t));
-      stages = λ l s at.
-          anywhere_more S.types S.program (4 * w) (4 * (w + (expression_weight e + 1))) (omega arith) s (now.stages l s (ap (λ (z : Lowering). slice_get z.stages.stages.items l) (sym same) ∙ at));
-    })
+  abbrev ends : EndsAt (Branch test nonzero otherwise) both new
+  ends = branches.ends
 
-pub tests_branch : (e : Expression) (nonzero otherwise : ℕ) (old mid new : Lowering) (b : OpenBlock) (test : Operand) → Evaluates old.homes e old.block b test →
-    mid ≡ record old { block = record b { steps = suc b.steps } } → Branches test nonzero otherwise mid new → Tests e nonzero otherwise old new
-tests_branch e nonzero otherwise old mid new b test first same branches = record {
-  keeps =
-      test_keeps (Branch test nonzero otherwise) old (marked otherwise (marked nonzero mid)) new e b test first block_is
-      (ap (λ (z : Lowering). z.homes) same) (ap (λ (z : Lowering). z.back) same) (ap (λ (z : Lowering). z.rooms) same) (ap (λ (z : Lowering). z.variables) same)
-      (ap (λ (z : Lowering). z.arrays) same) (ap (λ (z : Lowering). z.objects) same) (ap (λ (z : Lowering). z.act_operands) same)
-      (ap (λ (z : Lowering). z.stages.stages) same)
-      (ap (λ (z : Lowering). z.stages.labels) same) (ap (λ (z : Lowering). z.stages.places) same)
-      (λ label is. marks_keep (with_used mid.stages.used nonzero) otherwise label
-      (marks_keep mid.stages.used nonzero label (ap (λ (z : Lowering). is_used z.stages.used label) same ∙ is))) branches.ends;
-  site = ap (λ (z : Lowering). z.site) branches.ends.same ∙ ap (λ (z : Lowering). z.site) same;
-  advances = advances_both None_ old.stages (marked otherwise (marked nonzero mid)).stages new.stages to_both
-      (pushes_advance (stage.Run branches.ends.block) (marked otherwise (marked nonzero mid)).stages new.stages branches.ends.pushes);
-  first = pushed_begun (stage.Run branches.ends.block) old (marked otherwise (marked nonzero mid)).stages new.stages to_both
-      (ap (λ (z : Lowering). z.stages.stages.items) same) here_both branches.ends.pushes;
-  comes = λ label here.
-      subst (λ n. IsAt label n new.stages) (ap (λ (z : Lowering). length z.stages.stages.items) same)
-      (pushed_is (stage.Run branches.ends.block) (marked otherwise (marked nonzero mid)).stages new.stages branches.ends.pushes label (here_both label here));
-  typed = test_typed e nonzero otherwise old mid new b test first same branches.ends;
-  ends = ap (λ (z : Lowering). z.reached) branches.ends.same;
-  idle = λ size is sound. (test_fresh (Branch test nonzero otherwise) old (marked otherwise (marked nonzero mid)) new e b test first block_is branches.ends size sound).steps;
-  marks = λ truth. ap (λ us. is_used us (side nonzero otherwise truth)) branches.ends.pushes.used ∙ by truth;
-  asks = λ W homes size n k homes_are size_is whole sound none at.
-      asks W homes n e k none (Branch test nonzero otherwise) old (marked otherwise (marked nonzero mid)) new b test (side nonzero otherwise)
-      (subst (λ hs. Evaluates hs e old.block b test) homes_are first) block_is
-      (ap (λ (z : Lowering). z.stages.stages) same) here_both branches.ends whole size sound
-      (λ variables values. branch_route W.stage_of nonzero otherwise (is_zero (operand_value variables values test)))
-      (λ j lt variables values. at j lt (not (is_zero (operand_value variables values test))));
-}
-  where
-    block_is : (marked otherwise (marked nonzero mid)).block ≡ record b { steps = suc b.steps }
-    block_is = ap (λ (z : Lowering). z.block) same
+  block_is : both.block ≡ record b { steps = suc b.steps }
+  block_is = ap (λ (z : Lowering). z.block) same
 
-    to_both : Advances None_ old.stages (marked otherwise (marked nonzero mid)).stages
-    to_both =
-        subst (λ (z : Lowering). Advances None_ z.stages (marked otherwise (marked nonzero mid)).stages) same
-        (advances_both None_ mid.stages (marked nonzero mid).stages (marked otherwise (marked nonzero mid)).stages (marks nonzero mid.stages (marked nonzero mid).stages refl)
-        (marks otherwise (marked nonzero mid).stages (marked otherwise (marked nonzero mid)).stages refl))
+  items_are : both.stages.stages ≡ old.stages.stages
+  items_are = ap (λ (z : Lowering). z.stages.stages) same
 
-    here_both : (label : ℕ) → IsHere old.stages label → IsHere (marked otherwise (marked nonzero mid)).stages label
-    here_both label here = subst (λ (z : Lowering). IsHere z.stages label) (sym same) here
+  stepped : 0 < ends.block.steps
+  stepped = let s = ends.closes.steps in let t = ap (λ (z : OpenBlock). z.steps) block_is in omega (arith, s, t)
 
-    by : (truth : Bool) → is_used (with_used (with_used mid.stages.used nonzero) otherwise) (side nonzero otherwise truth) ≡ true
-    by true = marks_keep (with_used mid.stages.used nonzero) otherwise nonzero (is_marked mid.stages.used nonzero)
-    by false = is_marked (with_used mid.stages.used nonzero) otherwise
+  to_both : Advances None_ old.stages both.stages
+  to_both =
+      subst (λ (z : Lowering). Advances None_ z.stages both.stages) same
+      (advances_both None_ mid.stages (marked nonzero mid).stages both.stages (marks nonzero mid.stages (marked nonzero mid).stages refl)
+      (marks otherwise (marked nonzero mid).stages both.stages refl))
+
+  here_both : (label : ℕ) → IsHere old.stages label → IsHere both.stages label
+  here_both label here = subst (λ (z : Lowering). IsHere z.stages label) (sym same) here
+
+  test_keeps : Keeps old new
+  test_keeps = record {
+    homes = ap (λ (z : Lowering). z.homes) ends.same ∙ ap (λ (z : Lowering). z.homes) same;
+    back = ap (λ (z : Lowering). z.back) ends.same ∙ ap (λ (z : Lowering). z.back) same;
+    rooms = ap (λ (z : Lowering). z.rooms) ends.same ∙ ap (λ (z : Lowering). z.rooms) same;
+    variables = ap (λ (z : Lowering). z.variables) ends.same ∙ ap (λ (z : Lowering). z.variables) same;
+    arrays = ap (λ (z : Lowering). z.arrays) ends.same ∙ ap (λ (z : Lowering). z.arrays) same;
+    objects = ap (λ (z : Lowering). z.objects) ends.same ∙ ap (λ (z : Lowering). z.objects) same;
+    words = ap (λ (z : Lowering). z.act_operands) ends.same ∙ ap (λ (z : Lowering). z.act_operands) same;
+    sound = λ size is sound. fresh_sound size new.block (test_fresh (Branch test nonzero otherwise) old both new note e b test looks block_is ends size sound);
+    whole = λ W whole.
+        let w = whole_pushed W.stage_of W.setting.stages both.stages new.stages whole (stage.Run ends.block) ends.pushes in
+        record {
+          part = record { more = w.part.more; is = w.part.is ∙ ap (λ v. led W.stage_of v.items ++ w.part.more) items_are };
+          obeys = λ label number p bound came.
+              w.obeys label number p (ap (λ (z : Lowering). slice_get z.stages.labels label) same ∙ bound) (ap (λ (z : Lowering). slice_get z.stages.places number) same ∙ came);
+        };
+    used = λ label is.
+        ap (λ us. is_used us label) ends.pushes.used
+        ∙ marks_keep (with_used mid.stages.used nonzero) otherwise label
+        (marks_keep mid.stages.used nonzero label (ap (λ (z : Lowering). is_used z.stages.used label) same ∙ is));
+  }
+
+  -- in a block that begins there is room for 4 operations more
+  test_typed : (offset : ℕ) (S : Typing) (w size : ℕ) → Fits S old.homes → HasSlot S.function note → IsExpression S.program S.function e → IsGood size old → IsTypedNow S w old →
+      IsTypedNow S (w + (expression_weight e + unmet old.block.steps (Statement.Test offset e))) new
+  test_typed offset S w size fits slot is good now =
+      let h = looks.typed S fits slot is now.block in
+      let v = w + (expression_weight e + unmet old.block.steps (Statement.Test offset e)) in
+      let items = ap (λ z. z.items) items_are in
+      let counted = ap idle_count items in
+      let few = now.idle in
+      let enough = enough_room old.block.steps refl in
+      let open_ : IsTypedNow S v both = record {
+        block = subst (IsTypedOpen S.types) (sym block_is) (record { operations = h.0.operations; few = h.0.few; current = h.0.current });
+        idle = omega (arith, few, counted);
+        size = (let c = looks.count in let t = ap (λ (z : OpenBlock). length z.operations) block_is in let f = now.size in omega (arith, few, counted, c, t, f, enough));
+        steps = (let f = now.steps in let t = ap (λ (z : OpenBlock). z.steps) block_is in let u = looks.steps in omega (arith, few, f, t, u, enough));
+        stages = λ l s e. anywhere_more S.types S.program (room w old) (room v both) (omega (arith, counted)) s (now.stages l s (ap (λ ss. slice_get ss l) (sym items) ∙ e));
+      } in
+      ends_typed S v (Branch test nonzero otherwise) both new (let t = ap (λ (z : OpenBlock). z.steps) block_is in omega (arith, t))
+      (subst HasNoted (sym block_is) (looks.noted good.sound.noted)) ends
+      (λ n stage_of below. (subst (λ (z : OpenBlock). IsTypedOperand S.types z.operations test) (sym block_is) h.1, below nonzero, below otherwise))
+      (typed_but S v both open_)
+    where
+      -- the block has no operations yet and no steps, or there is one unit more
+      enough_room : (steps : ℕ) → old.block.steps ≡ steps →
+          ((length old.block.operations ≡ 0) × (old.block.steps ≡ 0)) ⊎ (unmet old.block.steps (Statement.Test offset e) ≡ 1)
+      enough_room zero none = inl (ap length (good.sound.fresh none).operations, none)
+      enough_room (suc steps) some = inr (ap (λ n. unmet n (Statement.Test offset e)) some)
+
+  pub tests_branch : Tests e note nonzero otherwise old new
+  tests_branch = record {
+    keeps = test_keeps;
+    site = ap (λ (z : Lowering). z.site) ends.same ∙ ap (λ (z : Lowering). z.site) same;
+    advances = advances_both None_ old.stages both.stages new.stages to_both
+        (pushes_advance (stage.Run ends.block) both.stages new.stages ends.pushes (busy_may ends.block both.stages stepped));
+    first = pushed_begun (stage.Run ends.block) old both.stages new.stages to_both (ap (λ v. v.items) items_are) here_both ends.pushes;
+    comes = λ label here.
+        let count = ap (λ v. length v.items) items_are in
+        record {
+          at = subst (λ n. IsAt label n new.stages) count (pushed_is (stage.Run ends.block) both.stages new.stages ends.pushes label (here_both label here));
+          busy = subst (λ n. IsBusy n new.stages) count (pushed_busy (stage.Run ends.block) both.stages new.stages ends.pushes (busy_takes ends.block stepped));
+        };
+    typed = test_typed;
+    ends = ap (λ (z : Lowering). z.reached) ends.same;
+    idle = λ size is sound. (test_fresh (Branch test nonzero otherwise) old both new note e b test looks block_is ends size sound).steps;
+    marks = λ truth. ap (λ us. is_used us (side nonzero otherwise truth)) ends.pushes.used ∙ by truth;
+    asks = λ P W homes size n k seated homes_are locals slot good whole keeps at.
+        asks P W homes size n note e k keeps (Branch test nonzero otherwise) old both new b test (side nonzero otherwise)
+        (subst (λ hs. LooksAt hs note e old.block b test) homes_are looks) block_is items_are here_both ends whole seated locals slot good
+        (λ variables values. branch_route W.stage_of nonzero otherwise (is_zero (operand_value variables values test)))
+        (λ j lt variables values. at j lt (not (is_zero (operand_value variables values test))));
+  }
+    where
+      by : (truth : Bool) → is_used (with_used (with_used mid.stages.used nonzero) otherwise) (side nonzero otherwise truth) ≡ true
+      by true = marks_keep (with_used mid.stages.used nonzero) otherwise nonzero (is_marked mid.stages.used nonzero)
+      by false = is_marked (with_used mid.stages.used nonzero) otherwise
 
 -- Conditions of several operands (C99 6.5.13, 6.5.14).
 
--- the work before which a condition stands goes on in no other way than in order
-pub opened_asked : (d : Statement) → is_asked d ≡ true → (k : List Work) (rest other : Going → List Work) → opened d k rest ≡ opened d k other
-opened_asked (Statement.Test offset operand) ok k rest other = refl
-opened_asked (Statement.Both a b) ok k rest other = opened_asked a (and_parts (is_asked a) (is_asked b) ok).0 (ThenBoth b ∷ k) rest other
-opened_asked (Statement.Either a b) ok k rest other = opened_asked a (and_parts (is_asked a) (is_asked b) ok).0 (ThenEither b ∷ k) rest other
-opened_asked (Statement.Opposite inner) ok k rest other = opened_asked inner ok (ThenOpposite ∷ k) rest other
-opened_asked d ok k rest other = absurd cc
+-- the work before which a cut or a condition stands goes on in no other way than in order
+mutual
+  opened_cut : (P : Program) (f : Function) (s : Statement) → IsCut P f s → (k : List Work) (rest other : Going → List Work) → rest Onward ≡ other Onward → opened s k rest ≡ opened s k other
+  opened_cut P f Statement.Done is k rest other same = same
+  opened_cut P f (Statement.Sequence a b) is k rest other same =
+      opened_cut P f a is.0 (Do b ∷ k) (λ going. in_order going (opened b k rest) rest) (λ going. in_order going (opened b k other) other) (opened_cut P f b is.1 k rest other same)
+  opened_cut P f (Statement.Call offset (Some slot) g es) is k rest other same = refl
+  opened_cut P f (Statement.Keep offset slot ty e) is k rest other same = refl
+  opened_cut P f (Statement.Truth slot d) is k rest other same = opened_asked P f d is.2 (NoteWork slot ∷ k) rest other
+  opened_cut P f (Statement.If d a b) is k rest other same = opened_asked P f d is.0 (Choose a b ∷ k) rest other
+  opened_cut P f s is k rest other same = absurd is
+
+  pub opened_asked : (P : Program) (f : Function) (d : Statement) → IsCondition P f d → (k : List Work) (rest other : Going → List Work) → opened d k rest ≡ opened d k other
+  opened_asked P f (Statement.Sequence cut d) is k rest other =
+      opened_cut P f cut is.0 (Do d ∷ k) (λ going. in_order going (opened d k rest) rest) (λ going. in_order going (opened d k other) other) (opened_asked P f d is.1 k rest other)
+  opened_asked P f (Statement.Test offset operand) is k rest other = refl
+  opened_asked P f (Statement.Both a b) is k rest other = opened_asked P f a is.0 (ThenBoth b ∷ k) rest other
+  opened_asked P f (Statement.Either a b) is k rest other = opened_asked P f a is.0 (ThenEither b ∷ k) rest other
+  opened_asked P f (Statement.Opposite inner) is k rest other = opened_asked P f inner is (ThenOpposite ∷ k) rest other
+  opened_asked P f d is k rest other = absurd is
 
 -- a condition that waits for its first part
-pub opened_part : (d part : Statement) (k l : List Work) → is_asked part ≡ true → opened d k (λ g. settled g k) ≡ opened part l (λ g. settled g k) →
+pub opened_part : (P : Program) (f : Function) (d part : Statement) (k l : List Work) → IsCondition P f part → opened d k (λ g. settled g k) ≡ opened part l (λ g. settled g k) →
     settled Onward (Do part ∷ l) ≡ settled Onward (Do d ∷ k)
-opened_part d part k l ok is = opened_asked part ok l (λ g. settled g l) (λ g. settled g k) ∙ sym is
+opened_part P f d part k l ok is = opened_asked P f part ok l (λ g. settled g l) (λ g. settled g k) ∙ sym is
 
-pub test_decides : (d : Statement) (offset : ℕ) (e : Expression) (t f : ℕ) (old new : Lowering) → d ≡ Statement.Test offset e → Tests e t f old new → Decides d t f old new
-test_decides d offset e t f old new is test = rw is record {
-  asked = refl;
-  keeps = test.keeps;
+-- ---- parts of conditions
+
+pub asked_part : (P : Program) (W : Whole) (homes : List Home) (size : ℕ) (d part : Statement) (old c : Lowering) → Grows old c → c.site ≡ old.site →
+    IsCondition W.setting.program W.setting.function part → ((g : ℕ) → Contains (calls_of part) g → Contains (calls_of d) g) → SuitsAsked P W homes size d old → SuitsAsked P W homes size part c
+asked_part P W homes size d part old c grows site resolved calls suits = record {
+  seated = seat_on P W homes size old c grows.back grows.rooms grows.objects suits.seated;
+  homes_ = grows.homes ∙ suits.homes_;
+  good = grows.good size suits.good;
+  locals = suits.locals;
+  resolved = resolved;
+  sites = subst (HasSites W.setting.program Statement.Done) (sym site) suits.sites;
+  calls = λ g c. suits.calls g (calls g c);
+}
+
+pub asked_typing_part : (P : Program) (S : Typing) (size : ℕ) (d part : Statement) (old c : Lowering) → Grows old c → c.site ≡ old.site → IsCondition S.program S.function part →
+    ((g : ℕ) → Contains (calls_of part) g → Contains (calls_of d) g) → SuitsAskedTyping P S size d old → SuitsAskedTyping P S size part c
+asked_typing_part P S size d part old c grows site resolved calls suits = record {
+  seated = typed_seat_on P S size old c grows.back grows.rooms grows.objects suits.seated;
+  fits = subst (Fits S) (sym grows.homes) suits.fits;
+  good = grows.good size suits.good;
+  resolved = resolved;
+  sites = subst (HasSites S.program Statement.Done) (sym site) suits.sites;
+  calls = λ g c. suits.calls g (calls g c);
+}
+
+-- ---- an operand
+
+pub test_decides : (P : Program) (d : Statement) (offset : ℕ) (e : Expression) (note : Option Note) (t f : ℕ) (old new : Lowering) → d ≡ Statement.Test offset e → Tests e note t f old new →
+    Decides P d note t f old new
+test_decides P d offset e note t f old new is test = rw is record {
+  grows = record {
+    homes = test.keeps.homes;
+    back = test.keeps.back;
+    rooms = test.keeps.rooms;
+    variables = test.keeps.variables;
+    arrays = test.keeps.arrays;
+    objects = test.keeps.objects;
+    words = test.keeps.words;
+    good = λ size g. record {
+      variables = ap length test.keeps.variables ∙ g.variables;
+      sound = test.keeps.sound size g.variables g.sound;
+      idle = λ off. test.idle size g.variables g.sound;
+    };
+    whole = test.keeps.whole;
+    used = test.keeps.used;
+  };
   site = test.site;
   advances = test.advances;
   first = test.first;
   comes = test.comes;
-  typed = test.typed;
+  typed = λ S w size slot suits now. test.typed offset S w size suits.fits slot suits.resolved suits.good now;
   ends = test.ends;
-  idle = test.idle;
   marks = test.marks;
-  asks = λ W homes size n k homes_are size_is whole sound none at. test.asks W homes size n k homes_are size_is whole sound none at offset;
+  asks = λ W homes size n k suits slot whole keeps at. test.asks P W homes size n k suits.seated suits.homes_ suits.locals slot suits.good whole keeps at offset;
 }
+
+-- ---- an opposite
 
 turned : (t f : ℕ) (truth : Bool) → side f t (not truth) ≡ side t f truth
 turned t f true = refl
 turned t f false = refl
 
-pub opposite_decides : (d inner : Statement) (t f : ℕ) (old new : Lowering) → d ≡ Statement.Opposite inner → Decides inner f t old new → Decides d t f old new
-opposite_decides d inner t f old new is h = rw is record {
-  asked = h.asked;
-  keeps = h.keeps;
+noted_opposite : (note : Option Note) (truth : Bool) → noted_truth note (not truth) ≡ noted_truth (opposite_note note) truth
+noted_opposite None truth = refl
+noted_opposite (Some note) truth = ap (λ b. Some (note.slot, b)) (by note.turned truth)
+  where
+    by : (b truth : Bool) → turned_truth b (not truth) ≡ turned_truth (not b) truth
+    by true true = refl
+    by true false = refl
+    by false true = refl
+    by false false = refl
+
+pub slot_opposite : (f : Function) (note : Option Note) → HasSlot f note → HasSlot f (opposite_note note)
+slot_opposite f None slot = tt
+slot_opposite f (Some note) slot = slot
+
+unmet_one : (steps : ℕ) (d : Statement) → unmet steps d ≤ 1
+unmet_one zero d = omega arith
+unmet_one (suc steps) (Statement.Test offset operand) = omega arith
+unmet_one (suc steps) d = omega arith
+
+pub unmet_none : (steps : ℕ) (d : Statement) → steps ≡ 0 → unmet steps d ≡ 0
+unmet_none zero d none = refl
+unmet_none (suc steps) d none = absurd (omega (arith, none))
+
+pub opposite_decides : (P : Program) (d inner : Statement) (note : Option Note) (t f : ℕ) (old new : Lowering) → d ≡ Statement.Opposite inner → Decides P inner (opposite_note note) f t old new →
+    Decides P d note t f old new
+opposite_decides P d inner note t f old new is h = rw is record {
+  grows = h.grows;
   site = h.site;
   advances = h.advances;
   first = h.first;
   comes = h.comes;
-  typed = λ S w size fits ok good now.
-      now_more S (w + (inlined_weight S.program inner + 1)) (w + (inlined_weight S.program inner + 1 + 1)) new (omega arith) (h.typed S w size fits ok good now);
+  typed = λ S w size slot suits now.
+      let one = unmet_one old.block.steps inner in
+      now_more S (w + (inlined_weight S.program inner + unmet old.block.steps inner)) (w + (inlined_weight S.program inner + 1 + unmet old.block.steps (Statement.Opposite inner))) new
+      (omega (arith, one))
+      (h.typed S w size (slot_opposite S.function note slot) (asked_typing_part P S size (Statement.Opposite inner) inner old old (grows_refl old) refl suits.resolved (λ g c. c) suits) now);
   ends = h.ends;
-  idle = h.idle;
   marks = λ truth. ap (is_used new.stages.used) (sym (turned t f truth)) ∙ h.marks (not truth);
-  asks = λ W homes size n k homes_are size_is whole sound none at.
-      subst (GoesOn W homes nothing_kept n old) (opened_part (Statement.Opposite inner) inner k (ThenOpposite ∷ k) h.asked refl)
-      (h.asks W homes size n (ThenOpposite ∷ k) homes_are size_is whole sound (λ truth. none (not truth)) (λ j lt truth. by W homes k j (at j lt) truth));
+  asks = λ W homes size n k suits slot whole keeps at.
+      subst (GoesOn W homes nothing_kept n old)
+      (opened_part W.setting.program W.setting.function (Statement.Opposite inner) inner k (ThenOpposite ∷ k) suits.resolved refl)
+      (h.asks W homes size n (ThenOpposite ∷ k) (asked_part P W homes size (Statement.Opposite inner) inner old old (grows_refl old) refl suits.resolved (λ g c. c) suits)
+      (slot_opposite W.setting.function note slot) whole (λ truth. keeps (not truth) ∙ noted_opposite note truth) (λ j lt truth. by W homes k j (at j lt) truth));
 }
   where
     by : (W : Whole) (homes : List Home) (k : List Work) (j : ℕ) → ((truth : Bool) → AtLabel W homes j (side t f truth) (decided truth k)) → (truth : Bool) →
@@ -298,61 +432,21 @@ opposite_decides d inner t f old new is h = rw is record {
     by W homes k j at true = at false
     by W homes k j at false = at true
 
--- a label's place where nothing else goes on
-begin_keeps : (label : ℕ) (m b : Lowering) → m.reached ≡ false → Begins label m b → Keeps m b
-begin_keeps label m b off (inl p) = record {
-  homes = ap (λ (z : Lowering). z.homes) p.same;
-  back = ap (λ (z : Lowering). z.back) p.same;
-  rooms = ap (λ (z : Lowering). z.rooms) p.same;
-  variables = ap (λ (z : Lowering). z.variables) p.same;
-  arrays = ap (λ (z : Lowering). z.arrays) p.same;
-  objects = ap (λ (z : Lowering). z.objects) p.same;
-  words = ap (λ (z : Lowering). z.act_operands) p.same;
-  sound = λ size is sound. subst (λ (z : Lowering). IsSound size z.block) (sym p.same) sound;
-  whole = λ W whole.
-      let w = whole_placed W label (marked label m) p.open_ (subst (IsIn W) p.same whole) in
-      record { part = record { more = w.part.more; is = w.part.is }; obeys = w.obeys };
-  used = λ other is. ap (λ (z : Lowering). is_used z.stages.used other) p.same ∙ marks_keep m.stages.used label other is;
-}
-begin_keeps label m b off (inr p) = absurd (let on = p.reached in cc)
+-- ---- an operand, and then, where the first is not enough, the second
 
-begin_site : (label : ℕ) (m b : Lowering) → m.reached ≡ false → Begins label m b → b.site ≡ m.site
-begin_site label m b off (inl p) = ap (λ (z : Lowering). z.site) p.same
-begin_site label m b off (inr p) = absurd (let on = p.reached in cc)
+module _ (P : Program) (c d : Statement) (note : Option Note) (next t f x y : ℕ) (old a m b new : Lowering) (number : next ≡ length old.stages.labels) (label : a ≡ with_label old)
+    (first : Decides P c note x y a m) (begins : Begins next m b) (second : Decides P d note t f b new) where
+  to_a : Shifts old a
+  to_a = subst (Shifts old) (sym label) (label_relabels old).shifts
 
-begin_typed : (label : ℕ) (m b : Lowering) → m.reached ≡ false → Begins label m b → (S : Typing) (w : ℕ) → IsTypedNow S w m → IsTypedNow S w b
-begin_typed label m b off (inl p) S w now = subst (IsTypedNow S w) (sym p.same) (record { block = now.block; size = now.size; steps = now.steps; stages = now.stages })
-begin_typed label m b off (inr p) S w now = absurd (let on = p.reached in cc)
+  to_b : Grows a b
+  to_b = grows_both a m b first.grows (begins_shifts next m b begins).grows
 
-begin_block : (label : ℕ) (m b : Lowering) → m.reached ≡ false → Begins label m b → b.block ≡ m.block
-begin_block label m b off (inl p) = ap (λ (z : Lowering). z.block) p.same
-begin_block label m b off (inr p) = absurd (let on = p.reached in cc)
+  old_b : Grows old b
+  old_b = grows_both old a b to_a.grows to_b
 
-keeps_both : (a b c : Lowering) → Keeps a b → Keeps b c → Keeps a c
-keeps_both a b c h k = record {
-  homes = k.homes ∙ h.homes;
-  back = k.back ∙ h.back;
-  rooms = k.rooms ∙ h.rooms;
-  variables = k.variables ∙ h.variables;
-  arrays = k.arrays ∙ h.arrays;
-  objects = k.objects ∙ h.objects;
-  words = k.words ∙ h.words;
-  sound = λ size is sound. k.sound size (ap length h.variables ∙ is) (h.sound size is sound);
-  whole = λ W whole. h.whole W (k.whole W whole);
-  used = λ label is. k.used label (h.used label is);
-}
-
--- an operand, and then, where the first is not enough, the second
-module _ (c d : Statement) (next t f x y : ℕ) (old a m b new : Lowering) (number : next ≡ length old.stages.labels) (label : a ≡ with_label old) (first : Decides c x y a m)
-    (begins : Begins next m b) (second : Decides d t f b new) where
-  to_a : Keeps old a
-  to_a = subst (Keeps old) (sym label) (label_keeps old)
-
-  to_b : Keeps a b
-  to_b = keeps_both a m b first.keeps (begin_keeps next m b first.ends begins)
-
-  all_kept : Keeps old new
-  all_kept = keeps_both old b new (keeps_both old a b to_a to_b) second.keeps
+  b_site : b.site ≡ old.site
+  b_site = (begins_shifts next m b begins).site ∙ first.site ∙ to_a.site
 
   old_a : Advances None_ old.stages a.stages
   old_a = labels_more old.stages a.stages (ap (λ (z : Lowering). z.stages) label)
@@ -370,82 +464,71 @@ module _ (c d : Statement) (next t f x y : ℕ) (old a m b new : Lowering) (numb
       first_after (λ other. other ≡ next) m.stages new.stages start m_new
       (first.first start (subst (Begun start) (sym label) (label_begun start old begun)))
 
-  all_come : (h : ℕ) → IsHere old.stages h → IsAt h (length old.stages.stages.items) new.stages
+  all_come : (h : ℕ) → IsHere old.stages h → HasCome h (length old.stages.stages.items) new.stages
   all_come h here =
-      m_new.at h (length old.stages.stages.items)
-      (subst (λ n. IsAt h n m.stages) (ap (λ (z : Lowering). length z.stages.stages.items) label)
+      come_on (λ other. other ≡ next) h (length old.stages.stages.items) m.stages new.stages m_new
+      (subst (λ n. HasCome h n m.stages) (ap (λ (z : Lowering). length z.stages.stages.items) label)
       (first.comes h (subst (λ (z : Lowering). IsHere z.stages h) (sym label) (get_front old.stages.labels (None ∷ []) h (Some (length old.stages.places)) here))))
 
-  all_site : new.site ≡ old.site
-  all_site = second.site ∙ begin_site next m b first.ends begins ∙ first.site ∙ ap (λ (z : Lowering). z.site) label
+  b_idle : (size : ℕ) → IsGood size old → b.block.steps ≡ 0
+  b_idle size good = begun_idle next size m b (first.grows.good size (to_a.grows.good size good)) begins
 
-  all_typed : (e : Statement) → ((P : Program) → inlined_weight P e ≡ inlined_weight P c + inlined_weight P d + 1) →
-      ((S : Typing) → IsCondition S.program S.function e → IsCondition S.program S.function c × IsCondition S.program S.function d) →
-      (S : Typing) (w size : ℕ) → Fits S old.homes → IsCondition S.program S.function e → IsGood size old → IsTypedNow S w old → IsTypedNow S (w + (inlined_weight S.program e + 1)) new
-  all_typed e weighs parts = λ S w size fits ok good now.
-      let kept = keeps_both old a b to_a to_b in
-      let sound_a = to_a.sound size good.variables good.sound in
-      let good_a : IsGood size a = record {
-        variables = ap length to_a.variables ∙ good.variables;
-        sound = sound_a;
-        idle = λ off. ap (λ (z : Lowering). z.block.steps) label ∙ good.idle (sym (ap (λ (z : Lowering). z.reached) label) ∙ off);
-      } in
-      let now_a : IsTypedNow S w a = subst (IsTypedNow S w) (sym label) (record { block = now.block; size = now.size; steps = now.steps; stages = now.stages }) in
-      let at_m = first.typed S w size (subst (Fits S) (sym to_a.homes) fits) (parts S ok).0 good_a now_a in
-      let idle_m = first.idle size good_a.variables sound_a in
-      let sound_b = kept.sound size good.variables good.sound in
-      let good_b : IsGood size b = record {
-        variables = ap length kept.variables ∙ good.variables;
-        sound = sound_b;
-        idle = λ off. ap (λ (z : OpenBlock). z.steps) (begin_block next m b first.ends begins) ∙ idle_m;
-      } in
-      let at_b = begin_typed next m b first.ends begins S (w + (inlined_weight S.program c + 1)) at_m in
-      let at_new = second.typed S (w + (inlined_weight S.program c + 1)) size (subst (Fits S) (sym kept.homes) fits) (parts S ok).1 good_b at_b in
-      now_more S (w + (inlined_weight S.program c + 1) + (inlined_weight S.program d + 1)) (w + (inlined_weight S.program e + 1)) new (let sum = weighs S.program in omega (arith, sum)) at_new
+  all_typed : (e : Statement) → ((Q : Program) → inlined_weight Q e ≡ inlined_weight Q c + inlined_weight Q d + 1) →
+      ((Q : Program) (g : Function) → IsCondition Q g e → IsCondition Q g c × IsCondition Q g d) → calls_of e ≡ calls_of c ++ calls_of d →
+      (S : Typing) (w size : ℕ) → HasSlot S.function note → SuitsAskedTyping P S size e old → IsTypedNow S w old →
+      IsTypedNow S (w + (inlined_weight S.program e + unmet old.block.steps e)) new
+  all_typed e weighs parts called S w size slot suits now =
+      let ok = parts S.program S.function suits.resolved in
+      let now_a = to_a.typed S w size suits.good now in
+      let v = w + (inlined_weight S.program c + unmet a.block.steps c) in
+      let at_m = first.typed S w size slot
+      (asked_typing_part P S size e c old a to_a.grows to_a.site ok.0 (λ g h. subst (λ l. Contains l g) (sym called) (Contains-append_left (calls_of c) (calls_of d) g h)) suits) now_a in
+      let at_b = (begins_shifts next m b begins).typed S v size (first.grows.good size (to_a.grows.good size suits.good)) at_m in
+      let at_new = second.typed S v size slot
+      (asked_typing_part P S size e d old b old_b b_site ok.1 (λ g h. subst (λ l. Contains l g) (sym called) (Contains-append_right (calls_of c) (calls_of d) g h)) suits) at_b in
+      let one = unmet_one a.block.steps c in
+      let none = unmet_none b.block.steps d (b_idle size suits.good) in
+      let sum = weighs S.program in
+      now_more S (v + (inlined_weight S.program d + unmet b.block.steps d)) (w + (inlined_weight S.program e + unmet old.block.steps e)) new (omega (arith, one, none, sum)) at_new
 
-  idle_after : (size : ℕ) → length old.variables ≡ size → IsSound size old.block → new.block.steps ≡ 0
-  idle_after size is sound =
-      let k = keeps_both old a b to_a to_b in
-      second.idle size (ap length k.variables ∙ is) (k.sound size is sound)
-
-  module _ (W : Whole) (homes : List Home) (size n : ℕ) (k : List Work) (homes_are : old.homes ≡ homes) (size_is : length old.variables ≡ size) (whole : IsIn W new)
-      (sound : IsSound size old.block) (none : IsNotKept k)
+  module _ (e : Statement) (parts : (Q : Program) (g : Function) → IsCondition Q g e → IsCondition Q g c × IsCondition Q g d) (called : calls_of e ≡ calls_of c ++ calls_of d)
+      (W : Whole) (homes : List Home) (size n : ℕ) (k : List Work) (suits : SuitsAsked P W homes size e old) (slot : HasSlot W.setting.function note) (whole : IsIn W new) (keeps : IsNoted note k)
       (at : (j : ℕ) → j < n → (truth : Bool) → AtLabel W homes j (side t f truth) (decided truth k)) where
+    both_ok : IsCondition W.setting.program W.setting.function c × IsCondition W.setting.program W.setting.function d
+    both_ok = parts W.setting.program W.setting.function suits.resolved
+
     -- the second operand is asked at the label between them
     next_at : (j : ℕ) → j < n → AtLabel W homes j next (settled Onward (Do d ∷ k))
     next_at j lt =
-        let kept = keeps_both old a b to_a to_b in
-        let idle : b.block.steps ≡ 0 =
-        ap (λ (z : OpenBlock). z.steps) (begin_block next m b first.ends begins)
-        ∙ first.idle size (ap length to_a.variables ∙ size_is) (to_a.sound size size_is sound) in
-        begin_at W homes j (settled Onward (Do d ∷ k)) nothing_kept next m b idle begins
-        (second.asks W homes size j k (kept.homes ∙ homes_are) (ap length kept.variables ∙ size_is) whole (kept.sound size size_is sound) none (λ i below truth. at i (omega arith) truth))
+        begin_at W homes j (settled Onward (Do d ∷ k)) nothing_kept next m b (b_idle size suits.good) begins
+        (second.asks W homes size j k
+        (asked_part P W homes size e d old b old_b b_site both_ok.1 (λ g h. subst (λ l. Contains l g) (sym called) (Contains-append_right (calls_of c) (calls_of d) g h)) suits)
+        slot whole keeps (λ i below truth. at i (omega arith) truth))
 
-    first_goes : (l : List Work) → IsNotKept l → ((j : ℕ) → j < n → (truth : Bool) → AtLabel W homes j (side x y truth) (decided truth l)) →
+    first_goes : (l : List Work) → IsNoted note l → ((j : ℕ) → j < n → (truth : Bool) → AtLabel W homes j (side x y truth) (decided truth l)) →
         GoesOn W homes nothing_kept n old (settled Onward (Do c ∷ l))
     first_goes l free claims =
         goes_before_label W homes nothing_kept n old a (settled Onward (Do c ∷ l)) label
-        (first.asks W homes size n l (to_a.homes ∙ homes_are) (ap length to_a.variables ∙ size_is)
-        ((begin_keeps next m b first.ends begins).whole W (second.keeps.whole W whole)) (to_a.sound size size_is sound) free claims)
+        (first.asks W homes size n l
+        (asked_part P W homes size e c old a to_a.grows to_a.site both_ok.0 (λ g h. subst (λ z. Contains z g) (sym called) (Contains-append_left (calls_of c) (calls_of d) g h)) suits)
+        slot ((begins_shifts next m b begins).grows.whole W (second.grows.whole W whole)) free claims)
 
-pub both_decides : (e c d : Statement) (next t f : ℕ) (old a m b new : Lowering) → e ≡ Statement.Both c d → next ≡ length old.stages.labels → a ≡ with_label old →
-    Decides c next f a m → Begins next m b → Decides d t f b new →
-    Decides e t f old new
-both_decides e c d next t f old a m b new is number label first begins second = rw is record {
-  asked = and_from (is_asked c) (is_asked d) first.asked second.asked;
-  keeps = all_kept c d next t f next f old a m b new number label first begins second;
-  site = all_site c d next t f next f old a m b new number label first begins second;
-  advances = all_advances c d next t f next f old a m b new number label first begins second;
-  first = all_first c d next t f next f old a m b new number label first begins second;
-  comes = all_come c d next t f next f old a m b new number label first begins second;
-  typed = all_typed c d next t f next f old a m b new number label first begins second (Statement.Both c d) (λ P. refl) (λ S ok. ok);
+pub both_decides : (P : Program) (e c d : Statement) (note : Option Note) (next t f : ℕ) (old a m b new : Lowering) → e ≡ Statement.Both c d → next ≡ length old.stages.labels → a ≡ with_label old →
+    Decides P c note next f a m → Begins next m b → Decides P d note t f b new → Decides P e note t f old new
+both_decides P e c d note next t f old a m b new is number label first begins second = rw is record {
+  grows = grows_both old b new (old_b P c d note next t f next f old a m b new number label first begins second) second.grows;
+  site = second.site ∙ b_site P c d note next t f next f old a m b new number label first begins second;
+  advances = all_advances P c d note next t f next f old a m b new number label first begins second;
+  first = all_first P c d note next t f next f old a m b new number label first begins second;
+  comes = all_come P c d note next t f next f old a m b new number label first begins second;
+  typed = all_typed P c d note next t f next f old a m b new number label first begins second (Statement.Both c d) (λ Q. refl) (λ Q g ok. ok) refl;
   ends = second.ends;
-  idle = idle_after c d next t f next f old a m b new number label first begins second;
   marks = second.marks;
-  asks = λ W homes size n k homes_are size_is whole sound none at.
-      subst (GoesOn W homes nothing_kept n old) (opened_part (Statement.Both c d) c k (ThenBoth d ∷ k) first.asked refl)
-      (first_goes c d next t f next f old a m b new number label first begins second W homes size n k homes_are size_is whole sound none at (ThenBoth d ∷ k) none
-      (λ j lt truth. by W homes k j (next_at c d next t f next f old a m b new number label first begins second W homes size n k homes_are size_is whole sound none at j lt)
+  asks = λ W homes size n k suits slot whole keeps at.
+      subst (GoesOn W homes nothing_kept n old) (opened_part W.setting.program W.setting.function (Statement.Both c d) c k (ThenBoth d ∷ k) suits.resolved.0 refl)
+      (first_goes P c d note next t f next f old a m b new number label first begins second (Statement.Both c d) (λ Q g ok. ok) refl W homes size n k suits slot whole keeps at (ThenBoth d ∷ k) keeps
+      (λ j lt truth. by W homes k j
+      (next_at P c d note next t f next f old a m b new number label first begins second (Statement.Both c d) (λ Q g ok. ok) refl W homes size n k suits slot whole keeps at j lt)
       (at j lt false) truth));
 }
   where
@@ -454,28 +537,32 @@ both_decides e c d next t f old a m b new is number label first begins second = 
     by W homes k j on off true = on
     by W homes k j on off false = off
 
-pub either_decides : (e c d : Statement) (next t f : ℕ) (old a m b new : Lowering) → e ≡ Statement.Either c d → next ≡ length old.stages.labels → a ≡ with_label old →
-    Decides c t next a m → Begins next m b → Decides d t f b new →
-    Decides e t f old new
-either_decides e c d next t f old a m b new is number label first begins second = rw is record {
-  asked = and_from (is_asked c) (is_asked d) first.asked second.asked;
-  keeps = all_kept c d next t f t next old a m b new number label first begins second;
-  site = all_site c d next t f t next old a m b new number label first begins second;
-  advances = all_advances c d next t f t next old a m b new number label first begins second;
-  first = all_first c d next t f t next old a m b new number label first begins second;
-  comes = all_come c d next t f t next old a m b new number label first begins second;
-  typed = all_typed c d next t f t next old a m b new number label first begins second (Statement.Either c d) (λ P. refl) (λ S ok. ok);
+pub either_decides : (P : Program) (e c d : Statement) (note : Option Note) (next t f : ℕ) (old a m b new : Lowering) → e ≡ Statement.Either c d → next ≡ length old.stages.labels → a ≡ with_label old →
+    Decides P c note t next a m → Begins next m b → Decides P d note t f b new → Decides P e note t f old new
+either_decides P e c d note next t f old a m b new is number label first begins second = rw is record {
+  grows = grows_both old b new (old_b P c d note next t f t next old a m b new number label first begins second) second.grows;
+  site = second.site ∙ b_site P c d note next t f t next old a m b new number label first begins second;
+  advances = all_advances P c d note next t f t next old a m b new number label first begins second;
+  first = all_first P c d note next t f t next old a m b new number label first begins second;
+  comes = all_come P c d note next t f t next old a m b new number label first begins second;
+  typed = all_typed P c d note next t f t next old a m b new number label first begins second (Statement.Either c d) (λ Q. refl) (λ Q g ok. ok) refl;
   ends = second.ends;
-  idle = idle_after c d next t f t next old a m b new number label first begins second;
   marks = second.marks;
-  asks = λ W homes size n k homes_are size_is whole sound none at.
-      subst (GoesOn W homes nothing_kept n old) (opened_part (Statement.Either c d) c k (ThenEither d ∷ k) first.asked refl)
-      (first_goes c d next t f t next old a m b new number label first begins second W homes size n k homes_are size_is whole sound none at (ThenEither d ∷ k) none
+  asks = λ W homes size n k suits slot whole keeps at.
+      subst (GoesOn W homes nothing_kept n old) (opened_part W.setting.program W.setting.function (Statement.Either c d) c k (ThenEither d ∷ k) suits.resolved.0 refl)
+      (first_goes P c d note next t f t next old a m b new number label first begins second (Statement.Either c d) (λ Q g ok. ok) refl W homes size n k suits slot whole keeps at (ThenEither d ∷ k) keeps
       (λ j lt truth. by W homes k j (at j lt true)
-      (next_at c d next t f t next old a m b new number label first begins second W homes size n k homes_are size_is whole sound none at j lt) truth));
+      (next_at P c d note next t f t next old a m b new number label first begins second (Statement.Either c d) (λ Q g ok. ok) refl W homes size n k suits slot whole keeps at j lt) truth));
 }
   where
     by : (W : Whole) (homes : List Home) (k : List Work) (j : ℕ) → AtLabel W homes j t (decided true k) → AtLabel W homes j next (settled Onward (Do d ∷ k)) → (truth : Bool) →
         AtLabel W homes j (side t next truth) (decided truth (ThenEither d ∷ k))
     by W homes k j on off true = on
     by W homes k j on off false = off
+
+-- with a unit for each operand by itself
+pub decided_typed : (P : Program) (d : Statement) (note : Option Note) (t f : ℕ) (old new : Lowering) → Decides P d note t f old new → (S : Typing) (w size : ℕ) → HasSlot S.function note →
+    SuitsAskedTyping P S size d old → IsTypedNow S w old → IsTypedNow S (w + (inlined_weight S.program d + 1)) new
+decided_typed P d note t f old new decides S w size slot suits now =
+    let one = unmet_one old.block.steps d in
+    now_more S (w + (inlined_weight S.program d + unmet old.block.steps d)) (w + (inlined_weight S.program d + 1)) new (omega (arith, one)) (decides.typed S w size slot suits now)

@@ -4,3 +4,4 @@ pub mod ControlSize
 pub mod ControlGrowth
 pub mod NestedStatements
 pub mod OpenControl
+pub mod Cuts

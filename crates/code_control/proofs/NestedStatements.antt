@@ -1,8 +1,8 @@
 -- Statements with others in them: lists, ifs and loops.
 use Rattle.std.proofs.Common.{◌≡◌, ℕ, zero, suc, ◌+◌, ◌<◌, ◌≤◌, Bool, true, false, List, [], ◌∷◌, ◌++◌, Option, Some, None, refl, sym, ap, ◌∙◌, subst, inl, inr, arith}
 use Rattle.std.proofs.Common.{append-nil, append_assoc, length-append}
-use Rattle.c_program.specs.Tree.{Statement, Program}
-use Rattle.std.specs.Prelude.{Contains}
+use Rattle.c_program.specs.Tree.{Statement, Function, Program}
+use Rattle.std.specs.Prelude.{Contains, IfSome}
 use Rattle.std.proofs.lemmas.List.Elements.{Contains-append_left, Contains-append_right}
 use Rattle.c_program.specs.Calls.{calls_of}
 use Rattle.c_program.specs.Limits.{print_count}
@@ -23,7 +23,7 @@ use Rattle.code_places.specs.Resuming.{nothing_kept}
 use Rattle.code_storage.specs.Formats.{HasSites}
 use Rattle.code_places.specs.Labels.{is_used}
 use Rattle.code_places.specs.Apart.{IsTypedNow, IsGood}
-use Rattle.code_control.specs.Deciding.{is_asked, side}
+use Rattle.code_control.specs.Deciding.{side, SuitsAsked, SuitsAskedTyping}
 use Rattle.code_places.specs.Control.{Binds, Whole, IsIn, AtLabel, AtLabelUpTo, GoesOn}
 use Rattle.code_places.specs.Doing.{Grows, Shifts, at_site, OnwardUpTo, IfUsed, LeadsOut, Suits, SuitsTyping, Leads, LowersHere}
 use Rattle.code_control.specs.Branching.{OpensChoice, TurnsChoice, OpensLoop, OpensTurn, ClosesTurn, Asks, ClosesDo}
@@ -33,20 +33,23 @@ use Rattle.code_places.proofs.TypedGrowth.{now_more, words_less}
 use Rattle.code_places.proofs.LabelTargets.{begin_at, begun_idle, begin_goes_on}
 use Rattle.code_places.proofs.CodeGrowth.{grows_refl, grows_both, site_grows, site_typed, begins_shifts, begun_reached, binds_shifts, leaps_shifts, goes_relabelled, binds_at}
 use Rattle.code_places.proofs.CodeGrowth.{binds_goes, leaps_goes}
-use Rattle.code_control.proofs.Decisions.{opened_asked, opened_part}
-use Rattle.code_control.proofs.ControlGrowth.{decides_grows}
+use Rattle.code_control.proofs.Decisions.{opened_asked, opened_part, asked_part, asked_typing_part, decided_typed}
 use Rattle.code_control.proofs.BoundLabels.{while_labels, labels_of}
 
 -- ---- parts of statements
 
 -- where break and continue lead, for what comes before
-out_before : (W : Whole) (homes : List Home) (n : ℕ) (before after : Lowering) (around : Option Loop) (k : List Work) → Grows before after → LeadsOut W homes n after.stages.used around k →
+pub out_before : (W : Whole) (homes : List Home) (n : ℕ) (before after : Lowering) (around : Option Loop) (k : List Work) → Grows before after → LeadsOut W homes n after.stages.used around k →
     LeadsOut W homes n before.stages.used around k
 out_before W homes n before after None k grows out = tt
 out_before W homes n before after (Some l) k grows out = (
   λ used j le. out.0 (grows.used l.leaving used) j le,
-  λ used j le. out.1 (grows.used l.turning used) j le,
+  by l.turning out.1,
 )
+  where
+    by : (o : Option ℕ) → IfSome o (λ turning. IfUsed W homes n after.stages.used turning (settled Turning k)) → IfSome o (λ turning. IfUsed W homes n before.stages.used turning (settled Turning k))
+    by None to = tt
+    by (Some turning) to = λ used j le. to (grows.used turning used) j le
 
 module _ (P : Program) (W : Whole) (homes : List Home) (size : ℕ) (s t : Statement) (old c : Lowering) (grows : Grows old c) (suits : Suits P W homes size s old) where
   pub suits_part : (around : Around) → IsStatement W.setting.program W.setting.function around t → HasSites W.setting.program t c.site →
@@ -71,6 +74,35 @@ module _ (P : Program) (S : Typing) (size : ℕ) (s t : Statement) (old c : Lowe
     words = words_less S.types size (most_values t) (most_values s) most suits.words;
     good = grows.good size suits.good;
     around = around;
+    resolved = resolved;
+    sites = sites;
+    calls = λ g c. suits.calls g (calls g c);
+  }
+
+-- what the code of a condition in a statement rests on
+
+pub no_sites : (Q : Program) (s : Statement) (site next : ℕ) → HasSites Q s site → next ≡ site → HasSites Q Statement.Done next
+no_sites Q s site next sites is = part_sites Q s Statement.Done [] (formats_of s) site next sites refl (omega (arith, is))
+
+module _ (P : Program) (W : Whole) (homes : List Home) (size : ℕ) (s d : Statement) (old c : Lowering) (grows : Grows old c) (suits : Suits P W homes size s old) where
+  pub suits_asked : IsCondition W.setting.program W.setting.function d → HasSites W.setting.program Statement.Done c.site → ((g : ℕ) → Contains (calls_of d) g → Contains (calls_of s) g) →
+      SuitsAsked P W homes size d c
+  suits_asked resolved sites calls = record {
+    seated = seat_on P W homes size old c grows.back grows.rooms grows.objects suits.seated;
+    homes_ = grows.homes ∙ suits.homes_;
+    good = grows.good size suits.good;
+    locals = suits.locals;
+    resolved = resolved;
+    sites = sites;
+    calls = λ g c. suits.calls g (calls g c);
+  }
+
+module _ (P : Program) (S : Typing) (size : ℕ) (s d : Statement) (old c : Lowering) (grows : Grows old c) (suits : SuitsTyping P S size s old) where
+  pub typing_asked : IsCondition S.program S.function d → HasSites S.program Statement.Done c.site → ((g : ℕ) → Contains (calls_of d) g → Contains (calls_of s) g) → SuitsAskedTyping P S size d c
+  typing_asked resolved sites calls = record {
+    seated = typed_seat_on P S size old c grows.back grows.rooms grows.objects suits.seated;
+    fits = subst (Fits S) (sym grows.homes) suits.fits;
+    good = grows.good size suits.good;
     resolved = resolved;
     sites = sites;
     calls = λ g c. suits.calls g (calls g c);
@@ -102,7 +134,7 @@ pub settled_sequence : (a b : Statement) (k : List Work) → settled Onward (Do 
 settled_sequence a b k = λ d. opened a (Do b ∷ k) (λ going. onward b k going d)
 
 -- a break or a continue passes by what follows in the same list
-out_past : (W : Whole) (homes : List Home) (n : ℕ) (used : List Bool) (around : Option Loop) (b : Statement) (k : List Work) → LeadsOut W homes n used around k →
+pub out_past : (W : Whole) (homes : List Home) (n : ℕ) (used : List Bool) (around : Option Loop) (b : Statement) (k : List Work) → LeadsOut W homes n used around k →
     LeadsOut W homes n used around (Do b ∷ k)
 out_past W homes n used None b k out = tt
 out_past W homes n used (Some l) b k out = out
@@ -164,7 +196,7 @@ block_lowers P around s body old new is h = rw is (
 
 -- ---- an if
 
-module _ (P : Program) (around : Option Loop) (d : Statement) (l : ChoiceLabels) (one other : Statement) (old a b e g new : Lowering) (opens : OpensChoice d l old a) (first : Leads P around one a b)
+module _ (P : Program) (around : Option Loop) (d : Statement) (l : ChoiceLabels) (one other : Statement) (old a b e g new : Lowering) (opens : OpensChoice P d l old a) (first : Leads P around one a b)
     (turns : TurnsChoice l b e) (second : Leads P around other e g) (closes : Binds l.join g new) where
   abbrev choice : Statement
   choice = Statement.If d one other
@@ -179,7 +211,7 @@ module _ (P : Program) (around : Option Loop) (d : Statement) (l : ChoiceLabels)
   to_labelled = opens.relabels.shifts.grows
 
   to_decided : Grows opens.labelled opens.decided
-  to_decided = decides_grows d l.if_true l.if_false opens.labelled opens.decided opens.decides
+  to_decided = opens.decides.grows
 
   to_a : Grows opens.decided a
   to_a = (binds_shifts l.if_true opens.decided a opens.binds).grows
@@ -229,7 +261,9 @@ module _ (P : Program) (around : Option Loop) (d : Statement) (l : ChoiceLabels)
   choice_typed S w size suits now =
       let at_labelled = opens.relabels.shifts.typed S w size suits.good now in
       let v = w + (inlined_weight S.program d + 1) in
-      let at_decided = opens.decides.typed S w size (subst (Fits S) (sym to_labelled.homes) suits.fits) suits.resolved.0 (to_labelled.good size suits.good) at_labelled in
+      let at_decided = decided_typed P d None l.if_true l.if_false opens.labelled opens.decided opens.decides S w size tt
+      (typing_asked P S size choice d old opens.labelled to_labelled suits suits.resolved.0
+      (no_sites S.program choice old.site opens.labelled.site suits.sites opens.relabels.shifts.site) (Contains-append_left (calls_of d) (calls_of one ++ calls_of other))) at_labelled in
       let at_a = (binds_shifts l.if_true opens.decided a opens.binds).typed S v size (old_decided.good size suits.good) at_decided in
       let at_b = first.typed S v size (typing_part P S size choice one old a old_a suits (within suits.around) (omega arith) suits.resolved.1 (one_sites S.program suits.sites)
       one_called) at_a in
@@ -284,11 +318,12 @@ module _ (P : Program) (around : Option Loop) (d : Statement) (l : ChoiceLabels)
 
     choice_goes : OnwardUpTo W homes n old (settled Onward (Do choice ∷ k))
     choice_goes on j le =
-        let good = to_labelled.good size suits.good in
-        subst (GoesOn W homes nothing_kept j old) (opened_part choice d k (Choose one other ∷ k) opens.decides.asked refl)
+        subst (GoesOn W homes nothing_kept j old) (opened_part W.setting.program W.setting.function choice d k (Choose one other ∷ k) suits.resolved.0 refl)
         (goes_relabelled W homes nothing_kept j (settled Onward (Do d ∷ Choose one other ∷ k)) old opens.labelled opens.relabels
-        (opens.decides.asks W homes size j (Choose one other ∷ k) (to_labelled.homes ∙ suits.homes_) good.variables (to_a.whole W whole_a) good.sound (λ truth. refl)
-        (λ i lt truth. sides truth i (omega arith))))
+        (opens.decides.asks W homes size j (Choose one other ∷ k)
+        (suits_asked P W homes size choice d old opens.labelled to_labelled suits suits.resolved.0
+        (no_sites W.setting.program choice old.site opens.labelled.site suits.sites opens.relabels.shifts.site) (Contains-append_left (calls_of d) (calls_of one ++ calls_of other)))
+        tt (to_a.whole W whole_a) (λ truth. refl) (λ i lt truth. sides truth i (omega arith))))
 
   pub choice_leads : Leads P around choice old new
   choice_leads = record {
@@ -299,7 +334,7 @@ module _ (P : Program) (around : Option Loop) (d : Statement) (l : ChoiceLabels)
   }
 
 pub choice_lowers : (P : Program) (around : Option Loop) (s : Statement) (d : Statement) (one other : Statement) (l : ChoiceLabels) (old a b e g new : Lowering) → s ≡ Statement.If d one other →
-    OpensChoice d l old a →
+    OpensChoice P d l old a →
     Leads P around one a b → TurnsChoice l b e → Leads P around other e g → Binds l.join g new → Leads P around s old new
 choice_lowers P around s d one other l old a b e g new is opens first turns second closes =
     rw is (choice_leads P around d l one other old a b e g new opens first turns second closes)
@@ -318,8 +353,8 @@ from_below n Q step i le = step i le (λ j lt. below i le j lt)
 abbrev pub asking : WorkLoop → List Work → List Work
 asking loop k = asked loop k (λ going. settled going k)
 
-asking_is : (loop : WorkLoop) (k : List Work) → is_asked loop.condition ≡ true → settled Onward (Do loop.condition ∷ Turn loop ∷ k) ≡ asking loop k
-asking_is loop k ok = opened_asked loop.condition ok (Turn loop ∷ k) (λ going. settled going (Turn loop ∷ k)) (λ going. settled going k)
+asking_is : (P : Program) (f : Function) (loop : WorkLoop) (k : List Work) → IsCondition P f loop.condition → settled Onward (Do loop.condition ∷ Turn loop ∷ k) ≡ asking loop k
+asking_is P f loop k ok = opened_asked P f loop.condition ok (Turn loop ∷ k) (λ going. settled going (Turn loop ∷ k)) (λ going. settled going k)
 
 -- a head with its label
 module _ (l : LoopLabels) (old begun : Lowering) (opens : OpensLoop l old begun) where
@@ -343,7 +378,7 @@ module _ (l : LoopLabels) (old begun : Lowering) (opens : OpensLoop l old begun)
         (λ i below. g i (omega arith)))
 
 -- a condition at the head
-module _ (loop : WorkLoop) (l : LoopLabels) (old a : Lowering) (opens : OpensTurn loop.condition l old a) where
+module _ (P : Program) (loop : WorkLoop) (l : LoopLabels) (old a : Lowering) (opens : OpensTurn P loop.condition l old a) where
   abbrev d : Statement
   d = loop.condition
 
@@ -351,7 +386,7 @@ module _ (loop : WorkLoop) (l : LoopLabels) (old a : Lowering) (opens : OpensTur
   old_begun = loop_shifts l old opens.begun opens.opens
 
   begun_decided : Grows opens.begun opens.decided
-  begun_decided = decides_grows d l.body l.leaving opens.begun opens.decided opens.decides
+  begun_decided = opens.decides.grows
 
   decided_a : Shifts opens.decided a
   decided_a = binds_shifts l.body opens.decided a opens.binds
@@ -365,38 +400,37 @@ module _ (loop : WorkLoop) (l : LoopLabels) (old a : Lowering) (opens : OpensTur
   pub turn_site : a.site ≡ old.site
   turn_site = decided_a.site ∙ opens.decides.site ∙ old_begun.site
 
-  pub turn_typed : (S : Typing) (w size : ℕ) → Fits S old.homes → IsCondition S.program S.function d → IsGood size old → IsTypedNow S w old → IsTypedNow S (w + (inlined_weight S.program d + 1)) a
-  turn_typed S w size fits is good now =
-      decided_a.typed S (w + (inlined_weight S.program d + 1)) size (old_decided_.good size good)
-      (opens.decides.typed S w size (subst (Fits S) (sym old_begun.grows.homes) fits) is (old_begun.grows.good size good) (old_begun.typed S w size good now))
+  pub turn_typed : (S : Typing) (w size : ℕ) → SuitsAskedTyping P S size d old → IsTypedNow S w old → IsTypedNow S (w + (inlined_weight S.program d + 1)) a
+  turn_typed S w size suits now =
+      decided_a.typed S (w + (inlined_weight S.program d + 1)) size (old_decided_.good size suits.good)
+      (decided_typed P d None l.body l.leaving opens.begun opens.decided opens.decides S w size tt
+      (asked_typing_part P S size d d old opens.begun old_begun.grows old_begun.site suits.resolved (λ g c. c) suits) (old_begun.typed S w size suits.good now))
 
   pub turn_leaves : is_used a.stages.used l.leaving ≡ true
   turn_leaves = decided_a.grows.used l.leaving (opens.decides.marks false)
 
-  module _ (W : Whole) (homes : List Home) (size n : ℕ) (k : List Work) (homes_are : old.homes ≡ homes) (good : IsGood size old) (whole : IsIn W a)
+  module _ (W : Whole) (homes : List Home) (size n : ℕ) (k : List Work) (suits : SuitsAsked P W homes size d old) (whole : IsIn W a)
       (leave : AtLabelUpTo W homes n l.leaving (settled Onward k))
       (body : (i : ℕ) → i ≤ n → AtLabelUpTo W homes i l.head (asking loop k) → OnwardUpTo W homes i a (settled Onward (Do loop.body ∷ Next loop ∷ k))) where
-    good_begun : IsGood size opens.begun
-    good_begun = old_begun.grows.good size good
-
     whole_decided : IsIn W opens.decided
     whole_decided = decided_a.grows.whole W whole
 
     turns_at : (i : ℕ) → i ≤ n → GoesOn W homes nothing_kept i opens.begun (asking loop k)
     turns_at = from_below n (λ i. GoesOn W homes nothing_kept i opens.begun (asking loop k))
         (λ i le earlier.
-        subst (GoesOn W homes nothing_kept i opens.begun) (asking_is loop k opens.decides.asked)
-        (opens.decides.asks W homes size i (Turn loop ∷ k) (old_begun.grows.homes ∙ homes_are) good_begun.variables whole_decided good_begun.sound (λ truth. refl)
-        (λ j lt truth. by j truth (omega arith) (λ m less. head_at l old opens.begun opens.opens W homes size m (asking loop k) good (earlier m (omega arith))))))
+        subst (GoesOn W homes nothing_kept i opens.begun) (asking_is W.setting.program W.setting.function loop k suits.resolved)
+        (opens.decides.asks W homes size i (Turn loop ∷ k)
+        (asked_part P W homes size d d old opens.begun old_begun.grows old_begun.site suits.resolved (λ g c. c) suits) tt whole_decided (λ truth. refl)
+        (λ j lt truth. by j truth (omega arith) (λ m less. head_at l old opens.begun opens.opens W homes size m (asking loop k) suits.good (earlier m (omega arith))))))
       where
         by : (j : ℕ) (truth : Bool) → j ≤ n → AtLabelUpTo W homes j l.head (asking loop k) → AtLabel W homes j (side l.body l.leaving truth) (decided truth (Turn loop ∷ k))
         by j true le at =
-            binds_at W homes j (settled Onward (Do loop.body ∷ Next loop ∷ k)) l.body size opens.decided a (old_decided_.good size good) opens.binds whole (body j le at)
+            binds_at W homes j (settled Onward (Do loop.body ∷ Next loop ∷ k)) l.body size opens.decided a (old_decided_.good size suits.good) opens.binds whole (body j le at)
             (opens.decides.marks true) j (omega arith)
         by j false le at = leave j le
 
     pub turns_go : OnwardUpTo W homes n old (asking loop k)
-    turns_go = head_goes l old opens.begun opens.opens W homes size n (asking loop k) good (begun_decided.whole W whole_decided) turns_at
+    turns_go = head_goes l old opens.begun opens.opens W homes size n (asking loop k) suits.good (begun_decided.whole W whole_decided) turns_at
 
 -- the end of a turn
 module _ (l : LoopLabels) (old new : Lowering) (closes : ClosesTurn l old new) where
@@ -428,7 +462,7 @@ less_label W homes n i label k le at = λ j below. at j (omega arith)
 
 -- ---- while
 
-module _ (P : Program) (around : Option Loop) (d : Statement) (l : LoopLabels) (body : Statement) (old a b new : Lowering) (opens : OpensTurn d l old a)
+module _ (P : Program) (around : Option Loop) (d : Statement) (l : LoopLabels) (body : Statement) (old a b new : Lowering) (opens : OpensTurn P d l old a)
     (inner : Leads P (Some (while_labels l)) body a b)
     (closes : ClosesTurn l b new) where
   abbrev while_ : Statement
@@ -438,21 +472,23 @@ module _ (P : Program) (around : Option Loop) (d : Statement) (l : LoopLabels) (
   while_work = while_loop d body
 
   while_old_a : Grows old a
-  while_old_a = turn_grows while_work l old a opens
+  while_old_a = turn_grows P while_work l old a opens
 
   while_old_b : Grows old b
   while_old_b = grows_both old a b while_old_a inner.grows
 
-  while_sites : (P : Program) → HasSites P while_ old.site → HasSites P body a.site
-  while_sites P sites =
-      part_sites P while_ body [] [] old.site a.site sites (sym (append-nil (formats_of body))) (let x = turn_site while_work l old a opens in omega (arith, x))
+  while_sites : (Q : Program) → HasSites Q while_ old.site → HasSites Q body a.site
+  while_sites Q sites =
+      part_sites Q while_ body [] [] old.site a.site sites (sym (append-nil (formats_of body))) (let x = turn_site P while_work l old a opens in omega (arith, x))
 
   pub while_leads : Leads P around while_ old new
   while_leads = record {
     grows = grows_both old b new while_old_b (close_shifts l b new closes).grows;
-    site = (let x = turn_site while_work l old a opens in let y = inner.site in let z = (close_shifts l b new closes).site in omega (arith, x, y, z));
+    site = (let x = turn_site P while_work l old a opens in let y = inner.site in let z = (close_shifts l b new closes).site in omega (arith, x, y, z));
     typed = λ S w size suits now.
-        let at_a = turn_typed while_work l old a opens S w size suits.fits suits.resolved.0 suits.good now in
+        let at_a = turn_typed P while_work l old a opens S w size
+        (typing_asked P S size while_ d old old (grows_refl old) suits suits.resolved.0 (no_sites S.program while_ old.site old.site suits.sites refl)
+        (Contains-append_left (calls_of d) (calls_of body))) now in
         let at_b = inner.typed S (w + (inlined_weight S.program d + 1)) size
         (typing_part P S size while_ body old a while_old_a suits resolved.in_loop (omega arith) suits.resolved.1 (while_sites S.program suits.sites)
         (Contains-append_right (calls_of d) (calls_of body))) at_a in
@@ -462,8 +498,10 @@ module _ (P : Program) (around : Option Loop) (d : Statement) (l : LoopLabels) (
         let good_b = while_old_b.good size suits.good in
         let whole_b = (close_shifts l b new closes).grows.whole W whole in
         let leaves = close_leaves l b new closes W homes size n (settled Onward k) good_b whole after in
-        turns_go while_work l old a opens W homes size n k suits.homes_ suits.good (inner.grows.whole W whole_b)
-        (leaves (inner.grows.used l.leaving (turn_leaves while_work l old a opens)))
+        turns_go P while_work l old a opens W homes size n k
+        (suits_asked P W homes size while_ d old old (grows_refl old) suits suits.resolved.0 (no_sites W.setting.program while_ old.site old.site suits.sites refl)
+        (Contains-append_left (calls_of d) (calls_of body))) (inner.grows.whole W whole_b)
+        (leaves (inner.grows.used l.leaving (turn_leaves P while_work l old a opens)))
         (λ i le at.
         inner.leads W homes size i (Next while_work ∷ k) (suits_part P W homes size while_ body old a while_old_a suits resolved.in_loop suits.resolved.1
         (while_sites W.setting.program suits.sites) (Contains-append_right (calls_of d) (calls_of body))) whole_b
@@ -472,7 +510,7 @@ module _ (P : Program) (around : Option Loop) (d : Statement) (l : LoopLabels) (
   }
 
 pub while_lowers : (P : Program) (around : Option Loop) (s : Statement) (d : Statement) (body : Statement) (l : LoopLabels) (old a b new : Lowering) → s ≡ Statement.While d body →
-    OpensTurn d l old a →
+    OpensTurn P d l old a →
     Leads P (Some (while_labels l)) body a b → ClosesTurn l b new → Leads P around s old new
 while_lowers P around s d body l old a b new is opens inner closes = rw is (while_leads P around d l body old a b new opens inner closes)
 
@@ -487,45 +525,46 @@ turned d body k Turning = refl
 settled_do : (d : Statement) (body : Statement) (k : List Work) → settled Onward (Do (Statement.DoWhile body d) ∷ k) ≡ settled Onward (Do body ∷ Next (while_loop d body) ∷ k)
 settled_do d body k = λ e. opened body (Next (while_loop d body) ∷ k) (λ going. turned d body k going e)
 
-module _ (d : Statement) (l : LoopLabels) (old new : Lowering) (asks : Asks d l old new) where
+module _ (P : Program) (d : Statement) (l : LoopLabels) (old new : Lowering) (asks : Asks P d l old new) where
   pub asks_grows : Grows old new
   asks_grows = by asks
     where
-      by : Asks d l old new → Grows old new
+      by : Asks P d l old new → Grows old new
       by (inl p) = subst (Grows old) (sym p.same) (grows_refl old)
-      by (inr p) = decides_grows d l.head l.leaving old new p.decides
+      by (inr p) = p.decides.grows
 
   pub asks_site : new.site ≡ old.site
   asks_site = by asks
     where
-      by : Asks d l old new → new.site ≡ old.site
+      by : Asks P d l old new → new.site ≡ old.site
       by (inl p) = ap (λ (z : Lowering). z.site) p.same
       by (inr p) = p.decides.site
 
-  pub asks_typed : (S : Typing) (w size : ℕ) → Fits S old.homes → IsCondition S.program S.function d → IsGood size old → IsTypedNow S w old → IsTypedNow S (w + (inlined_weight S.program d + 1)) new
-  asks_typed S w size fits is good now = by asks
+  pub asks_typed : (S : Typing) (w size : ℕ) → SuitsAskedTyping P S size d old → IsTypedNow S w old → IsTypedNow S (w + (inlined_weight S.program d + 1)) new
+  asks_typed S w size suits now = by asks
     where
-      by : Asks d l old new → IsTypedNow S (w + (inlined_weight S.program d + 1)) new
+      by : Asks P d l old new → IsTypedNow S (w + (inlined_weight S.program d + 1)) new
       by (inl p) = subst (IsTypedNow S (w + (inlined_weight S.program d + 1))) (sym p.same) (now_more S w (w + (inlined_weight S.program d + 1)) old (omega arith) now)
-      by (inr p) = p.decides.typed S w size fits is good now
+      by (inr p) = decided_typed P d None l.head l.leaving old new p.decides S w size tt suits now
 
-  pub asks_go : (W : Whole) (homes : List Home) (size n : ℕ) (loop : WorkLoop) (k : List Work) → old.homes ≡ homes → IsGood size old → IsIn W new →
+  pub asks_go : (W : Whole) (homes : List Home) (size n : ℕ) (loop : WorkLoop) (k : List Work) → SuitsAsked P W homes size d old → IsIn W new →
       ((j : ℕ) → j < n → AtLabel W homes j l.head (settled Onward (Do loop.body ∷ Next loop ∷ k))) → IfUsed W homes n new.stages.used l.leaving (settled Onward k) →
       OnwardUpTo W homes n old (opened d (Turn loop ∷ k) (λ going. settled going k))
-  asks_go W homes size n loop k homes_are good whole turns leaves = by asks
+  asks_go W homes size n loop k suits whole turns leaves = by asks
     where
-      by : Asks d l old new → OnwardUpTo W homes n old (opened d (Turn loop ∷ k) (λ going. settled going k))
+      by : Asks P d l old new → OnwardUpTo W homes n old (opened d (Turn loop ∷ k) (λ going. settled going k))
       by (inl p) = λ on. absurd (let off = p.off in cc)
       by (inr p) = λ on j le.
-          subst (GoesOn W homes nothing_kept j old) (opened_asked d p.decides.asked (Turn loop ∷ k) (λ going. settled going (Turn loop ∷ k)) (λ going. settled going k))
-          (p.decides.asks W homes size j (Turn loop ∷ k) homes_are good.variables whole good.sound (λ truth. refl) (λ i lt truth. at i truth (omega arith)))
+          subst (GoesOn W homes nothing_kept j old)
+          (opened_asked W.setting.program W.setting.function d suits.resolved (Turn loop ∷ k) (λ going. settled going (Turn loop ∷ k)) (λ going. settled going k))
+          (p.decides.asks W homes size j (Turn loop ∷ k) suits tt whole (λ truth. refl) (λ i lt truth. at i truth (omega arith)))
         where
           at : (i : ℕ) (truth : Bool) → i < n → AtLabel W homes i (side l.head l.leaving truth) (decided truth (Turn loop ∷ k))
           at i true lt = turns i lt
           at i false lt = leaves (p.decides.marks false) i (omega arith)
 
 module _ (P : Program) (around : Option Loop) (d : Statement) (l : LoopLabels) (body : Statement) (old a b new : Lowering) (opens : OpensLoop l old a) (inner : Leads P (Some (labels_of l)) body a b)
-    (closes : ClosesDo d l b new) where
+    (closes : ClosesDo P d l b new) where
   abbrev do_ : Statement
   do_ = Statement.DoWhile body d
 
@@ -545,7 +584,7 @@ module _ (P : Program) (around : Option Loop) (d : Statement) (l : LoopLabels) (
   do_old_turned = grows_both old b closes.turned do_old_b b_turned.grows
 
   turned_asked : Grows closes.turned closes.asked
-  turned_asked = asks_grows d l closes.turned closes.asked closes.asks
+  turned_asked = asks_grows P d l closes.turned closes.asked closes.asks
 
   do_old_asked : Grows old closes.asked
   do_old_asked = grows_both old closes.turned closes.asked do_old_turned turned_asked
@@ -557,14 +596,20 @@ module _ (P : Program) (around : Option Loop) (d : Statement) (l : LoopLabels) (
   do_sites P sites =
       part_sites P do_ body [] [] old.site a.site sites (sym (append-nil (formats_of body))) (let x = (loop_shifts l old a opens).site in omega (arith, x))
 
+  do_asked_sites : (Q : Program) → HasSites Q do_ old.site → HasSites Q Statement.Done closes.turned.site
+  do_asked_sites Q sites =
+      part_sites Q do_ Statement.Done (formats_of body) [] old.site closes.turned.site sites (sym (append-nil (formats_of body)))
+      (let c = formats_length body in let x = (loop_shifts l old a opens).site in let y = inner.site in let z = b_turned.site in omega (arith, c, x, y, z))
+
   do_typed : (S : Typing) (w size : ℕ) → SuitsTyping P S size do_ old → IsTypedNow S w old → IsTypedNow S (w + inlined_weight S.program do_) new
   do_typed S w size suits now =
       let at_a = (loop_shifts l old a opens).typed S w size suits.good now in
       let at_b = inner.typed S w size (typing_part P S size do_ body old a do_old_a suits resolved.in_loop (omega arith) suits.resolved.0 (do_sites S.program suits.sites)
       (Contains-append_left (calls_of body) (calls_of d))) at_a in
       let at_turned = b_turned.typed S (w + inlined_weight S.program body) size (do_old_b.good size suits.good) at_b in
-      let at_asked = asks_typed d l closes.turned closes.asked closes.asks S (w + inlined_weight S.program body) size (subst (Fits S) (sym do_old_turned.homes) suits.fits) suits.resolved.1
-      (do_old_turned.good size suits.good) at_turned in
+      let at_asked = asks_typed P d l closes.turned closes.asked closes.asks S (w + inlined_weight S.program body) size
+      (typing_asked P S size do_ d old closes.turned do_old_turned suits suits.resolved.1 (do_asked_sites S.program suits.sites) (Contains-append_right (calls_of body) (calls_of d)))
+      at_turned in
       now_more S (w + inlined_weight S.program body + (inlined_weight S.program d + 1)) (w + inlined_weight S.program do_) new (omega arith)
       (asked_new.typed S (w + inlined_weight S.program body + (inlined_weight S.program d + 1)) size (do_old_asked.good size suits.good) at_asked)
 
@@ -589,7 +634,9 @@ module _ (P : Program) (around : Option Loop) (d : Statement) (l : LoopLabels) (
         (λ i le earlier.
         let good_b = do_old_b.good size suits.good in
         let asks : OnwardUpTo W homes i closes.turned (asking do_work k) =
-        asks_go d l closes.turned closes.asked closes.asks W homes size i do_work k (do_old_turned.homes ∙ suits.homes_) (do_old_turned.good size suits.good) do_whole_asked
+        asks_go P d l closes.turned closes.asked closes.asks W homes size i do_work k
+        (suits_asked P W homes size do_ d old closes.turned do_old_turned suits suits.resolved.1 (do_asked_sites W.setting.program suits.sites) (Contains-append_right (calls_of body) (calls_of d)))
+        do_whole_asked
         (λ j lt. head_at l old a opens W homes size j top suits.good (earlier j lt)) (λ used. less_label W homes n i l.leaving (settled Onward k) le (do_leaves used)) in
         inner.leads W homes size i (Next do_work ∷ k) (suits_part P W homes size do_ body old a do_old_a suits resolved.in_loop suits.resolved.0
         (do_sites W.setting.program suits.sites) (Contains-append_left (calls_of body) (calls_of d))) do_whole_b (
@@ -607,34 +654,34 @@ module _ (P : Program) (around : Option Loop) (d : Statement) (l : LoopLabels) (
   pub do_leads : Leads P around do_ old new
   do_leads = record {
     grows = grows_both old closes.asked new do_old_asked asked_new.grows;
-    site = (let x = (loop_shifts l old a opens).site in let y = inner.site in let z = b_turned.site in let u = asks_site d l closes.turned closes.asked closes.asks in let v = asked_new.site in
+    site = (let x = (loop_shifts l old a opens).site in let y = inner.site in let z = b_turned.site in let u = asks_site P d l closes.turned closes.asked closes.asks in let v = asked_new.site in
         omega (arith, x, y, z, u, v));
     typed = do_typed;
     leads = λ W homes size n k suits whole out after. do_goes W homes size n k suits whole after;
   }
 
 pub do_lowers : (P : Program) (around : Option Loop) (s : Statement) (d : Statement) (body : Statement) (l : LoopLabels) (old a b new : Lowering) → s ≡ Statement.DoWhile body d → OpensLoop l old a →
-    Leads P (Some (labels_of l)) body a b → ClosesDo d l b new → Leads P around s old new
+    Leads P (Some (labels_of l)) body a b → ClosesDo P d l b new → Leads P around s old new
 do_lowers P around s d body l old a b new is opens inner closes = rw is (do_leads P around d l body old a b new opens inner closes)
 
 -- ---- for
 
-past : (loop : WorkLoop) (k : List Work) → is_asked loop.condition ≡ true → (going : Going) →
+past : (P : Program) (f : Function) (loop : WorkLoop) (k : List Work) → IsCondition P f loop.condition → (going : Going) →
     in_order going (asking loop k) (λ g. settled g k) ≡ settled going (Do loop.condition ∷ Turn loop ∷ k)
-past loop k ok Onward = sym (asking_is loop k ok)
-past loop k ok Leaving = refl
-past loop k ok Turning = refl
+past P f loop k ok Onward = sym (asking_is P f loop k ok)
+past P f loop k ok Leaving = refl
+past P f loop k ok Turning = refl
 
-settled_for : (first d last body : Statement) (k : List Work) → is_asked d ≡ true →
+settled_for : (P : Program) (f : Function) (first d last body : Statement) (k : List Work) → IsCondition P f d →
     settled Onward (Do (Statement.For first d last body) ∷ k) ≡ settled Onward (Do first ∷ Do d ∷ Turn (for_loop d last body) ∷ k)
-settled_for first d last body k ok = λ e. opened first (Do d ∷ Turn (for_loop d last body) ∷ k) (λ going. past (for_loop d last body) k ok going e)
+settled_for P f first d last body k ok = λ e. opened first (Do d ∷ Turn (for_loop d last body) ∷ k) (λ going. past P f (for_loop d last body) k ok going e)
 
-settled_next : (d last body : Statement) (k : List Work) → is_asked d ≡ true →
+settled_next : (P : Program) (f : Function) (d last body : Statement) (k : List Work) → IsCondition P f d →
     settled Onward (Next (for_loop d last body) ∷ k) ≡ settled Onward (Do last ∷ Do d ∷ Turn (for_loop d last body) ∷ k)
-settled_next d last body k ok = λ e. opened last (Do d ∷ Turn (for_loop d last body) ∷ k) (λ going. past (for_loop d last body) k ok going e)
+settled_next P f d last body k ok = λ e. opened last (Do d ∷ Turn (for_loop d last body) ∷ k) (λ going. past P f (for_loop d last body) k ok going e)
 
 module _ (P : Program) (around : Option Loop) (first_ : Statement) (d last body : Statement) (l : LoopLabels) (old a0 a b c e new : Lowering) (last_site after_site : ℕ)
-    (first : Leads P None first_ old a0) (last_is : last_site ≡ a0.site) (opens : OpensTurn d l (at_site (a0.site + print_count last) a0) a) (inner : Leads P (Some (labels_of l)) body a b)
+    (first : Leads P None first_ old a0) (last_is : last_site ≡ a0.site) (opens : OpensTurn P d l (at_site (a0.site + print_count last) a0) a) (inner : Leads P (Some (labels_of l)) body a b)
     (after_is : after_site ≡ b.site) (turns : Binds l.turning (at_site last_site b) c) (last_ : Leads P None last c e) (closes : ClosesTurn l (at_site after_site e) new) where
   abbrev for_ : Statement
   for_ = Statement.For first_ d last body
@@ -659,7 +706,7 @@ module _ (P : Program) (around : Option Loop) (first_ : Statement) (d last body 
   old_skipped = grows_both old a0 skipped first.grows (site_grows (a0.site + print_count last) a0)
 
   for_old_a : Grows old a
-  for_old_a = grows_both old skipped a old_skipped (turn_grows for_work l skipped a opens)
+  for_old_a = grows_both old skipped a old_skipped (turn_grows P for_work l skipped a opens)
 
   for_old_b : Grows old b
   for_old_b = grows_both old a b for_old_a inner.grows
@@ -689,7 +736,7 @@ module _ (P : Program) (around : Option Loop) (first_ : Statement) (d last body 
   closing_new = close_shifts l (at_site after_site e) new closes
 
   body_site : a.site ≡ old.site + (print_count first_ + print_count last)
-  body_site = let x = turn_site for_work l skipped a opens in let y = first.site in omega (arith, x, y)
+  body_site = let x = turn_site P for_work l skipped a opens in let y = first.site in omega (arith, x, y)
 
   for_first_sites : (P : Program) → HasSites P for_ old.site → HasSites P first_ old.site
   for_first_sites P sites = part_sites P for_ first_ [] (formats_of last ++ formats_of body) old.site old.site sites refl (omega arith)
@@ -705,6 +752,16 @@ module _ (P : Program) (around : Option Loop) (first_ : Statement) (d last body 
       (sym (append_assoc (formats_of first_) (formats_of last) (formats_of body ++ []) ∙ ap (λ z. formats_of first_ ++ (formats_of last ++ z)) (append-nil (formats_of body))))
       (let x = formats_length first_ in let y = formats_length last in let z = body_site in let u = length-append (formats_of first_) (formats_of last) in omega (arith, x, y, z, u))
 
+  d_called : (g : ℕ) → Contains (calls_of d) g → Contains (calls_of for_) g
+  d_called g c =
+      Contains-append_right (calls_of first_) (calls_of d ++ (calls_of last ++ calls_of body)) g (Contains-append_left (calls_of d) (calls_of last ++ calls_of body) g c)
+
+  for_asked_sites : (Q : Program) → HasSites Q for_ old.site → HasSites Q Statement.Done skipped.site
+  for_asked_sites Q sites =
+      part_sites Q for_ Statement.Done (formats_of first_ ++ formats_of last) (formats_of body) old.site skipped.site sites
+      (sym (append_assoc (formats_of first_) (formats_of last) (formats_of body)))
+      (let x = formats_length first_ in let y = formats_length last in let z = first.site in let u = length-append (formats_of first_) (formats_of last) in omega (arith, x, y, z, u))
+
   for_typed : (S : Typing) (w size : ℕ) → SuitsTyping P S size for_ old → IsTypedNow S w old → IsTypedNow S (w + inlined_weight S.program for_) new
   for_typed S w size suits now =
       let w1 = w + inlined_weight S.program first_ in
@@ -713,7 +770,8 @@ module _ (P : Program) (around : Option Loop) (first_ : Statement) (d last body 
       let w4 = w3 + inlined_weight S.program last in
       let at_a0 = first.typed S w size (typing_part P S size for_ first_ old old (grows_refl old) suits nowhere (omega arith) suits.resolved.0 (for_first_sites S.program suits.sites)
       (Contains-append_left (calls_of first_) (calls_of d ++ (calls_of last ++ calls_of body)))) now in
-      let at_a = turn_typed for_work l skipped a opens S w1 size (subst (Fits S) (sym old_skipped.homes) suits.fits) suits.resolved.1 (old_skipped.good size suits.good)
+      let at_a = turn_typed P for_work l skipped a opens S w1 size
+      (typing_asked P S size for_ d old skipped old_skipped suits suits.resolved.1 (for_asked_sites S.program suits.sites) d_called)
       (site_typed (a0.site + print_count last) a0 S w1 at_a0) in
       let at_b = inner.typed S w2 size (typing_part P S size for_ body old a for_old_a suits resolved.in_loop (omega arith) suits.resolved.3 (for_body_sites S.program suits.sites)
       body_called) at_a in
@@ -741,10 +799,10 @@ module _ (P : Program) (around : Option Loop) (first_ : Statement) (d last body 
     -- the last part, and then the condition
     last_goes : (i : ℕ) → AtLabelUpTo W homes i l.head (asking for_work k) → OnwardUpTo W homes i c (settled Onward (Next for_work ∷ k))
     last_goes i at =
-        subst (λ w. OnwardUpTo W homes i c w) (sym (settled_next d last body k opens.decides.asked))
+        subst (λ w. OnwardUpTo W homes i c w) (sym (settled_next W.setting.program W.setting.function d last body k suits.resolved.1))
         (last_.leads W homes size i (Do d ∷ Turn for_work ∷ k) (suits_part P W homes size for_ last old c for_old_c suits nowhere suits.resolved.2
         (for_last_sites W.setting.program suits.sites) last_called) for_whole_e tt
-        (subst (OnwardUpTo W homes i e) (sym (asking_is for_work k opens.decides.asked))
+        (subst (OnwardUpTo W homes i e) (sym (asking_is W.setting.program W.setting.function for_work k suits.resolved.1))
         (site_goes W homes i (asking for_work k) after_site e
         (close_turns l (at_site after_site e) new closes W homes size i (asking for_work k) (for_old_closing.good size suits.good) whole i at))))
 
@@ -762,14 +820,15 @@ module _ (P : Program) (around : Option Loop) (first_ : Statement) (d last body 
     for_goes : OnwardUpTo W homes n old (settled Onward (Do for_ ∷ k))
     for_goes =
         let whole_a = inner.grows.whole W for_whole_b in
-        subst (λ w. OnwardUpTo W homes n old w) (sym (settled_for first_ d last body k opens.decides.asked))
+        subst (λ w. OnwardUpTo W homes n old w) (sym (settled_for W.setting.program W.setting.function first_ d last body k suits.resolved.1))
         (first.leads W homes size n (Do d ∷ Turn for_work ∷ k) (suits_part P W homes size for_ first_ old old (grows_refl old) suits nowhere suits.resolved.0
         (for_first_sites W.setting.program suits.sites) (Contains-append_left (calls_of first_) (calls_of d ++ (calls_of last ++ calls_of body))))
-        ((site_grows (a0.site + print_count last) a0).whole W ((turn_grows for_work l skipped a opens).whole W whole_a)) tt
-        (subst (OnwardUpTo W homes n a0) (sym (asking_is for_work k opens.decides.asked))
+        ((site_grows (a0.site + print_count last) a0).whole W ((turn_grows P for_work l skipped a opens).whole W whole_a)) tt
+        (subst (OnwardUpTo W homes n a0) (sym (asking_is W.setting.program W.setting.function for_work k suits.resolved.1))
         (site_goes W homes n (asking for_work k) (a0.site + print_count last) a0
-        (turns_go for_work l skipped a opens W homes size n k (old_skipped.homes ∙ suits.homes_) (old_skipped.good size suits.good) whole_a
-        (for_leaves (inner.grows.used l.leaving (turn_leaves for_work l skipped a opens))) body_goes))))
+        (turns_go P for_work l skipped a opens W homes size n k
+        (suits_asked P W homes size for_ d old skipped old_skipped suits suits.resolved.1 (for_asked_sites W.setting.program suits.sites) d_called) whole_a
+        (for_leaves (inner.grows.used l.leaving (turn_leaves P for_work l skipped a opens))) body_goes))))
 
   pub for_leads : Leads P around for_ old new
   for_leads = record {
@@ -780,7 +839,7 @@ module _ (P : Program) (around : Option Loop) (first_ : Statement) (d last body 
   }
 
 pub for_lowers : (P : Program) (around : Option Loop) (s first_ : Statement) (d last body : Statement) (l : LoopLabels) (old a0 a b c e new : Lowering) (last_site after_site : ℕ) →
-    s ≡ Statement.For first_ d last body → Leads P None first_ old a0 → last_site ≡ a0.site → OpensTurn d l (at_site (a0.site + print_count last) a0) a → Leads P (Some (labels_of l)) body a b →
+    s ≡ Statement.For first_ d last body → Leads P None first_ old a0 → last_site ≡ a0.site → OpensTurn P d l (at_site (a0.site + print_count last) a0) a → Leads P (Some (labels_of l)) body a b →
     after_site ≡ b.site → Binds l.turning (at_site last_site b) c → Leads P None last c e → ClosesTurn l (at_site after_site e) new → Leads P around s old new
 for_lowers P around s first_ d last body l old a0 a b c e new last_site after_site is first last_is opens inner after_is turns last_ closes =
     rw is (for_leads P around first_ d last body l old a0 a b c e new last_site after_site first last_is opens inner after_is turns last_ closes)

@@ -1,8 +1,9 @@
 -- The parts of an if and of loops.
-use Rattle.std.specs.Prelude.{◌≡◌, ℕ, ◌<◌, ◌≤◌, true, length, ◌⊎◌}
-use Rattle.c_program.specs.Tree.{Statement}
+use Rattle.std.specs.Prelude.{◌≡◌, ℕ, ◌<◌, ◌≤◌, true, Option, Some, None, length, ◌⊎◌}
+use Rattle.c_program.specs.Tree.{Statement, Program}
 use Rattle.code_control.specs.declared.branching.ChoiceLabels.{ChoiceLabels}
 use Rattle.code_control.specs.declared.branching.LoopLabels.{LoopLabels}
+use Rattle.code_places.specs.declared.targets.Back.{Back}
 use Rattle.code_places.specs.declared.lowering.Lowering.{Lowering}
 use Rattle.code_places.specs.Labels.{IsOpen}
 use Rattle.code_places.specs.Control.{Begins, Binds, Leaps, StaysOff}
@@ -37,14 +38,19 @@ pub record AreLoop (l : LoopLabels) (old new : Lowering) : Type 0 where
   pub second : l.body < l.turning
   pub third : l.turning < l.leaving
 
+-- a return leads to a label that is older than that one
+abbrev pub IsBackBefore : ℕ → Option Back → Type 0
+IsBackBefore label None = Unit {0}
+IsBackBefore label (Some b) = b.label < label
+
 -- the parts of an if and of loops
 
-pub record OpensChoice (d : Statement) (l : ChoiceLabels) (old new : Lowering) : Type 0 where
+pub record OpensChoice (P : Program) (d : Statement) (l : ChoiceLabels) (old new : Lowering) : Type 0 where
   pub labelled : Lowering
   pub relabels : Relabels old labelled
   pub labels : AreChoice l old labelled
   pub decided : Lowering
-  pub decides : Decides d l.if_true l.if_false labelled decided
+  pub decides : Decides P d None l.if_true l.if_false labelled decided
   pub binds : Binds l.if_true decided new
 
 pub record TurnsChoice (l : ChoiceLabels) (old new : Lowering) : Type 0 where
@@ -58,11 +64,11 @@ pub record OpensLoop (l : LoopLabels) (old new : Lowering) : Type 0 where
   pub labels : AreLoop l old labelled
   pub begins : Begins l.head labelled new
 
-pub record OpensTurn (d : Statement) (l : LoopLabels) (old new : Lowering) : Type 0 where
+pub record OpensTurn (P : Program) (d : Statement) (l : LoopLabels) (old new : Lowering) : Type 0 where
   pub begun : Lowering
   pub opens : OpensLoop l old begun
   pub decided : Lowering
-  pub decides : Decides d l.body l.leaving begun decided
+  pub decides : Decides P d None l.body l.leaving begun decided
   pub binds : Binds l.body decided new
 
 pub record ClosesTurn (l : LoopLabels) (old new : Lowering) : Type 0 where
@@ -70,16 +76,16 @@ pub record ClosesTurn (l : LoopLabels) (old new : Lowering) : Type 0 where
   pub leaps : Leaps l.head old mid
   pub binds : Binds l.leaving mid new
 
-pub record AsksThere (d : Statement) (l : LoopLabels) (old new : Lowering) : Type 0 where
+pub record AsksThere (P : Program) (d : Statement) (l : LoopLabels) (old new : Lowering) : Type 0 where
   pub on : old.reached ≡ true
-  pub decides : Decides d l.head l.leaving old new
+  pub decides : Decides P d None l.head l.leaving old new
 
-abbrev pub Asks : Statement → LoopLabels → Lowering → Lowering → Type 0
-Asks d l old new = StaysOff old new ⊎ AsksThere d l old new
+abbrev pub Asks : Program → Statement → LoopLabels → Lowering → Lowering → Type 0
+Asks P d l old new = StaysOff old new ⊎ AsksThere P d l old new
 
-pub record ClosesDo (d : Statement) (l : LoopLabels) (old new : Lowering) : Type 0 where
+pub record ClosesDo (P : Program) (d : Statement) (l : LoopLabels) (old new : Lowering) : Type 0 where
   pub turned : Lowering
   pub turns : Binds l.turning old turned
   pub asked : Lowering
-  pub asks : Asks d l turned asked
+  pub asks : Asks P d l turned asked
   pub binds : Binds l.leaving asked new

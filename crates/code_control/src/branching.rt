@@ -1,20 +1,12 @@
-// The parts of an if and of loops: their labels, conditions and jumps.
+// The parts of an if and of loops: their labels and jumps.
 
-ghost use Rattle.std.specs.Prelude.{◌≡◌, ◌<◌, ◌+◌, true, length, IfOk, OnOk, MatchResult};
-ghost use Rattle.c_program.specs.Plain.{statement_of};
-ghost use Rattle.c_program.specs.Limits.{print_count};
+ghost use Rattle.std.specs.Prelude.{◌<◌, IfOk, OnOk};
 ghost use Rattle.code_places.specs.Control as control;
 ghost use Rattle.code_control.specs.Branching as branching;
-ghost use Rattle.code_control.specs.Deciding.{is_asked};
 ghost use Rattle.code_places.specs.Doing as doing;
 ghost use Rattle.code_places.specs.Labels as spec;
-ghost use Rattle.code_places.specs.Needing.{IsFullAt};
 
-use crate::conditions::lower_condition;
-use c_program::tree::Statement;
-use code_blocks::fault::LoweringFault;
 use code_places::lowering::Lowering;
-use code_storage::prints::print_count;
 use std::alloc::{AllocError, Global};
 
 /// The labels of an if: its two statements, and what comes after it.
@@ -48,19 +40,13 @@ fn two_labels(code: &mut Lowering) -> Result<(usize, usize), AllocError>
     Ok((first, second))
 }
 
-/// An if up to its first statement.
-pub fn open_choice(
-    alloc: Global,
-    code: &mut Lowering,
-    condition: &Statement,
-) -> Result<ChoiceLabels, LoweringFault>
-    requires asked { is_asked (statement_of condition.now) ≡ true }
-    ensures { MatchResult result (λ labels. branching.OpensChoice (statement_of condition.now) labels code.old code.new) (IsFullAt (statement_of condition.now) 0 code.old) }
+/// The labels of an if, which lead nowhere yet.
+pub fn choice_labels(code: &mut Lowering) -> Result<ChoiceLabels, AllocError>
+    ensures relabels { OnOk result (doing.Relabels code.old code.new) }
+    ensures labels { IfOk result (λ labels. branching.AreChoice labels code.old code.new) }
 {
     let (if_true, if_false) = two_labels(code)?;
     let join = code.new_label()?;
-    lower_condition(alloc, code, condition, if_true, if_false)?;
-    code.bind(alloc, if_true)?;
     Ok(ChoiceLabels {
         if_true,
         if_false,
@@ -98,21 +84,6 @@ pub fn open_loop(alloc: Global, code: &mut Lowering) -> Result<LoopLabels, Alloc
     })
 }
 
-/// The head of a while or a for, up to its body.
-pub fn open_turn(
-    alloc: Global,
-    code: &mut Lowering,
-    condition: &Statement,
-) -> Result<LoopLabels, LoweringFault>
-    requires asked { is_asked (statement_of condition.now) ≡ true }
-    ensures { MatchResult result (λ labels. branching.OpensTurn (statement_of condition.now) labels code.old code.new) (IsFullAt (statement_of condition.now) 0 code.old) }
-{
-    let labels = open_loop(alloc, code)?;
-    lower_condition(alloc, code, condition, labels.body, labels.leaving)?;
-    code.bind(alloc, labels.body)?;
-    Ok(labels)
-}
-
 /// The end of a while or a for.
 pub fn close_turn(alloc: Global, code: &mut Lowering, labels: LoopLabels) -> Result<(), AllocError>
     requires head { spec.IsTarget labels.head code.old.stages }
@@ -121,57 +92,6 @@ pub fn close_turn(alloc: Global, code: &mut Lowering, labels: LoopLabels) -> Res
 {
     code.leap(alloc, labels.head)?;
     code.bind(alloc, labels.leaving)
-}
-
-/// The condition at the end of a do, if it is reached.
-fn ask_reached(
-    alloc: Global,
-    code: &mut Lowering,
-    condition: &Statement,
-    labels: LoopLabels,
-) -> Result<(), LoweringFault>
-    requires asked { is_asked (statement_of condition.now) ≡ true }
-    ensures { MatchResult result (λ _. branching.Asks (statement_of condition.now) labels code.old code.new) (IsFullAt (statement_of condition.now) 0 code.old) }
-{
-    if !code.is_reached() {
-        return Ok(());
-    }
-    lower_condition(alloc, code, condition, labels.head, labels.leaving)
-}
-
-/// The end of a do.
-pub fn close_do(
-    alloc: Global,
-    code: &mut Lowering,
-    condition: &Statement,
-    labels: LoopLabels,
-) -> Result<(), LoweringFault>
-    requires asked { is_asked (statement_of condition.now) ≡ true }
-    requires turning { spec.IsOpen labels.turning code.old.stages }
-    requires leaving { spec.IsOpen labels.leaving code.old.stages }
-    requires apart { labels.turning < labels.leaving }
-    ensures { MatchResult result (λ _. branching.ClosesDo (statement_of condition.now) labels code.old code.new) (IsFullAt (statement_of condition.now) 0 code.old) }
-{
-    code.bind(alloc, labels.turning)?;
-    ask_reached(alloc, code, condition, labels)?;
-    code.bind(alloc, labels.leaving)?;
-    Ok(())
-}
-
-/// The head of a for, whose last part stands before its body in the text.
-pub fn open_for(
-    alloc: Global,
-    code: &mut Lowering,
-    condition: &Statement,
-    last: &Statement,
-) -> Result<LoopLabels, LoweringFault>
-    requires asked { is_asked (statement_of condition.now) ≡ true }
-    ensures { MatchResult result
-        (λ labels. branching.OpensTurn (statement_of condition.now) labels (doing.at_site (code.old.site + print_count (statement_of last.now)) code.old) code.new)
-        (IsFullAt (statement_of condition.now) (code.old.site + print_count (statement_of last.now)) code.old) }
-{
-    code.skip_sites(print_count(last)?)?;
-    open_turn(alloc, code, condition)
 }
 
 /// The place of the last part of a for, whose first printf has that number.
