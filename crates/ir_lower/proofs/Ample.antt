@@ -14,6 +14,7 @@ use Rattle.c_program.specs.Limits.{local_elements, IsWithinLimits}
 use Rattle.c_program.specs.Calls.{calls_of, IsAcyclic}
 use Rattle.c_program.specs.Weight.{function_weight, thread_functions}
 use Rattle.c_program.specs.Resolved.{IsFunction, IsResolved, nowhere}
+use Rattle.code_following.specs.Idle.{idle_count}
 use Rattle.code_blocks.specs.declared.fault.LoweringFault.{LoweringFault}
 use Rattle.code_blocks.specs.declared.fault.LoweringFault.TheVariants.{TooLarge}
 use Rattle.code_blocks.specs.declared.homes.Home.{Home}
@@ -130,9 +131,10 @@ module _ (p : ProgramTree) (r : ℕ) (f : FunctionTree) (at : slice_get p.functi
     calls = λ g c. c;
   }
 
-  first_typed : IsTypedNow typing 0 first
+  first_typed : IsTypedNow typing 1 first
   first_typed = record {
     block = fresh_typed typing.types (size + 4) first.block is_new.block;
+    idle = (let e = ap idle_count is_new.items in omega (arith, e));
     size = (let e = ap length is_new.block.operations in omega (arith, e));
     steps = (let e = is_new.block.steps in omega (arith, e));
     stages = λ l t e. absurd (let none : slice_get [] l ≡ Some t = ap (λ xs. slice_get xs l) (sym is_new.items) ∙ e in cc);
@@ -143,9 +145,9 @@ module _ (p : ProgramTree) (r : ℕ) (f : FunctionTree) (at : slice_get p.functi
       let few = housed.few in
       let count = formats_count P.functions in
       let weighs = body_weighs P r (function_of f) resolved.acyclic found in
-      full_more fault (needed typing size (0 + inlined_weight P body)) (function_needs P r) (omega (arith, few, count, weighs))
-      (full typing 0 size suits_typing low
-      (first_begun.typed typing 0 size good_first first_typed))
+      full_more fault (needed typing size (1 + inlined_weight P body)) (function_needs P r) (omega (arith, few, count, weighs))
+      (full typing 1 size suits_typing low
+      (first_begun.typed typing 1 size good_first first_typed))
     where
       low : (acyclic : IsAcyclic P.functions) (g : ℕ) → Contains (calls_of body) g → acyclic.rank g < depth
       low acyclic g called =

@@ -1,9 +1,17 @@
 pub mod Ample
-mod StatementSize
+pub mod StatementSize
 pub mod OpenProgram
 pub mod Roots
 pub mod Sizes
 pub mod StatementSteps
 pub mod Untaken
-mod TakenParts
+pub mod KeptOperands
+pub mod TakenParts
+pub mod ConditionTargets
+pub mod ThroughCalls
+pub mod SwitchLabels
 pub mod Whole
+pub mod ComparisonChains
+pub mod OpenSwitches
+pub mod SwitchBodies
+pub mod SwitchSteps

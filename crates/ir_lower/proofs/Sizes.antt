@@ -1,4 +1,5 @@
--- How many statements there are in a statement, one with no others being one.
+-- How many statements and conditions there are in a statement, one with no others being one; 1 more for what lowers a condition, or
+-- the body of a switch.
 use Rattle.std.proofs.Common.{◌≡◌, ℕ, zero, suc, ◌+◌, ◌-◌, ◌*◌, ◌<◌, ◌≤◌, List, [], ◌∷◌, Some, refl, ap, subst, arith}
 use Rattle.std.specs.Prelude.{slice_get}
 use Rattle.c_program.specs.Tree.{Statement, Function}
@@ -6,10 +7,15 @@ use Rattle.c_program.specs.Tree.{Statement, Function}
 abbrev pub nested_size : Statement → ℕ
 nested_size (Statement.Sequence first rest) = suc (nested_size first + nested_size rest)
 nested_size (Statement.Block body) = suc (nested_size body)
-nested_size (Statement.If condition consequent alternative) = suc (nested_size consequent + nested_size alternative)
-nested_size (Statement.While condition body) = suc (nested_size body)
-nested_size (Statement.DoWhile body condition) = suc (nested_size body)
-nested_size (Statement.For first condition last body) = suc (nested_size first + (nested_size last + nested_size body))
+nested_size (Statement.Truth slot condition) = suc (suc (nested_size condition))
+nested_size (Statement.Both first second) = suc (nested_size first + nested_size second)
+nested_size (Statement.Either first second) = suc (nested_size first + nested_size second)
+nested_size (Statement.Opposite inner) = suc (nested_size inner)
+nested_size (Statement.If condition consequent alternative) = suc (suc (nested_size condition + (nested_size consequent + nested_size alternative)))
+nested_size (Statement.While condition body) = suc (suc (nested_size condition + nested_size body))
+nested_size (Statement.DoWhile body condition) = suc (suc (suc (nested_size body + nested_size condition)))
+nested_size (Statement.For first condition last body) = suc (suc (nested_size first + (nested_size condition + (nested_size last + nested_size body))))
+nested_size (Statement.Switch offset ty operand body) = suc (suc (suc (nested_size body)))
 nested_size statement = 1
 
 -- in all functions

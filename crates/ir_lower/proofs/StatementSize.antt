@@ -31,11 +31,11 @@ module _ (P : Program) (depth : ℕ) (s t : Statement) (c : Lowering) (fault : L
       full_more fault n (needed S size (w + inlined_weight S.program s)) (omega (arith, le, operations, steps, variables, weight)) full)
 
 -- those of a printf, whose number is one more than that of the printfs before it
-pub print_for : (P : Program) (depth offset : ℕ) (in_loop : _) (format : List Piece) (es : List Expression) (count : ℕ) (t : Statement) (c : Lowering) (fault : LoweringFault) →
-    count ≡ length es → t ≡ Statement.Print offset format es → is_taken in_loop t ≡ true →
+pub print_for : (P : Program) (depth offset : ℕ) (leaves turns : _) (format : List Piece) (es : List Expression) (count : ℕ) (t : Statement) (c : Lowering) (fault : LoweringFault) →
+    count ≡ length es → t ≡ Statement.Print offset format es → is_taken leaves turns t ≡ true →
     IsFull (length c.block.operations + c.block.steps + length c.variables + c.site + (3 * expressions_weight es + 2 * count + 1)) fault → IsFullFor P depth t c fault
-print_for P depth offset in_loop format es count t c fault counted is taken full =
-    let few = values_few (length es) (and_parts (nat_eq (conversion_count format) (length es)) (nat_le (length es) 4) (sym (ap (is_taken in_loop) is) ∙ taken)).1 in
+print_for P depth offset leaves turns format es count t c fault counted is taken full =
+    let few = values_few (length es) (and_parts (nat_eq (conversion_count format) (length es)) (nat_le (length es) 4) (sym (ap (is_taken leaves turns) is) ∙ taken)).1 in
     subst (λ z. IsFullFor P depth z c fault) (sym is) (λ S w size suits deep now.
     let operations = now.size in
     let steps = now.steps in

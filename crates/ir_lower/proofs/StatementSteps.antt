@@ -1,6 +1,6 @@
 -- The code of statements without others in them.
-use Rattle.std.proofs.Common.{◌≡◌, ℕ, suc, ◌+◌, ◌*◌, List, [], ◌∷◌, Option, Some, refl, sym, ap, ◌∙◌, subst, arith, append-nil}
-use Rattle.std.specs.Prelude.{OnOk, IfErr, MatchResult}
+use Rattle.std.proofs.Common.{◌≡◌, ℕ, suc, ◌+◌, ◌*◌, List, [], ◌∷◌, ℤ, Option, Some, refl, sym, ap, ◌∙◌, subst, arith, append-nil}
+use Rattle.std.specs.Prelude.{OnOk, IfErr, IfSome, MatchResult}
 use Rattle.std.proofs.Common.{Result, Ok, Err}
 use Rattle.hls_ints.specs.Types.{IntegerType}
 use Rattle.c_program.specs.declared.tree.BinaryOperator.{BinaryOperator}
@@ -19,7 +19,7 @@ use Rattle.code_blocks.specs.Typing.{WorksOnAssignment, WorksOnUpdate}
 use Rattle.code_following.specs.Following.{AfterMove}
 use Rattle.code_places.specs.Resuming.{nothing_kept, IsMid, IsSound}
 use Rattle.code_places.specs.Control.{Jumps, Whole}
-use Rattle.code_places.specs.Doing.{OnwardUpTo, Leads, LowersHere}
+use Rattle.code_places.specs.Doing.{OnwardUpTo, IfUsed, Leads, LowersHere}
 use Rattle.code_places.proofs.TypedGrowth.{now_more, works_typed, idle_works}
 use Rattle.code_places.proofs.Shapes.{lengths_without, element_without, assignment_there, update_there}
 use Rattle.code_places.proofs.ResumedPlaces.{Goes}
@@ -128,6 +128,9 @@ done_at P around s c is = λ on. rw is (nothing_leads P Statement.Done c around 
 pub empty_at : (P : Program) (around : Option Loop) (s : Statement) (c : Lowering) → s ≡ Statement.Empty → LowersHere P around s c c
 empty_at P around s c is = λ on. rw is (nothing_leads P Statement.Empty c around refl (λ k. refl))
 
+pub label_at : (P : Program) (around : Option Loop) (s : Statement) (value : Option ℤ) (operators : ℕ) (c : Lowering) → s ≡ Statement.Label value operators → LowersHere P around s c c
+label_at P around s value operators c is = λ on. rw is (nothing_leads P (Statement.Label value operators) c around refl (λ k. refl))
+
 pub lowers_is : (P : Program) (around : Option Loop) (s t : Statement) (old new : Lowering) → t ≡ s → LowersHere P around s old new → LowersHere P around t old new
 lowers_is P around s t old new e h = subst (λ z. LowersHere P around z old new) (sym e) h
 
@@ -142,11 +145,13 @@ break_at P around l old new is jumps = λ on. rw is record {
   leads = λ W homes size n k suits whole out after. jumps_goes W homes n (settled Leaving k) l.leaving size old new suits.good jumps whole out.0;
 }
 
-pub continue_at : (P : Program) (around : Option Loop) (l : Loop) (old new : Lowering) → around ≡ Some l → Jumps l.turning old new → LowersHere P around Statement.Continue old new
-continue_at P around l old new is jumps = λ on. rw is record {
-  grows = (jumps_shifts l.turning old new jumps).grows;
-  site = (let e = (jumps_shifts l.turning old new jumps).site in omega (arith, e));
+pub continue_at : (P : Program) (around : Option Loop) (l : Loop) (turning : ℕ) (old new : Lowering) → around ≡ Some l → l.turning ≡ Some turning → Jumps turning old new →
+    LowersHere P around Statement.Continue old new
+continue_at P around l turning old new is turns jumps = λ on. rw is record {
+  grows = (jumps_shifts turning old new jumps).grows;
+  site = (let e = (jumps_shifts turning old new jumps).site in omega (arith, e));
   typed = λ S w size suits now.
-      now_more S w (w + 1) new (omega arith) ((jumps_shifts l.turning old new jumps).typed S w size suits.good now);
-  leads = λ W homes size n k suits whole out after. jumps_goes W homes n (settled Turning k) l.turning size old new suits.good jumps whole out.1;
+      now_more S w (w + 1) new (omega arith) ((jumps_shifts turning old new jumps).typed S w size suits.good now);
+  leads = λ W homes size n k suits whole out after.
+      jumps_goes W homes n (settled Turning k) turning size old new suits.good jumps whole (subst (λ o. IfSome o (λ t. IfUsed W homes n new.stages.used t (settled Turning k))) turns out.1);
 }

@@ -1,5 +1,5 @@
 -- The code of a thread function does its steps, and is typed.
-use Rattle.std.proofs.Common.{◌≡◌, false, ℕ, zero, suc, ◌+◌, ◌*◌, ◌<◌, ◌≤◌, List, [], ◌∷◌, ◌++◌, length, map, replicate, Option, Some, None, refl, sym, ap, ◌∙◌, subst}
+use Rattle.std.proofs.Common.{◌≡◌, ℕ, zero, suc, ◌+◌, ◌<◌, ◌≤◌, List, [], ◌∷◌, ◌++◌, length, map, replicate, Option, Some, None, refl, sym, ap, ◌∙◌, subst}
 use Rattle.std.proofs.Common.{◌≢◌, ℤ, if◌then◌else◌, arith, append-nil, length-append, eq-eqb, ⊎_elim, inl}
 use Rattle.std.specs.List.{AllByRecursion}
 use Rattle.std.proofs.lemmas.Bool.Decides.{eqb_tells}
@@ -26,7 +26,7 @@ use Rattle.code_blocks.specs.declared.homes.Home.TheVariants as home
 use Rattle.code_places.specs.Resuming.{HasShape, HoldLocals, nothing_kept}
 use Rattle.code_storage.specs.Formats.{HasSites}
 use Rattle.code_places.specs.Labels.{led_stage, led}
-use Rattle.code_places.specs.Apart.{IsTypedNow, IsGood}
+use Rattle.code_places.specs.Apart.{idle_now, room, IsTypedNow, IsGood}
 use Rattle.code_places.specs.Control.{Whole, IsIn, AtLabel}
 use Rattle.code_places.specs.Seats.{LeadsBack, IsSeated, HasWord}
 use Rattle.code_places.specs.Doing.{Grows, Shifts, OnwardUpTo, Suits, SuitsTyping, Leads}
@@ -37,7 +37,8 @@ use Rattle.code_storage.specs.Objects.{AreObjects}
 use Rattle.code_storage.specs.Values.{most_values, all_values}
 use Rattle.code_storage.proofs.Reached.{is_function}
 use Rattle.code_places.specs.Weighing.{inlined_weight}
-use Rattle.code_following.specs.Typed.{types_of, IsTypedStage, BeginsWith, IsNameIfAny, IsTypedCode, IsThreadCode}
+use Rattle.code_following.specs.Idle.{idle_count}
+use Rattle.code_following.specs.Typed.{types_of, most_operations, IsTypedStage, BeginsWith, IsNameIfAny, IsTypedCode, IsThreadCode}
 use Rattle.code_following.proofs.Arguments.{none_given, none_named}
 use Rattle.code_blocks.specs.Typing.{Typing, IsTypedHome, Fits, HasWords}
 use Rattle.code_places.proofs.TypedGrowth.{stage_more, fresh_typed, words_less}
@@ -50,6 +51,8 @@ use Rattle.code_calls.proofs.Callees.{AreScalars, shape_passed, locals_passed}
 use Rattle.code_places.proofs.InlinedWeight.{body_weighs}
 use Rattle.code_places.proofs.Shapes.{shape_fresh, nothing_written}
 use Rattle.code_blocks.proofs.Arguments.{passed_none}
+use Rattle.code_places.proofs.LedComparisons.{led_count}
+use Rattle.ir_lower.proofs.OpenProgram.{ended_ahead}
 use Rattle.ir_lower.proofs.Roots.{thread_function, function_weighs}
 
 pub get_none : {A B : Type 0} (g : A → B) (xs : List A) (n : ℕ) → slice_get xs n ≡ None → slice_get (map g xs) n ≡ None
@@ -307,7 +310,8 @@ module _ (p : ProgramTree) (r : ℕ) (code : ThreadCode) (made : IsCodeOf p r co
     words_of : (g : ℕ) (d : Function) → slice_get P.functions g ≡ Some d → HasWords (types_of P code) size (most_values d.body)
     words_of g d at = words_less (types_of P code) size (most_values d.body) (all_values P.functions) (values_among P.functions g d at) words
 
-    light : inlined_weight P body ≤ weight P
+    -- and 1 more for the closing brace, which adds no operation
+    light : 1 + inlined_weight P body ≤ weight P
     light =
         let own = body_weighs P r (function_of f) resolved.acyclic found in
         let all = function_weighs P r among in
@@ -339,29 +343,34 @@ module _ (p : ProgramTree) (r : ℕ) (code : ThreadCode) (made : IsCodeOf p r co
       calls = λ g c. c;
     }
 
-    first_typed : IsTypedNow typing 0 made.first
+    first_typed : IsTypedNow typing 1 made.first
     first_typed = record {
       block = fresh_typed typing.types (size + 4) made.first.block made.is_new.block;
+      idle = (let e = ap idle_count made.is_new.items in omega (arith, e));
       size = (let e = ap length made.is_new.block.operations in omega (arith, e));
       steps = (let e = made.is_new.block.steps in omega (arith, e));
       stages = λ l t e. absurd (let none : slice_get [] l ≡ Some t = ap (λ xs. slice_get xs l) (sym made.is_new.items) ∙ e in cc);
     }
 
-    ended_typed : IsTypedNow typing (0 + inlined_weight P body) made.ended
+    ended_typed : IsTypedNow typing (1 + inlined_weight P body) made.ended
     ended_typed =
-        ended.typed typing (0 + inlined_weight P body) size good_lowered
-        (leads.typed typing 0 size suits_typing (first_begun.typed typing 0 size good_first first_typed))
+        ended.typed typing (1 + inlined_weight P body) size good_lowered
+        (leads.typed typing 1 size suits_typing (first_begun.typed typing 1 size good_first first_typed))
 
     long : length code.stages ≡ length made.ended.stages.stages.items
     long = ap length made.finished.finishes.stages ∙ led_length stage_of made.ended.stages.stages.items
 
-    stage_typed : (l : ℕ) (s : Stage) → slice_get code.stages l ≡ Some s → IsTypedStage (types_of P code) P (length code.stages) (4 * weight P) s
+    count : idle_count code.stages ≡ idle_now made.ended
+    count = ap idle_count made.finished.finishes.stages ∙ led_count stage_of made.ended.stages.stages.items
+
+    stage_typed : (l : ℕ) (s : Stage) → slice_get code.stages l ≡ Some s → IsTypedStage (types_of P code) P (length code.stages) (most_operations P code.stages) s
     stage_typed l s e =
         let h = led_at stage_of made.ended.stages.stages.items l s (ap (λ z. slice_get z l) (sym made.finished.finishes.stages) ∙ e) in
-        let m = 4 * (0 + inlined_weight P body) in
-        subst (λ n. IsTypedStage (types_of P code) P n (4 * weight P) s) (sym long)
-        (subst (IsTypedStage (types_of P code) P (length made.ended.stages.stages.items) (4 * weight P)) (sym h.2)
-        (stage_more (types_of P code) P (length made.ended.stages.stages.items) (length made.ended.stages.stages.items) m (4 * weight P) (omega arith) (let w = light in omega arith)
+        let m = room (1 + inlined_weight P body) made.ended in
+        let most = most_operations P code.stages in
+        subst (λ n. IsTypedStage (types_of P code) P n most s) (sym long)
+        (subst (IsTypedStage (types_of P code) P (length made.ended.stages.stages.items) most) (sym h.2)
+        (stage_more (types_of P code) P (length made.ended.stages.stages.items) (length made.ended.stages.stages.items) m most (omega arith) (let w = light in let same = count in omega (arith, w, same))
         (led_stage stage_of h.0) (ended_typed.stages l h.0 h.1 (length made.ended.stages.stages.items) stage_of made.finished.finishes.below)))
 
     argued : BeginsWith P r code.argument code.variables
@@ -392,6 +401,10 @@ module _ (p : ProgramTree) (r : ℕ) (code : ThreadCode) (made : IsCodeOf p r co
     typed_at = record {
       some = (let e = long in let b = made.finished.finishes.below 0 in omega (arith, e, b));
       stages = stage_typed;
+      comparisons =
+          made.finished.finishes.comparisons
+          (ended_ahead P H r (all_values P.functions) made.first made.is_new made.start made.begun made.starts made.lowered made.ended made.proceeds made.closes);
+      few_idle = (let same = count in let few = ended_typed.idle in let w = light in omega (arith, same, few, w));
       arrays = λ a array e. housed.arrays a array (ap (λ arrays. slice_get arrays a) (sym arrays_are) ∙ e);
       argument = argued;
       names = names_long;

@@ -11,7 +11,7 @@ use Rattle.code_places.specs.declared.lowering.Lowering.{Lowering}
 use Rattle.code_storage.specs.declared.rooms.Rooms.{Rooms}
 use Rattle.code_storage.specs.Housing.{homes_in, IsHousing, AreNames}
 use Rattle.code_storage.specs.Values.{all_values}
-use Rattle.code_places.specs.Doing.{Leads, IsNew, Starts, IsFinished}
+use Rattle.code_places.specs.Doing.{Leads, Proceeds, IsNew, Starts, IsFinished}
 use Rattle.c_program.specs.Limits.{local_elements, print_sites, mutex_elements, barrier_elements}
 use Rattle.c_program.specs.Resolved.{IsResolved}
 use Rattle.c_program.specs.Weight.{function_weight, thread_count}
@@ -46,6 +46,7 @@ pub record IsCodeOf (p : ProgramTree) (number : ℕ) (code : ThreadCode) : Type 
   pub starts : Starts start first begun
   pub lowered : Lowering
   pub lowers : Leads (program_of p) None (statement_of function.body) begun lowered
+  pub proceeds : Proceeds None begun lowered
   pub ended : Lowering
   pub closes : Closes lowered ended
   pub finished : IsFinished start (argument_of (program_of p) number housing) names ended code

@@ -2,5 +2,6 @@
 #![tactic(auto)]
 
 pub mod functions;
+pub mod labels;
 pub mod simple;
 pub mod statements;

@@ -7,10 +7,11 @@ ghost use Rattle.c_program.specs.Weight.{returned_weight};
 ghost use Rattle.code_places.specs.Doing as doing;
 ghost use Rattle.code_places.specs.Needing.{IsFullFor};
 ghost use Rattle.code_blocks.specs.Room.{IsFull};
-ghost use Rattle.ir_lower.specs.Taken.{is_simple, is_taken};
+ghost use Rattle.code_control.specs.Deciding.{ComesThrough, is_cut};
+ghost use Rattle.ir_lower.specs.Taken.{has_turning, is_simple, is_taken};
 
 use c_program::tree::{Expression, Statement};
-use code_blocks::assignments::{lower_assignment, lower_update};
+use code_blocks::assignments::{lower_assignment, lower_kept, lower_update};
 use code_blocks::fault::LoweringFault;
 use code_calls::acts::{lower_print, lower_thread_call};
 use code_calls::returning::{lower_return, return_nothing};
@@ -45,17 +46,19 @@ pub fn lower_simple(
     statement: &Statement,
 ) -> Result<(), LoweringFault>
     requires simple { is_simple (statement_of statement.now) ≡ true }
-    requires taken { is_taken (is_some around) (statement_of statement.now) ≡ true }
+    requires taken { is_taken (is_some around) (has_turning around) (statement_of statement.now) ≡ true }
     requires targets { doing.AreTargets around code.old.stages }
     requires back { doing.IsBackTarget code.old.back code.old.stages }
     requires reached { code.old.reached ≡ true }
     ensures labels { OnOk result (doing.Proceeds around code.old code.new) }
+    ensures cut { OnOk result (is_cut (statement_of statement.now) ≡ true → ComesThrough code.old code.new) }
     ensures lowers { OnOk result ((P : _) → doing.LowersHere P around (statement_of statement.now) code.old code.new) }
     ensures full { IfErr result (λ fault. (P : _) (depth : ℕ) → IsFullFor P depth (statement_of statement.now) code.old fault) }
 {
     match statement {
         Statement::Done => Ok(()),
         Statement::Empty => Ok(()),
+        Statement::Label(_, _) => Ok(()),
         Statement::Declare(_, _, _) => code.block.step(),
         Statement::Assign(_, place, right) => {
             let homes = code.homes.as_slice();
@@ -64,6 +67,11 @@ pub fn lower_simple(
         Statement::Update(_, place, operator, ty, right) => {
             let homes = code.homes.as_slice();
             lower_update(alloc, homes, &mut code.block, place, *operator, *ty, right)
+        }
+        Statement::Keep(_, slot, ty, operand) => {
+            code.begin_stage(alloc)?;
+            let homes = code.homes.as_slice();
+            lower_kept(alloc, homes, &mut code.block, *slot, *ty, operand)
         }
         Statement::Break => {
             let Some(labels) = around else {
@@ -76,7 +84,10 @@ pub fn lower_simple(
             let Some(labels) = around else {
                 unreachable!();
             };
-            code.jump(alloc, labels.turning)?;
+            let Some(turning) = labels.turning else {
+                unreachable!();
+            };
+            code.jump(alloc, turning)?;
             Ok(())
         }
         Statement::Return(_, right) => lower_returned(alloc, code, right),

@@ -31,6 +31,7 @@ returns c = record {
         starts = c.in_ok-start.ensures;
         lowered = c.in_ok-lower_body.ensures.lowers.lowered;
         lowers = c.in_ok-lower_body.ensures.lowers.lowers;
+        proceeds = c.in_ok-lower_body.ensures.lowers.labels;
         ended = c.lower_body.new.code;
         closes = c.in_ok-lower_body.ensures.lowers.closes;
         finished =
