@@ -1,5 +1,5 @@
 -- What the code without its unused stages keeps.
-use Rattle.std.proofs.Common.{◌≡◌, ◌≢◌, ℕ, zero, suc, ◌+◌, ◌*◌, ◌<◌, ◌≤◌, ℤ, Bool, true, false, List, [], ◌∷◌, length, map, leb, lt-ltb, ltb-true, eq-eqb}
+use Rattle.std.proofs.Common.{◌≡◌, ◌≢◌, ℕ, zero, suc, ◌+◌, ◌-◌, ◌*◌, ◌<◌, ◌≤◌, ℤ, Bool, true, false, List, [], ◌∷◌, length, map, leb, lt-ltb, ltb-true, eq-eqb}
 use Rattle.std.proofs.Common.{Option, Some, None, refl, sym, ap, ◌∙◌, subst, ⊎_elim, inl, inr, arith}
 use Rattle.std.specs.Prelude.{◌⊎◌, ◌||◌, ◌&&◌, not, if◌then◌else◌, nat_eq, nat_lt, slice_get}
 use Rattle.std.proofs.lemmas.Bool.Decides.{eqb_tells, leb_tells}
@@ -21,8 +21,9 @@ use Rattle.block_ir.specs.declared.code.Stage.TheVariants.{Run, Act}
 use Rattle.block_ir.specs.declared.code.ThreadCode.{ThreadCode}
 use Rattle.block_ir.specs.Run.{Cells, operand_value, leads_to, stage_after, block_run, variables_after}
 use Rattle.code_following.specs.Following.{AtStage, IsAct, DoesSteps, DoesAct, DoesStage, Follows, IsLowered}
-use Rattle.code_following.specs.Typed.{types_of, Types, IsTypedNext, IsTypedStage, IsTypedCode}
-use Rattle.code_merge.specs.Maximal.{next_ways, stage_ways, ways, IsTooLarge, IsMaximalAt, IsMaximal}
+use Rattle.code_following.specs.Idle.{idle_stage, idle_count, TakesStep, LeadsOn, IsComparison, AreComparisons}
+use Rattle.code_following.specs.Typed.{types_of, most_operations, Types, IsTypedNext, IsTypedStage, IsTypedCode}
+use Rattle.code_merge.specs.Maximal.{next_ways, stage_ways, ways, StandApart, IsMaximalAt, IsMaximal}
 use Rattle.code_merge.specs.Used.{empty, leads_to_first, is_empty, is_used, used_from, used, kept, number, next_renumbered, renumbered, used_stages, with_used}
 use Rattle.code_merge.specs.declared.numbers.Numbers.{Numbers}
 use Rattle.code_merge.specs.Dropping.{number_in, AreNumbers}
@@ -85,6 +86,31 @@ next_typed T n k before new (Branch test nonzero zero_) less h = (
   less nonzero h.1 (let g = one_here nonzero in omega (arith, g)),
   less zero_ h.2 (let g = one_here zero_ in omega (arith, g)),
 )
+
+all_third : (a b c d : Bool) → (a && b && c && d) ≡ true → c ≡ true
+all_third true true true d h = refl
+all_third true true false d h = cc
+all_third true false c d h = cc
+all_third false b c d h = cc
+
+empty_busy : (s : Stage) → is_empty s ≡ true → idle_stage s ≡ 0
+empty_busy (Run b) h =
+    let third = all_third (nat_eq (length b.operations) 0) (nat_eq (length b.finals) 0) (nat_eq b.steps 1) (leads_to_first b.next) h in
+    ⊎_elim (λ t. let one = t.1 in omega (arith, one)) (λ t. absurd (let no = t.0 in cc)) (eqb_tells b.steps 1)
+empty_busy (Act act next) h = refl
+
+idle_renumbered : (new : ℕ → ℕ) (s : Stage) → idle_stage (renumbered new s) ≡ idle_stage s
+idle_renumbered new (Run b) = refl
+idle_renumbered new (Act act next) = refl
+
+-- where the others are no blocks without steps
+idle_kept : (new : ℕ → ℕ) (us : List Bool) (ss : List Stage) → ((l : ℕ) (s : Stage) → slice_get ss l ≡ Some s → (slice_get us l ≡ Some true) ⊎ (idle_stage s ≡ 0)) →
+    idle_count (map (renumbered new) (kept us ss)) ≡ idle_count ss
+idle_kept new [] [] h = refl
+idle_kept new (u ∷ us) [] h = refl
+idle_kept new [] (s ∷ ss) h = let g = idle_kept new [] ss (λ l t e. h (suc l) t e) in ⊎_elim (λ u. absurd cc) (λ z. omega (arith, g, z)) (h 0 s refl)
+idle_kept new (true ∷ us) (s ∷ ss) h = let g = idle_kept new us ss (λ l t e. h (suc l) t e) in let k = idle_renumbered new s in omega (arith, g, k)
+idle_kept new (false ∷ us) (s ∷ ss) h = let g = idle_kept new us ss (λ l t e. h (suc l) t e) in ⊎_elim (λ u. absurd cc) (λ z. omega (arith, g, z)) (h 0 s refl)
 
 module _ (stages : List Stage) where
   abbrev us : List Bool
@@ -218,7 +244,6 @@ module _ (stages : List Stage) where
   stage_typed : (T : Types) (P : Program) (most l : ℕ) (s : Stage) → slice_get stages l ≡ Some s → IsTypedStage T P (length stages) most s →
       IsTypedStage T P (length after) most (renumbered new s)
   stage_typed T P most l (Run b) e h = record {
-    busy = h.busy;
     operations = h.operations;
     few = h.few;
     size = h.size;
@@ -260,14 +285,14 @@ module _ (stages : List Stage) where
 
   maximal_at : (most l m q : ℕ) (b d : Block) → slice_get stages l ≡ Some (Run b) → slice_get us q ≡ Some true → slice_get stages q ≡ Some (Run d) →
       b.next ≡ Jump m → new q ≡ new m →
-      IsMaximalAt most stages l → (new m ≡ 0) ⊎ (new m ≡ new l) ⊎ (1 < ways (new m) after) ⊎ IsTooLarge most b d
+      IsMaximalAt most stages l → (new m ≡ 0) ⊎ (new m ≡ new l) ⊎ (1 < ways (new m) after) ⊎ StandApart most b d
   maximal_at most l m q b d at u there leads same was =
       let way : 0 < next_ways m b.next = (let g = ap (next_ways m) leads in let h = one_here m in omega (arith, g, h)) in
       let e = same_number q m (Run d) u there (led_from l m (Run b) at way) same in
       by (was b d m at leads (ap (slice_get stages) (sym e) ∙ there)) (eqb_tells m 0)
     where
-      by : (m ≡ 0) ⊎ (m ≡ l) ⊎ (1 < ways m stages) ⊎ IsTooLarge most b d → ((nat_eq m 0 ≡ true) × (m ≡ 0)) ⊎ ((nat_eq m 0 ≡ false) × (m ≢ 0)) →
-          (new m ≡ 0) ⊎ (new m ≡ new l) ⊎ (1 < ways (new m) after) ⊎ IsTooLarge most b d
+      by : (m ≡ 0) ⊎ (m ≡ l) ⊎ (1 < ways m stages) ⊎ StandApart most b d → ((nat_eq m 0 ≡ true) × (m ≡ 0)) ⊎ ((nat_eq m 0 ≡ false) × (m ≢ 0)) →
+          (new m ≡ 0) ⊎ (new m ≡ new l) ⊎ (1 < ways (new m) after) ⊎ StandApart most b d
       by h (inl t) = inl (new_first m t.1)
       by (inl h) (inr t) = inl (new_first m h)
       by (inr (inl h)) (inr t) = inr (inl (ap new h))
@@ -287,9 +312,9 @@ module _ (stages : List Stage) where
   abbrev block_new : Block → Block
   block_new b = record { operations = b.operations; finals = b.finals; next = next_renumbered new b.next; steps = b.steps }
 
-  large_as : (most : ℕ) (b d x y : Block) → renumbered new (Run b) ≡ Run x → renumbered new (Run d) ≡ Run y → IsTooLarge most b d → IsTooLarge most x y
+  large_as : (most : ℕ) (b d x y : Block) → renumbered new (Run b) ≡ Run x → renumbered new (Run d) ≡ Run y → StandApart most b d → StandApart most x y
   large_as most b d x y e f h =
-      subst (λ (z : Block). IsTooLarge most z y) (same_run (block_new b) x e) (subst (λ (z : Block). IsTooLarge most (block_new b) z) (same_run (block_new d) y f) h)
+      subst (λ (z : Block). StandApart most z y) (same_run (block_new b) x e) (subst (λ (z : Block). StandApart most (block_new b) z) (same_run (block_new d) y f) h)
 
   maximal : (most : ℕ) → ((l : ℕ) → IsMaximalAt most stages l) → (k : ℕ) → IsMaximalAt most after k
   maximal most was k x y j at leads there =
@@ -300,13 +325,61 @@ module _ (stages : List Stage) where
     where
       by : (l : ℕ) (b : Block) → slice_get stages l ≡ Some (Run b) → new l ≡ k → renumbered new (Run b) ≡ Run x →
           (q : ℕ) (d : Block) → slice_get us q ≡ Some true → slice_get stages q ≡ Some (Run d) → new q ≡ j → renumbered new (Run d) ≡ Run y →
-          (m : ℕ) → b.next ≡ Jump m → new m ≡ j → (j ≡ 0) ⊎ (j ≡ k) ⊎ (1 < ways j after) ⊎ IsTooLarge most x y
+          (m : ℕ) → b.next ≡ Jump m → new m ≡ j → (j ≡ 0) ⊎ (j ≡ k) ⊎ (1 < ways j after) ⊎ StandApart most x y
       by l b from_ is same_b q d u at_ is_ same_d m leads_ same =
-          subst (λ n. (n ≡ 0) ⊎ (n ≡ k) ⊎ (1 < ways n after) ⊎ IsTooLarge most x y) same
-          (subst (λ n. (new m ≡ 0) ⊎ (new m ≡ n) ⊎ (1 < ways (new m) after) ⊎ IsTooLarge most x y) is
+          subst (λ n. (n ≡ 0) ⊎ (n ≡ k) ⊎ (1 < ways n after) ⊎ StandApart most x y) same
+          (subst (λ n. (new m ≡ 0) ⊎ (new m ≡ n) ⊎ (1 < ways (new m) after) ⊎ StandApart most x y) is
           (⊎_elim (λ h. inl h)
           (λ h. inr (⊎_elim (λ g. inl g) (λ g. inr (⊎_elim (λ w. inl w) (λ w. inr (large_as most b d x y same_b same_d w)) g)) h))
           (maximal_at most l m q b d from_ u at_ leads_ (is_ ∙ sym same) (was l))))
+
+  -- ---- comparisons
+
+  takes_led : (m : ℕ) → IsKept m → TakesStep stages m → TakesStep after (new m)
+  takes_led m there takes x e = let g = run_from (new m) x e in by g.0 g.1 g.2 g.3 g.4 g.5
+    where
+      by : (q : ℕ) (d : Block) → slice_get us q ≡ Some true → slice_get stages q ≡ Some (Run d) → new q ≡ new m → renumbered new (Run d) ≡ Run x → 0 < x.steps
+      by q d u at same is =
+          let e = same_number q m (Run d) u at there same in
+          let some = takes d (ap (slice_get stages) (sym e) ∙ at) in
+          let steps = ap (λ (z : Block). z.steps) (same_run (block_new d) x is) in
+          omega (arith, some, steps)
+
+  leads_on : (l m : ℕ) (b : Block) → slice_get us l ≡ Some true → slice_get stages l ≡ Some (Run b) → 0 < next_ways m b.next → LeadsOn stages l m → LeadsOn after (new l) (new m)
+  leads_on l m b u at way (inl lt) = inl (number_less us l m u lt)
+  leads_on l m b u at way (inr takes) = inr (takes_led m (led_from l m (Run b) at way) takes)
+
+  comparison_new : (l : ℕ) (b : Block) → slice_get us l ≡ Some true → slice_get stages l ≡ Some (Run b) → IsComparison stages l b → IsComparison after (new l) (block_new b)
+  comparison_new l b u at is = record {
+    one = is.one;
+    test = is.test;
+    nonzero = new is.nonzero;
+    zero_ = new is.zero_;
+    next = ap (next_renumbered new) is.next;
+    on_nonzero = leads_on l is.nonzero b u at (let way = ap (next_ways is.nonzero) is.next in let h = one_here is.nonzero in omega (arith, way, h)) is.on_nonzero;
+    on_zero = leads_on l is.zero_ b u at (let way = ap (next_ways is.zero_) is.next in let h = one_here is.zero_ in omega (arith, way, h)) is.on_zero;
+  }
+
+  comparisons_new : AreComparisons stages → AreComparisons after
+  comparisons_new are k x e none = let g = run_from k x e in by g.0 g.1 g.2 g.3 g.4 g.5
+    where
+      by : (l : ℕ) (b : Block) → slice_get us l ≡ Some true → slice_get stages l ≡ Some (Run b) → new l ≡ k → renumbered new (Run b) ≡ Run x → IsComparison after k x
+      by l b u at is same =
+          let e = same_run (block_new b) x same in
+          let steps = ap (λ (z : Block). z.steps) e in
+          subst (λ n. IsComparison after n x) is
+          (subst (IsComparison after (new l)) e (comparison_new l b u at (are l b at (omega (arith, steps, none)))))
+
+  -- what is dropped takes a step
+  dropped_busy : (l : ℕ) (s : Stage) → slice_get stages l ≡ Some s → (slice_get us l ≡ Some true) ⊎ (idle_stage s ≡ 0)
+  dropped_busy l s e = by (is_empty s) refl
+    where
+      by : (b : Bool) → is_empty s ≡ b → (slice_get us l ≡ Some true) ⊎ (idle_stage s ≡ 0)
+      by true h = inr (empty_busy s h)
+      by false h = inl (flag l s e ∙ ap Some (any_second (nat_eq l 0) (not (is_empty s)) (nat_lt 0 (ways l stages)) (ap not h)))
+
+  count_new : idle_count after ≡ idle_count stages
+  count_new = idle_kept new us stages dropped_busy
 
   -- ---- tight
 
@@ -381,13 +454,20 @@ typed_kept code new is P f h = rw is (record {
   some = let g = less_new code.stages 0 h.some (first code.stages) in omega (arith, g);
   stages = λ k t e.
       (let g = from code.stages k t e in
-      subst (IsTypedStage (types_of P code) P (length (used_stages code.stages)) (4 * weight P)) g.5
-      (stage_typed code.stages (types_of P code) P (4 * weight P) g.0 g.1 g.3 (h.stages g.0 g.1 g.3)));
+      subst (λ n. IsTypedStage (types_of P code) P (length (used_stages code.stages)) (4 * weight P - 2 * n) t) (sym (count_new code.stages))
+      (subst (IsTypedStage (types_of P code) P (length (used_stages code.stages)) (most_operations P code.stages)) g.5
+      (stage_typed code.stages (types_of P code) P (most_operations P code.stages) g.0 g.1 g.3 (h.stages g.0 g.1 g.3))));
+  comparisons = comparisons_new code.stages h.comparisons;
+  few_idle = let few = h.few_idle in let same = count_new code.stages in omega (arith, few, same);
   arrays = h.arrays;
   argument = h.argument;
   names = h.names;
   named = h.named;
 })
+
+-- it has as many blocks without steps
+pub count_kept : (code new : ThreadCode) → new ≡ with_used code → idle_count new.stages ≡ idle_count code.stages
+count_kept code new is = rw is (count_new code.stages)
 
 pub maximal_kept : (code new : ThreadCode) → new ≡ with_used code → (most : ℕ) → IsMaximal most code → IsMaximal most new
 maximal_kept code new is most h = rw is (maximal code.stages most h)

@@ -1,5 +1,5 @@
 -- Steps of the pass keep what the code is.
-use Rattle.std.proofs.Common.{◌≡◌, ◌≢◌, ℕ, ◌+◌, ◌*◌, ◌<◌, ◌≤◌, min, List, [], ◌∷◌, ◌++◌, length, map, ℤ}
+use Rattle.std.proofs.Common.{◌≡◌, ◌≢◌, ℕ, ◌+◌, ◌-◌, ◌*◌, ◌<◌, ◌≤◌, min, List, [], ◌∷◌, ◌++◌, length, map, ℤ}
 use Rattle.std.proofs.Common.{Option, Some, None, refl, sym, ap, ◌∙◌, subst, ⊎_elim, inl, inr, arith, length-append, append_assoc, take, get_or}
 use Rattle.std.specs.Prelude.{◌⊎◌, nat_eq, true, false, if◌then◌else◌, Bool, slice_get, slice_set}
 use Rattle.std.proofs.lemmas.Bool.Decides.{eqb_tells}
@@ -18,9 +18,11 @@ use Rattle.block_ir.specs.declared.code.ThreadCode.{ThreadCode}
 use Rattle.block_ir.specs.Run.{finished}
 use Rattle.code_blocks.specs.Evaluating.{current_value}
 use Rattle.code_blocks.specs.Closing.{IsUnchanged}
-use Rattle.code_following.specs.Typed.{Types, types_of, IsTypedBlock, IsTypedStage, IsTypedCode}
+use Rattle.code_following.specs.Idle.{idle_count, IsComparison}
+use Rattle.code_following.specs.Typed.{Types, types_of, most_operations, IsTypedBlock, IsTypedStage, IsTypedCode}
+use Rattle.code_following.proofs.IdleStages.{count_changed, comparisons_changed}
 use Rattle.code_merge.specs.Joined.{joined, moved_operation, left_in, there, AreLeft, AreWithin, HasLeft}
-use Rattle.code_merge.specs.Maximal.{one_way, next_ways, ways, IsTooLarge, IsMaximalAt, AreCounted, Follows}
+use Rattle.code_merge.specs.Maximal.{one_way, next_ways, ways, StandApart, IsMaximalAt, AreCounted, Follows}
 use Rattle.code_merge.specs.Kept.{with_stages, Keeps}
 use Rattle.code_merge.specs.Steps.{IsLast}
 use Rattle.code_merge.specs.Used.{empty}
@@ -81,35 +83,45 @@ left_all start now finals k le held fs h = subst (λ gs. HasLeft now (fs ++ gs))
 -- ---- kept
 
 pub keeps_same : (most size : ℕ) (stages : List Stage) → Keeps most size stages stages
-keeps_same most size stages P g code le long typed = (typed, λ low. low)
+keeps_same most size stages P g code le long typed = (typed, λ low. low, refl)
 
 pub keeps_both : (most size : ℕ) (a b c : List Stage) → Keeps most size a b → Keeps most size b c → Keeps most size a c
 keeps_both most size a b c h k P g code le long typed =
     let x = h P g code le long typed in
-    let y = k P g code le long x.0 in
-    (y.0, λ low. y.1 (x.1 low))
+    let y = k P g code (subst (λ n. most ≤ 4 * weight P - 2 * n) (sym x.2) le) long x.0 in
+    (y.0, λ low. y.1 (x.1 low), y.2 ∙ x.2)
 
--- a code with another stage at l
-typed_set : (P : Program) (g : ℕ) (code : ThreadCode) (old : List Stage) (l : ℕ) (s : Stage) →
-    IsTypedStage (types_of P (with_stages code old)) P (length old) (4 * weight P) s →
-    IsTypedCode P g (with_stages code old) → IsTypedCode P g (with_stages code (slice_set old l s))
-typed_set P g code old l s h typed =
-    let size = length-set old l s in
-    record {
-      some = (let z = typed.some in omega (arith, z, size));
-      stages = λ k t e.
-          subst (λ n. IsTypedStage (types_of P (with_stages code old)) P n (4 * weight P) t) (sym size)
-          (⊎_elim (λ p. subst (IsTypedStage (types_of P (with_stages code old)) P (length old) (4 * weight P)) (sym p.1) h) (λ p. typed.stages k t p.1)
-          (set_element old l k s t e));
-      arrays = typed.arrays;
-      argument = typed.argument;
-      names = typed.names;
-      named = typed.named;
-    }
+-- a code with another block at l, which takes a step where the one that was there did
+module _ (P : Program) (g : ℕ) (code : ThreadCode) (old : List Stage) (l : ℕ) (b c : Block) (at : slice_get old l ≡ Some (Run b))
+    (busy : 0 < b.steps → 0 < c.steps) (still : 0 < c.steps → 0 < b.steps) where
+  abbrev T_old : Types
+  T_old = types_of P (with_stages code old)
 
-empty_typed : (T : Types) (n most : ℕ) → 0 < n → IsTypedBlock T n most (record { operations = []; finals = []; next = Jump 0; steps = 1 })
+  typed_set : IsTypedBlock T_old (length old) (most_operations P old) c → (c.steps ≡ 0 → IsComparison old l c) →
+      IsTypedCode P g (with_stages code old) → IsTypedCode P g (with_stages code (slice_set old l (Run c)))
+  typed_set h compares typed =
+      let size = length-set old l (Run c) in
+      let count = count_changed old l b c at busy still in
+      record {
+        some = (let z = typed.some in omega (arith, z, size));
+        stages = λ k t e.
+            subst (λ n. IsTypedStage T_old P n (most_operations P (slice_set old l (Run c))) t) (sym size)
+            (subst (λ n. IsTypedStage T_old P (length old) (4 * weight P - 2 * n) t) (sym count)
+            (⊎_elim (λ p. subst (IsTypedStage T_old P (length old) (most_operations P old)) (sym p.1) h) (λ p. typed.stages k t p.1)
+            (set_element old l k (Run c) t e)));
+        comparisons = comparisons_changed old l b c at busy compares typed.comparisons;
+        few_idle = (let few = typed.few_idle in omega (arith, few, count));
+        arrays = typed.arrays;
+        argument = typed.argument;
+        names = typed.names;
+        named = typed.named;
+      }
+
+abbrev no_block : Block
+no_block = record { operations = []; finals = []; next = Jump 0; steps = 1 }
+
+empty_typed : (T : Types) (n most : ℕ) → 0 < n → IsTypedBlock T n most no_block
 empty_typed T n most some = record {
-  busy = omega arith;
   operations = tt;
   few = omega arith;
   size = omega arith;
@@ -188,27 +200,29 @@ module _ (most size : ℕ) (old : List Stage) (counts : List ℕ) (l m : ℕ) (c
         omega (arith, w, o, h)
 
     -- from where it leads to a block that is as large or larger
-    still : (y z : Block) → slice_get old j ≡ Some (Run y) → length y.operations ≤ length z.operations → y.steps ≤ z.steps →
-        (j ≡ 0) ⊎ (j ≡ k) ⊎ (1 < ways j both) ⊎ IsTooLarge most x z
-    still y z there large long = by (eqb_tells j 0) (was x y j at leads there)
+    still : (y z : Block) → slice_get old j ≡ Some (Run y) → length y.operations ≤ length z.operations → y.steps ≤ z.steps → (y.steps ≡ 0 → z.steps ≡ 0) →
+        (j ≡ 0) ⊎ (j ≡ k) ⊎ (1 < ways j both) ⊎ StandApart most x z
+    still y z there large long idle = by (eqb_tells j 0) (was x y j at leads there)
       where
-        by : ((nat_eq j 0 ≡ true) × (j ≡ 0)) ⊎ ((nat_eq j 0 ≡ false) × (j ≢ 0)) → (j ≡ 0) ⊎ (j ≡ k) ⊎ (1 < ways j old) ⊎ IsTooLarge most x y →
-            (j ≡ 0) ⊎ (j ≡ k) ⊎ (1 < ways j both) ⊎ IsTooLarge most x z
+        by : ((nat_eq j 0 ≡ true) × (j ≡ 0)) ⊎ ((nat_eq j 0 ≡ false) × (j ≢ 0)) → (j ≡ 0) ⊎ (j ≡ k) ⊎ (1 < ways j old) ⊎ StandApart most x y →
+            (j ≡ 0) ⊎ (j ≡ k) ⊎ (1 < ways j both) ⊎ StandApart most x z
         by (inl t) h = inl t.1
         by (inr t) (inl h) = inl h
         by (inr t) (inr (inl h)) = inr (inl h)
         by (inr t) (inr (inr (inl h))) = inr (inr (inl (more_ways t.1 h)))
         by (inr t) (inr (inr (inr (inl h)))) = inr (inr (inr (inl (omega (arith, h, large)))))
         by (inr t) (inr (inr (inr (inr (inl h))))) = inr (inr (inr (inr (inl (omega (arith, h, large))))))
-        by (inr t) (inr (inr (inr (inr (inr h))))) = inr (inr (inr (inr (inr (omega (arith, h, long))))))
+        by (inr t) (inr (inr (inr (inr (inr (inl h)))))) = inr (inr (inr (inr (inr (inl (omega (arith, h, long)))))))
+        by (inr t) (inr (inr (inr (inr (inr (inr (inl h))))))) = inr (inr (inr (inr (inr (inr (inl h))))))
+        by (inr t) (inr (inr (inr (inr (inr (inr (inr h))))))) = inr (inr (inr (inr (inr (inr (inr (idle h)))))))
 
-    leads_still : (y : Block) → slice_get both j ≡ Some (Run y) → (j ≡ 0) ⊎ (j ≡ k) ⊎ (1 < ways j both) ⊎ IsTooLarge most x y
+    leads_still : (y : Block) → slice_get both j ≡ Some (Run y) → (j ≡ 0) ⊎ (j ≡ k) ⊎ (1 < ways j both) ⊎ StandApart most x y
     leads_still y e =
         ⊎_elim
         (λ p. still b y (ap (slice_get old) p.0 ∙ f.at) (let h = ap (λ (z : Block). length z.operations) p.1 in let n = length-append b.operations
         (map (moved_operation (length b.operations) current) d.operations) in omega (arith, h, n))
-        (let h = ap (λ (z : Block). z.steps) p.1 in omega (arith, h)))
-        (λ p. ⊎_elim (λ q. absurd (never q.1)) (λ q. still y y q.2 (omega arith) (omega arith)) p)
+        (let h = ap (λ (z : Block). z.steps) p.1 in omega (arith, h)) (λ h. absurd (let some = f.block_busy in omega (arith, h, some))))
+        (λ p. ⊎_elim (λ q. absurd (never q.1)) (λ q. still y y q.2 (omega arith) (omega arith) (λ h. h)) p)
         (in_both j y e)
 
   pub both_maximal : (k : ℕ) → k ≢ l → IsMaximalAt most old k → IsMaximalAt most both k
@@ -220,21 +234,34 @@ module _ (most size : ℕ) (old : List Stage) (counts : List ℕ) (l m : ℕ) (c
 
   -- ---- kept
 
+  counts_same : idle_count both ≡ idle_count old
+  counts_same =
+      let some = f.block_busy in
+      count_changed (slice_set old m empty) l b (joined current b d) between (λ h. omega (arith, h)) (λ h. some)
+      ∙ count_changed old m d no_block f.there (λ h. omega arith) (λ h. f.next_busy)
+
   pub both_keep : length current ≡ size → HasLeft current b.finals → Keeps most size old both
   both_keep same left P g code le long typed =
       let T = types_of P (with_stages code old) in
-      let first : IsTypedBlock T (length old) (4 * weight P) b = typed.stages l (Run b) f.at in
-      let next : IsTypedBlock T (length old) (4 * weight P) d = typed.stages m (Run d) f.there in
+      let room = most_operations P old in
+      let first : IsTypedBlock T (length old) room b = typed.stages l (Run b) f.at in
+      let next : IsTypedBlock T (length old) room d = typed.stages m (Run d) f.there in
       let are : AreLeft current b.finals = left (subst (λ n. AreWithin n b.finals) (long ∙ sym same) (finals_within T b.operations b.finals first.finals)) in
-      let size_ : length b.operations + length d.operations ≤ 4 * weight P = (let s = f.size in omega (arith, s, le)) in
-      let o = once in (
-        typed_set P g code (slice_set old m empty) l (Run (joined current b d))
-            (subst (λ n. IsTypedBlock T n (4 * weight P) (joined current b d)) (sym (length-set old m empty))
-            (joined_typed T (length old) (4 * weight P) b d current are f.few size_ first next))
-            (typed_set P g code old m empty (empty_typed T (length old) (4 * weight P) typed.some) typed),
+      let size_ : length b.operations + length d.operations ≤ room = (let s = f.size in omega (arith, s, le)) in
+      let some = f.block_busy in
+      let second = f.next_busy in
+      let o = once in
+      let count = count_changed old m d no_block f.there (λ h. omega arith) (λ h. second) in
+      let without : IsTypedCode P g (with_stages code (slice_set old m empty)) =
+      typed_set P g code old m d no_block f.there (λ h. omega arith) (λ h. second) (empty_typed T (length old) room typed.some) (λ h. absurd (omega (arith, h))) typed in (
+        typed_set P g code (slice_set old m empty) l b (joined current b d) between (λ h. omega (arith, h)) (λ h. some)
+            (subst (λ n. IsTypedBlock T n (most_operations P (slice_set old m empty)) (joined current b d)) (sym (length-set old m empty))
+            (subst (λ n. IsTypedBlock T (length old) (4 * weight P - 2 * n) (joined current b d)) (sym count) (joined_typed T (length old) room b d current are f.few size_ first next)))
+            (λ h. absurd (omega (arith, h, some))) without,
         λ low n vs cells arguments has. follows_joined P old l m b d current empty f.at f.leads f.there f.apart (omega (arith, o)) are
             (finals_below T b.operations b.finals first.finals) f.few n 0 vs cells _
             (λ e. f.later (sym e)) (low (double n) vs cells arguments has),
+        counts_same,
       )
 
 -- ---- other finals that leave the same
@@ -269,13 +296,15 @@ module _ (most size : ℕ) (old : List Stage) (l : ℕ) (current : List (Option 
       by p.0 q.0 p.3 q.3 p.4 q.4 (was p.0 q.0 j p.1 (p.2 ∙ leads) q.1)
     where
       by : (v w : Block) → length v.operations ≡ length x.operations → length w.operations ≡ length y.operations → v.steps ≡ x.steps → w.steps ≡ y.steps →
-          (j ≡ 0) ⊎ (j ≡ k) ⊎ (1 < ways j old) ⊎ IsTooLarge most v w → (j ≡ 0) ⊎ (j ≡ k) ⊎ (1 < ways j tidied) ⊎ IsTooLarge most x y
+          (j ≡ 0) ⊎ (j ≡ k) ⊎ (1 < ways j old) ⊎ StandApart most v w → (j ≡ 0) ⊎ (j ≡ k) ⊎ (1 < ways j tidied) ⊎ StandApart most x y
       by v w ov ow sv sw (inl h) = inl h
       by v w ov ow sv sw (inr (inl h)) = inr (inl h)
       by v w ov ow sv sw (inr (inr (inl h))) = inr (inr (inl (let e = tidied_ways j in omega (arith, h, e))))
       by v w ov ow sv sw (inr (inr (inr (inl h)))) = inr (inr (inr (inl (omega (arith, h, ov, ow)))))
       by v w ov ow sv sw (inr (inr (inr (inr (inl h))))) = inr (inr (inr (inr (inl (omega (arith, h, ov, ow))))))
-      by v w ov ow sv sw (inr (inr (inr (inr (inr h))))) = inr (inr (inr (inr (inr (omega (arith, h, sv, sw))))))
+      by v w ov ow sv sw (inr (inr (inr (inr (inr (inl h)))))) = inr (inr (inr (inr (inr (inl (omega (arith, h, sv, sw)))))))
+      by v w ov ow sv sw (inr (inr (inr (inr (inr (inr (inl h))))))) = inr (inr (inr (inr (inr (inr (inl (omega (arith, h, sv))))))))
+      by v w ov ow sv sw (inr (inr (inr (inr (inr (inr (inr h))))))) = inr (inr (inr (inr (inr (inr (inr (omega (arith, h, sw))))))))
 
   module _ (left : AreLeft current b.finals)
       (from : (k : ℕ) (f : Final) → slice_get finals k ≡ Some f → slice_get current f.variable ≡ Some (Some f.value))
@@ -292,7 +321,6 @@ module _ (most size : ℕ) (old : List Stage) (l : ℕ) (current : List (Option 
 
     tidy_typed : (T : Types) (n room : ℕ) → IsTypedBlock T n room b → IsTypedBlock T n room (tidy b finals)
     tidy_typed T n room h = record {
-      busy = h.busy;
       operations = h.operations;
       few = h.few;
       size = h.size;
@@ -300,16 +328,29 @@ module _ (most size : ℕ) (old : List Stage) (l : ℕ) (current : List (Option 
       next = h.next;
     }
 
+  tidy_comparison : IsComparison old l b → IsComparison old l (tidy b finals)
+  tidy_comparison is = record {
+    one = is.one;
+    test = is.test;
+    nonzero = is.nonzero;
+    zero_ = is.zero_;
+    next = is.next;
+    on_nonzero = is.on_nonzero;
+    on_zero = is.on_zero;
+  }
+
   pub tidied_keep : length current ≡ size → HasLeft current b.finals →
       ((k : ℕ) (f : Final) → slice_get finals k ≡ Some f → slice_get current f.variable ≡ Some (Some f.value)) →
       ((variables : ℕ → ℤ) (values : List ℤ) (x : ℕ) → finished variables values finals variables x ≡ current_value (slice_get current x) variables values x) →
       Keeps most size old tidied
   tidied_keep same has from leave P g code le long typed =
       let T = types_of P (with_stages code old) in
-      let block : IsTypedBlock T (length old) (4 * weight P) b = typed.stages l (Run b) at in
+      let block : IsTypedBlock T (length old) (most_operations P old) b = typed.stages l (Run b) at in
       let left : AreLeft current b.finals = has (subst (λ n. AreWithin n b.finals) (long ∙ sym same) (finals_within T b.operations b.finals block.finals)) in (
-        typed_set P g code old l (Run (tidy b finals)) (tidy_typed left from leave T (length old) (4 * weight P) block) typed,
+        typed_set P g code old l b (tidy b finals) at (λ h. h) (λ h. h) (tidy_typed left from leave T (length old) (most_operations P old) block)
+            (λ none. tidy_comparison (typed.comparisons l b at none)) typed,
         λ low n vs cells arguments has. follows_tidied P old l b finals at (alike left from leave) n 0 vs cells _ (low n vs cells arguments has),
+        count_changed old l b (tidy b finals) at (λ h. h) (λ h. h),
       )
 
 -- ---- where no block follows
@@ -331,7 +372,7 @@ last_maximal most stages counts l counted last b d m at leads there = by (last b
         let s : (c : ℕ) × (slice_get counts m ≡ Some c) = get_there counts m (omega (arith, w, n)) in
         let z = s.1 in cc)
 
-    by : (m ≡ 0) ⊎ (m ≡ l) ⊎ (slice_get counts m ≢ Some 1) ⊎ IsTooLarge most b d → (m ≡ 0) ⊎ (m ≡ l) ⊎ (1 < ways m stages) ⊎ IsTooLarge most b d
+    by : (m ≡ 0) ⊎ (m ≡ l) ⊎ (slice_get counts m ≢ Some 1) ⊎ StandApart most b d → (m ≡ 0) ⊎ (m ≡ l) ⊎ (1 < ways m stages) ⊎ StandApart most b d
     by (inl h) = inl h
     by (inr (inl h)) = inr (inl h)
     by (inr (inr (inr h))) = inr (inr (inr h))

@@ -174,7 +174,6 @@ module _ (T : Types) where
   joined_typed count most b d current left few size p q =
       let long = moved_length b.operations b.finals current left p.finals d.operations in
       record {
-        busy = (let h = p.busy in omega (arith, h));
         operations = behind_typed b.operations b.finals current left p.finals d.operations few p.operations q.operations;
         few = omega (arith, long, few);
         size = omega (arith, long, size);

@@ -23,15 +23,16 @@ abbrev pub ways : ℕ → List Stage → ℕ
 ways m [] = 0
 ways m (s ∷ stages) = stage_ways m s + ways m stages
 
--- in one they would have more than that many operations, or operations or steps without a number
-abbrev pub IsTooLarge : ℕ → Block → Block → Type 0
-IsTooLarge most b d = (most < length b.operations + length d.operations) ⊎ (2 ^ 32 ≤ length b.operations + length d.operations) ⊎ (2 ^ 32 ≤ b.steps + d.steps)
+-- in one they would have more than that many operations, or operations or steps without a number; or one takes no step: that is
+-- not in one with others
+abbrev pub StandApart : ℕ → Block → Block → Type 0
+StandApart most b d = (most < length b.operations + length d.operations) ⊎ (2 ^ 32 ≤ length b.operations + length d.operations) ⊎ (2 ^ 32 ≤ b.steps + d.steps) ⊎ (b.steps ≡ 0) ⊎ (d.steps ≡ 0)
 
 -- MAXIMAL: where a block leads to a block alone, that is the first one, or itself, or more ways lead there, or both are too
--- large for one
+-- large for one, or one takes no step
 abbrev pub IsMaximalAt : ℕ → List Stage → ℕ → Type 0
 IsMaximalAt most stages l = (b d : Block) (m : ℕ) → slice_get stages l ≡ Some (Run b) → b.next ≡ Jump m → slice_get stages m ≡ Some (Run d) →
-    (m ≡ 0) ⊎ (m ≡ l) ⊎ (1 < ways m stages) ⊎ IsTooLarge most b d
+    (m ≡ 0) ⊎ (m ≡ l) ⊎ (1 < ways m stages) ⊎ StandApart most b d
 
 abbrev pub IsMaximal : ℕ → ThreadCode → Type 0
 IsMaximal most code = (l : ℕ) → IsMaximalAt most code.stages l
@@ -55,3 +56,5 @@ pub record Follows (most : ℕ) (stages : List Stage) (counts : List ℕ) (l m :
   pub size : length block.operations + length next.operations ≤ most
   pub few : length block.operations + length next.operations < 2 ^ 32
   pub steps : block.steps + next.steps < 2 ^ 32
+  pub block_busy : 0 < block.steps
+  pub next_busy : 0 < next.steps

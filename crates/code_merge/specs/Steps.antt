@@ -1,5 +1,5 @@
 -- What the parts of merging do.
-use Rattle.std.specs.Prelude.{◌≡◌, ◌≢◌, ◌⊎◌, ℕ, ◌+◌, ◌-◌, ◌^◌, ◌≤◌, List, length, ℤ, Option, Some, None, slice_get, slice_set}
+use Rattle.std.specs.Prelude.{◌≡◌, ◌≢◌, ◌⊎◌, ℕ, ◌+◌, ◌-◌, ◌^◌, ◌<◌, ◌≤◌, List, length, ℤ, Option, Some, None, slice_get, slice_set}
 use Rattle.block_ir.specs.declared.block.Next.{Next}
 use Rattle.block_ir.specs.declared.block.Next.TheVariants.{Jump, Branch}
 use Rattle.block_ir.specs.declared.block.Final.{Final}
@@ -11,7 +11,7 @@ use Rattle.code_blocks.specs.Evaluating.{current_value}
 use Rattle.code_blocks.specs.Closing.{HasNoted, IsFresh}
 use Rattle.code_merge.specs.declared.merger.Merger.{Merger}
 use Rattle.code_merge.specs.Joined.{joined, HasLeft}
-use Rattle.code_merge.specs.Maximal.{IsTooLarge, IsMaximalAt, AreCounted}
+use Rattle.code_merge.specs.Maximal.{StandApart, IsMaximalAt, AreCounted}
 use Rattle.code_merge.specs.Kept.{Keeps}
 use Rattle.code_merge.specs.Used.{empty}
 
@@ -24,15 +24,15 @@ abbrev pub jump_in : Next → Option ℕ
 jump_in (Jump l) = Some l
 jump_in (Branch test nonzero zero_) = None
 
--- they are small enough for one
-abbrev pub AreSmall : ℕ → Block → Block → Type 0
-AreSmall most b d =
-    (length b.operations + length d.operations ≤ most) × (length b.operations + length d.operations ≤ 2 ^ 32 - 1) × (b.steps + d.steps ≤ 2 ^ 32 - 1)
+-- they are small enough for one, and both take steps
+abbrev pub FitTogether : ℕ → Block → Block → Type 0
+FitTogether most b d =
+    (length b.operations + length d.operations ≤ most) × (length b.operations + length d.operations ≤ 2 ^ 32 - 1) × (b.steps + d.steps ≤ 2 ^ 32 - 1) × (0 < b.steps) × (0 < d.steps)
 
 -- no block may be put behind the block at l
 abbrev pub IsLast : ℕ → List Stage → List ℕ → ℕ → Type 0
 IsLast most stages counts l = (b d : Block) (m : ℕ) → slice_get stages l ≡ Some (Run b) → b.next ≡ Jump m → slice_get stages m ≡ Some (Run d) →
-    (m ≡ 0) ⊎ (m ≡ l) ⊎ (slice_get counts m ≢ Some 1) ⊎ IsTooLarge most b d
+    (m ≡ 0) ⊎ (m ≡ l) ⊎ (slice_get counts m ≢ Some 1) ⊎ StandApart most b d
 
 -- it holds what the block at l leaves in variables
 pub record HoldsAt (m : Merger) (l : ℕ) : Type 0 where

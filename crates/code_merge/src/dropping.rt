@@ -3,6 +3,7 @@
 ghost use Rattle.std.specs.Prelude.{◌≡◌, ◌≢◌, ℕ, ◌<◌, length, map, Some, slice_get, IfOk};
 ghost use Rattle.c_program.specs.Tree.{Program as GhostProgram};
 ghost use Rattle.code_following.specs.Following.{IsLowered};
+ghost use Rattle.code_following.specs.Idle.{idle_count};
 ghost use Rattle.code_following.specs.Typed.{IsTypedCode};
 ghost use Rattle.code_merge.specs.Maximal.{IsMaximal, ways};
 ghost use Rattle.code_merge.specs.Dropping as steps;
@@ -54,6 +55,7 @@ pub fn drop_empty(alloc: Global, code: ThreadCode) -> Result<ThreadCode, AllocEr
     ensures code { IfOk result (λ c. c ≡ spec.with_used code) }
     ensures typed { IfOk result (λ c. (P : GhostProgram) (f : ℕ) → IsTypedCode P f code → IsTypedCode P f c) }
     ensures lowered { IfOk result (λ c. (P : GhostProgram) (f : ℕ) → IsLowered P f code → IsLowered P f c) }
+    ensures idle { IfOk result (λ c. idle_count c.stages ≡ idle_count code.stages) }
     ensures maximal { IfOk result (λ c. (most : ℕ) → IsMaximal most code → IsMaximal most c) }
     ensures tight { IfOk result (λ c. (l : ℕ) → l ≢ 0 → slice_get c.stages l ≡ Some spec.empty → 0 < ways l c.stages) }
 {

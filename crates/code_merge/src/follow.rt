@@ -44,15 +44,17 @@ fn are_within(left: usize, right: usize, most: usize) -> bool
     }
 }
 
-/// Whether both are small enough for one block.
+/// Whether both are small enough for one block, and take steps.
 pub fn fit(block: &Block, next: &Block, most: usize) -> bool
-    ensures { IsTrue result ↔ steps.AreSmall most block.now next.now }
+    ensures { IsTrue result ↔ steps.FitTogether most block.now next.now }
 {
     let left = block.operations.len();
     let right = next.operations.len();
     are_within(left, right, most)
         && are_within(left, right, u32::MAX as usize)
         && are_within(block.steps as usize, next.steps as usize, u32::MAX as usize)
+        && block.steps > 0
+        && next.steps > 0
 }
 
 fn more(count: usize) -> usize

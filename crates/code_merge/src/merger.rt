@@ -1,11 +1,11 @@
 // Blocks that follow one another alone are put in one, chain after chain.
 
-ghost use Rattle.std.specs.Prelude.{◌≡◌, ℕ, ◌*◌, ◌<◌, ◌≤◌, Some, None, slice_get, slice_set, IfOk, OnOk, IfSome};
+ghost use Rattle.std.specs.Prelude.{◌≡◌, ℕ, ◌<◌, ◌≤◌, Some, None, slice_get, slice_set, IfOk, OnOk, IfSome};
 ghost use Rattle.c_program.specs.Tree.{Program as GhostProgram};
 ghost use Rattle.block_ir.specs.declared.code.Stage.TheVariants as stage;
-ghost use Rattle.c_program.specs.Weight.{weight};
 ghost use Rattle.code_following.specs.Following.{IsLowered};
-ghost use Rattle.code_following.specs.Typed.{IsTypedCode};
+ghost use Rattle.code_following.specs.Idle.{idle_count};
+ghost use Rattle.code_following.specs.Typed.{most_operations, IsTypedCode};
 ghost use Rattle.code_merge.specs.Kept.{Keeps};
 ghost use Rattle.code_merge.specs.Maximal.{IsMaximal, IsMaximalAt, AreCounted, Follows};
 ghost use Rattle.code_merge.specs.Steps as steps;
@@ -234,8 +234,9 @@ fn merged(
 ///
 /// The only error is want of memory.
 pub fn merge(alloc: Global, code: ThreadCode, most: usize) -> Result<ThreadCode, AllocError>
-    ensures typed { IfOk result (λ c. (P : GhostProgram) (f : ℕ) → most ≤ 4 * weight P → IsTypedCode P f code → IsTypedCode P f c) }
-    ensures lowered { IfOk result (λ c. (P : GhostProgram) (f : ℕ) → most ≤ 4 * weight P → IsTypedCode P f code → IsLowered P f code → IsLowered P f c) }
+    ensures typed { IfOk result (λ c. (P : GhostProgram) (f : ℕ) → most ≤ most_operations P code.stages → IsTypedCode P f code → IsTypedCode P f c) }
+    ensures lowered { IfOk result (λ c. (P : GhostProgram) (f : ℕ) → most ≤ most_operations P code.stages → IsTypedCode P f code → IsLowered P f code → IsLowered P f c) }
+    ensures idle { IfOk result (λ c. (P : GhostProgram) (f : ℕ) → most ≤ most_operations P code.stages → IsTypedCode P f code → idle_count c.stages ≡ idle_count code.stages) }
     ensures maximal { IfOk result (IsMaximal most) }
     ensures argument { IfOk result (λ c. c.argument ≡ code.argument) }
     ensures names { IfOk result (λ c. c.names ≡ code.names) }

@@ -6,3 +6,6 @@ returns-clause-typed c = λ P f le typed. (c.in_ok-stages.ensures.keeps P f c.ar
 
 pub returns-clause-lowered : goal.returns-clause-lowered
 returns-clause-lowered c = λ P f le typed. (c.in_ok-stages.ensures.keeps P f c.args.code le (sym c.len.ensures) typed).1
+
+pub returns-clause-idle : goal.returns-clause-idle
+returns-clause-idle c = λ P f le typed. (c.in_ok-stages.ensures.keeps P f c.args.code le (sym c.len.ensures) typed).2
