@@ -1,19 +1,11 @@
 -- What the lines of a generated text stand for, one after another.
-use Rattle.std.proofs.Common.{◌≡◌, ℕ, List, [], ◌∷◌, ◌++◌, map, append_assoc, append-nil, None, true, refl, sym, ap, ◌∙◌}
-use Rattle.std.specs.Prelude.{fold, ◌&&◌}
+use Rattle.std.proofs.Common.{◌≡◌, ℕ, List, [], ◌∷◌, ◌++◌, map, append_assoc, append-nil, None, refl, sym, ap, ◌∙◌}
+use Rattle.std.specs.Prelude.{fold}
 use Rattle.hls_ints.specs.Types.{unsigned_int}
 use Rattle.c_lexer.specs.Texts.{tokens}
 use Rattle.c_tree.specs.declared.expression.BinaryOperator.TheVariants as b
-use Rattle.c_tree.specs.declared.expression.Argument.{Argument as ArgumentTree}
-use Rattle.c_tree.specs.declared.expression.Call.{Call as CallTree}
-use Rattle.c_tree.specs.declared.expression.Choice.{Choice as ChoiceTree}
-use Rattle.c_tree.specs.declared.expression.Pointer.{Pointer as PointerTree}
-use Rattle.c_tree.specs.declared.expression.Place.{Place as PlaceTree}
 use Rattle.c_tree.specs.declared.expression.Expression.{Expression as ExpressionTree}
-use Rattle.c_tree.specs.declared.expression.Form.{Form}
 use Rattle.c_tree.specs.declared.expression.Form.TheVariants as form
-use Rattle.c_tree.specs.declared.expression.Term.{Term, out-roll-Term}
-use Rattle.c_tree.specs.declared.expression.Argument.TheOpen.{Term-F}
 use Rattle.c_tree.specs.declared.statement.AssignmentOperator.TheVariants.{Set}
 use Rattle.c_tree.specs.declared.statement.BlockItem.{BlockItem}
 use Rattle.c_tree.specs.declared.statement.BlockItem.TheVariants as block_item
@@ -26,8 +18,7 @@ use Rattle.c_rules.specs.declared.findings.Findings.{Findings}
 use Rattle.c_rules.specs.declared.names.Scope.{Scope}
 use Rattle.c_rules.specs.Names.{opened, closed}
 use Rattle.c_rules.specs.Walks.{Outcome, and_then, pure, place_in_tree, ◌>>=◌}
-use Rattle.c_expressions.specs.Expressions.{value, condition, operated, is_short_circuit}
-use Rattle.c_expressions.proofs.ConditionLemmas.{condition-other}
+use Rattle.c_expressions.specs.Expressions.{condition}
 use Rattle.c_resolution.specs.States.{State, state, in_scope, scoping}
 use Rattle.c_resolution.specs.Sequences.{sequence}
 use Rattle.c_resolution.specs.Statements.{Adds, item, with_step, branch, block_statement, block_step, block_of, if_of}
@@ -43,9 +34,6 @@ use Rattle.generated_profile.proofs.Trees as tr
 use Rattle.generated_profile.proofs.Layers as node
 use Rattle.generated_profile.proofs.Lettered as word
 
-abbrev TermLayer : Type 0
-TermLayer = Term-F ArgumentTree Form CallTree ChoiceTree ExpressionTree PlaceTree PointerTree Term
-
 -- ---- a comparison as a condition
 
 abbrev compared : (ℕ → ℕ) → Letter → Letter → ExpressionTree
@@ -56,20 +44,14 @@ abbrev less_of : Letter → Letter → Expression
 less_of y z = word.unsigned_of operator.Less (word.read_of y) (word.read_of z)
 
 module _ (s : Scope) (size : ℕ) (found : Findings) (means : word.Means s size) where
-  compared_value : (at : ℕ → ℕ) (y z : Letter) → value s (compared at y z) found ≡ Outcome.Gives (less_of y z) found
-  unfolding operated
+  compared_value : (at : ℕ → ℕ) (y z : Letter) → node.IsValue s (compared at y z) found (less_of y z)
   compared_value at y z =
       node.between_value s (at 2) (at 3) b.Less (tr.variable (tr.lettered y (at 2))) (tr.variable (tr.lettered z (at 4))) (word.read_of y) (word.read_of z) (less_of y z) found
-      (word.letter_value s size found means y (at 2)) (word.letter_value s size found means z (at 4)) refl
+      refl (word.letter_value s size found means y (at 2)) (word.letter_value s size found means z (at 4)) refl
 
-  compared_condition : (at : ℕ → ℕ) (y z : Letter) → condition s (compared at y z) found ≡ Outcome.Gives (Statement.Test (place_in_tree (at 2)) (less_of y z)) found
-  compared_condition at y z =
-      let e : ExpressionTree = tr.variable (tr.lettered y (at 2)) in
-      let f : ExpressionTree = tr.variable (tr.lettered z (at 4)) in
-      ap (λ w. w found)
-      (condition-other s (compared at y z) e (tree.term (b.Less, at 3) f ∷ []) refl
-      (ap (λ (t : TermLayer). is_short_circuit t.operator && true) (out-roll-Term (record { operator = b.Less; offset = at 3; operand = f }))))
-      ∙ ap (λ (r : Outcome Findings Expression). and_then r (λ x. pure (Statement.Test (place_in_tree (at 2)) x))) (compared_value at y z)
+  compared_condition : (at : ℕ → ℕ) (y z : Letter) (n : ℕ) → condition s (compared at y z) n found ≡ Outcome.Gives (Statement.Test (place_in_tree (at 2)) (less_of y z)) found
+  compared_condition at y z n =
+      node.between_condition s (at 2) (at 3) b.Less (tr.variable (tr.lettered y (at 2))) (tr.variable (tr.lettered z (at 4))) (less_of y z) found n refl (compared_value at y z)
 
 -- ---- if (y < z) { x = x + 1; }
 
@@ -87,14 +69,13 @@ raise_inner at x = block_item.Statement (st.Simple (tr.changed (at 7) (tr.alone 
 module _ (s : Scope) (size : ℕ) (found : Findings) (means : word.Means s size) (inner : word.Means (opened s) size) (closes : closed (opened s) ≡ s) where
   inner_step : (at : ℕ → ℕ) (x : Letter) → item (raise_inner at x) [] (state (opened s) found)
       ≡ Outcome.Gives (word.set_to (at 7) x (word.unsigned_of operator.Add (word.read_of x) (word.int_number 1)) ∷ []) (state (opened s) found)
-  unfolding operated
   inner_step at x =
       let v : Expression = word.unsigned_of operator.Add (word.read_of x) (word.int_number 1) in
-      let both = node.between_value (opened s) (at 9) (at 10) b.Add (tr.variable (tr.lettered x (at 9))) (tr.constant 1 (at 11)) (word.read_of x) (word.int_number 1) v found
+      let both : node.IsValue (opened s) (one_more at x) found v =
+      node.between_value (opened s) (at 9) (at 10) b.Add (tr.variable (tr.lettered x (at 9))) (tr.constant 1 (at 11)) (word.read_of x) (word.int_number 1) v found refl
       (word.letter_value (opened s) size found inner x (at 9)) (node.constant_value (opened s) 1 (at 11) found) refl in
       word.simple_item (opened s) size found inner (tr.changed (at 7) (tr.alone (tr.lettered x (at 7))) Set (one_more at x)) (word.set_to (at 7) x v) []
-      (word.set_letter (opened s) size found inner x (at 7) (one_more at x) v
-      (word.right_between (opened s) size found inner (place_in_tree (at 7)) (opened s).kept_from (at 9) (at 10) b.Add (tr.variable (tr.lettered x (at 9))) (tr.constant 1 (at 11)) v both))
+      (word.set_letter (opened s) size found inner x (at 7) (one_more at x) v both)
 
   pub raise_step : (at : ℕ → ℕ) (x y z : Letter) (steps : List Statement) → item (tr.raise_item at x y z) steps (state s found)
       ≡ Outcome.Gives (steps ++ (raised at x y z ∷ [])) (state s found)
@@ -109,7 +90,7 @@ module _ (s : Scope) (size : ℕ) (found : Findings) (means : word.Means s size)
       ∙ ap (λ g. branch test g None) (node.inner_block block ∙ ap block_statement (node.block_is (raise_inner at x ∷ []) (at 13)))))
       ∙ ap (λ (r : Outcome Findings Statement). and_then (and_then (in_scope s r)
       (λ d. (block_statement (block_step (record { items = item (raise_inner at x) ∷ []; close = at 13 })) >>= (λ a. pure (if_of d a Statement.Done)))))
-      (λ step. pure (steps ++ (step ∷ [])))) (compared_condition s size found means at y z)
+      (λ step. pure (steps ++ (step ∷ [])))) (compared_condition s size found means at y z s.kept_from)
       ∙ ap (λ (r : Outcome State (List Statement)). and_then (and_then (and_then (and_then r (λ done. pure (sequence done)))
       (λ body. (scoping closed >>= (λ u. pure (block_of body))))) (λ a. pure (if_of c a Statement.Done))) (λ step. pure (steps ++ (step ∷ [])))) (inner_step at x)
       ∙ ap (λ w. Outcome.Gives (steps ++ (raised at x y z ∷ [])) (state w found)) closes

@@ -16,7 +16,7 @@ use Rattle.c_tree.specs.declared.statement.Statement.TheVariants as st
 use Rattle.c_tree.specs.Trees as tree
 use Rattle.c_rules.specs.Constants.{plus}
 use Rattle.c_rules.specs.Walks.{place_in_tree}
-use Rattle.c_resolution.specs.Declarators.{in_item, in_statement, in_block, block_declarators, statement_declarators, item_declarators}
+use Rattle.c_resolution.specs.Declarators.{in_item, in_statement, in_block, in_group, block_declarators, statement_declarators, item_declarators}
 use Rattle.generated_text.specs.declared.draws.Letter.{Letter}
 use Rattle.generated_text.specs.declared.draws.Kind.{Kind as LineKind}
 use Rattle.generated_text.specs.declared.draws.Kind.TheVariants.{Sum, Difference, Product, ExclusiveOr, Quotient, Raise, Publish, Add}
@@ -33,32 +33,32 @@ use Rattle.generated_profile.proofs.Trees as tr
 statement_count : (x : StatementTree) → item_declarators (block_item.Statement x) ≡ statement_declarators x
 statement_count x =
     ap item_declarators (sym (block_item.rolls-Statement x))
-    ∙ fold-roll-BlockItem ℕ ℕ ℕ in_item in_statement in_block (BlockItem-F.Statement x)
+    ∙ fold-roll-BlockItem ℕ ℕ ℕ ℕ in_item in_statement in_block in_group (BlockItem-F.Statement x)
 
 declaration_count : (d : Declaration) → item_declarators (block_item.Declaration d) ≡ place_in_tree (length d.declarators)
 declaration_count d =
     ap item_declarators (sym (block_item.rolls-Declaration d))
-    ∙ fold-roll-BlockItem ℕ ℕ ℕ in_item in_statement in_block (BlockItem-F.Declaration d)
+    ∙ fold-roll-BlockItem ℕ ℕ ℕ ℕ in_item in_statement in_block in_group (BlockItem-F.Declaration d)
 
 simple_count : (x : SimpleStatement) → item_declarators (block_item.Statement (st.Simple x)) ≡ 0
 simple_count x =
     statement_count (st.Simple x)
     ∙ ap statement_declarators (sym (st.rolls-Simple x))
-    ∙ fold-roll-Statement ℕ ℕ ℕ in_item in_statement in_block (Statement-F.Simple x)
+    ∙ fold-roll-Statement ℕ ℕ ℕ ℕ in_item in_statement in_block in_group (Statement-F.Simple x)
 
 return_count : (x : Returned) (at : ℕ) → item_declarators (block_item.Statement (st.Return x at)) ≡ 0
 return_count x at =
     statement_count (st.Return x at)
     ∙ ap statement_declarators (sym (st.rolls-Return x at))
-    ∙ fold-roll-Statement ℕ ℕ ℕ in_item in_statement in_block (Statement-F.Return x at)
+    ∙ fold-roll-Statement ℕ ℕ ℕ ℕ in_item in_statement in_block in_group (Statement-F.Return x at)
 
 inner_count : (b : Block) → statement_declarators (st.Block b) ≡ block_declarators b
 inner_count b =
     ap statement_declarators (sym (st.rolls-Block b))
-    ∙ fold-roll-Statement ℕ ℕ ℕ in_item in_statement in_block (Statement-F.Block b)
+    ∙ fold-roll-Statement ℕ ℕ ℕ ℕ in_item in_statement in_block in_group (Statement-F.Block b)
 
 block_count : (list : List BlockItem) (close : ℕ) → block_declarators (tree.block list close) ≡ fold plus 0 (map item_declarators list)
-block_count list close = fold-roll-Block ℕ ℕ ℕ in_item in_statement in_block (record { items = list; close = close })
+block_count list close = fold-roll-Block ℕ ℕ ℕ ℕ in_item in_statement in_block in_group (record { items = list; close = close })
 
 -- a block of one simple statement
 one_count : (x : SimpleStatement) (close : ℕ) → statement_declarators (st.Block (tree.block (block_item.Statement (st.Simple x) ∷ []) close)) ≡ 0
@@ -73,7 +73,7 @@ if_count test x close =
     let body : StatementTree = st.Block (tree.block (block_item.Statement (st.Simple x) ∷ []) close) in
     statement_count (st.If test body None)
     ∙ ap statement_declarators (sym (st.rolls-If test body None))
-    ∙ fold-roll-Statement ℕ ℕ ℕ in_item in_statement in_block (Statement-F.If test body None)
+    ∙ fold-roll-Statement ℕ ℕ ℕ ℕ in_item in_statement in_block in_group (Statement-F.If test body None)
     ∙ ap (λ (n : ℕ). plus n 0) (one_count x close)
 
 loop_count : (first : SimpleStatement) (test : Option ExpressionTree) (last : Option SimpleStatement) (x : SimpleStatement) (close : ℕ) →
@@ -82,7 +82,7 @@ loop_count first test last x close =
     let body : StatementTree = st.Block (tree.block (block_item.Statement (st.Simple x) ∷ []) close) in
     statement_count (st.For (start.Simple first) test last body)
     ∙ ap statement_declarators (sym (st.rolls-For (start.Simple first) test last body))
-    ∙ fold-roll-Statement ℕ ℕ ℕ in_item in_statement in_block (Statement-F.For (start.Simple first) test last body)
+    ∙ fold-roll-Statement ℕ ℕ ℕ ℕ in_item in_statement in_block in_group (Statement-F.For (start.Simple first) test last body)
     ∙ ap (plus 0) (one_count x close)
 
 -- ---- the lines, behind the 5 declarators of the opening

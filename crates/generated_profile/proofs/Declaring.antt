@@ -13,6 +13,7 @@ use Rattle.c_tree.specs.declared.statement.Block.{Block, out-Block}
 use Rattle.c_program.specs.declared.tree.LocalVariable.{LocalVariable}
 use Rattle.c_program.specs.declared.tree.ReturnType.TheVariants as returns_as
 use Rattle.c_program.specs.Tree.{Expression, Statement, Function}
+use Rattle.c_rules.specs.declared.dimensions.Dimensions.TheVariants.{Scalar}
 use Rattle.c_rules.specs.declared.names.ObjectKind.TheVariants.{Thread, Mutex}
 use Rattle.c_rules.specs.declared.constants.Constancy.{Constancy}
 use Rattle.c_rules.specs.declared.constants.Constancy.TheVariants as is
@@ -28,23 +29,12 @@ use Rattle.c_rules.specs.declared.names.Gives.TheVariants as gives
 use Rattle.c_rules.specs.declared.names.Scope.{Scope}
 use Rattle.c_rules.specs.Findings.{nothing}
 use Rattle.c_rules.specs.Walks.{Outcome, and_then, place_in_tree}
-use Rattle.c_rules.specs.Faults.{first}
 use Rattle.c_rules.specs.Library.{function_named}
-use Rattle.c_rules.specs.Names.{look_up, is_taken, declaring, opened, closed}
+use Rattle.c_rules.specs.Names.{is_taken, declaring, opened, closed}
 use Rattle.c_rules.specs.Specifiers.{base_of}
-use Rattle.c_rules.specs.Formats.{pieces_from}
-use Rattle.c_expressions.specs.Callees.{library_place, library_name}
-use Rattle.c_expressions.specs.Expressions.{constant, object_value, named_value, operated, converted, place_value, cast, terms_value}
-use Rattle.c_expressions.specs.Targets.{target}
-use Rattle.c_calls.specs.Arguments.{object_at, object_named, routine, value_argument, value_arguments, null_argument, pointer_value, pointer_argument}
-use Rattle.c_calls.specs.Arguments.{object_place, address_argument, thread_argument, routine_argument}
-use Rattle.c_calls.specs.Calls.{created, create, create_call, join, join_call, mutex_init, mutex_init_call, object_statement, object_call}
-use Rattle.c_calls.specs.Calls.{print_arguments, print_call, library_statement, library_call, call_of, call, right_value, right_side}
 use Rattle.c_resolution.specs.Functions.{declare_function, parameter_meaning, parameter, parameters, definition, head, function_by, function}
 use Rattle.c_resolution.specs.Globals.{global_variable, global_object, global_as, global, objects}
-use Rattle.c_resolution.specs.Locals.{length_from, array_length, new_local, local, declare, initialised_by, initialised, declarator, declaration}
-use Rattle.c_resolution.specs.Simple.{compound_by, assigned, compound, step, simple, returned, check_jump}
-use Rattle.c_resolution.specs.Statements.{loop_body, for_head, for_loop}
+use Rattle.c_resolution.specs.Locals.{length_from, array_length, dimensions, new_local, declare}
 use Rattle.c_resolution.specs.Statements.{items}
 use Rattle.c_resolution.specs.States.{state}
 use Rattle.c_resolution.specs.Globals.{text}
@@ -72,6 +62,7 @@ outside names headers back kept_from = record {
   locals = [];
   local_names = [];
   loops = 0;
+  exits = 0;
   kept_from = kept_from;
 }
 
@@ -111,7 +102,8 @@ constant_constancy n o =
 array_is : (s : Scope) (k o : ℕ) (found : Findings) → array_length (tr.constant (suc k) o) s found ≡ Outcome.Gives (size_of (suc k)) found
 unfolding array_length length_from
 array_is s k o found =
-    ap (λ (r : Outcome Findings Expression). and_then r (λ x. length_from (constancy (tr.constant (suc k) o)) o)) (node.constant_value s (suc k) o found)
+    ap (λ (r : Outcome Findings (Unit {0})). and_then r (λ x. length_from (constancy (tr.constant (suc k) o)) o))
+    (node.value_looked s (tr.constant (suc k) o) (Expression.Constant int_type (pos (suc k))) found (node.constant_value s (suc k) o found))
     ∙ ap (λ c. length_from c o found) (constant_constancy (suc k) o)
 
 abbrev pub with_threads : ℕ → File
@@ -121,13 +113,7 @@ with_threads size =
 
 pub threads_declared : (k : ℕ) (at : ℕ → ℕ) → declares (tr.threads_object (suc k) at) (file (scope_with definitions) nothing no_tables)
     ≡ Outcome.Gives tt (with_threads (size_of (suc k)))
-unfolding first function_named look_up is_taken declaring opened closed base_of pieces_from library_place library_name constant object_value
-    named_value operated converted place_value cast terms_value target object_at object_named routine value_argument value_arguments null_argument
-    pointer_value pointer_argument object_place address_argument thread_argument routine_argument created create create_call join join_call mutex_init
-    mutex_init_call object_statement object_call print_arguments print_call library_statement library_call call_of call right_value right_side
-    declare_function parameter_meaning parameter parameters definition head function_by function global_variable global_object global_as global
-    objects length_from new_local local declare initialised_by initialised declarator declaration compound_by assigned compound step simple returned
-    check_jump loop_body for_head for_loop
+unfolding function_named is_taken declaring base_of dimensions declare global_variable global_object global_as global objects
 threads_declared k at = rw (array_is (scope_with definitions) k (at 3) nothing) refl
 
 abbrev pub with_mutex : ℕ → File
@@ -137,20 +123,14 @@ with_mutex size =
     (record no_tables { threads = record { length = size; routine = None } ∷ []; mutexes = record { length = 1; initialised = false } ∷ [] })
 
 pub mutex_declared : (size : ℕ) (at : ℕ → ℕ) → declares (tr.mutex_object at) (with_threads size) ≡ Outcome.Gives tt (with_mutex size)
-unfolding first function_named look_up is_taken declaring opened closed base_of pieces_from library_place library_name constant object_value
-    named_value operated converted place_value cast terms_value target object_at object_named routine value_argument value_arguments null_argument
-    pointer_value pointer_argument object_place address_argument thread_argument routine_argument created create create_call join join_call mutex_init
-    mutex_init_call object_statement object_call print_arguments print_call library_statement library_call call_of call right_value right_side
-    declare_function parameter_meaning parameter parameters definition head function_by function global_variable global_object global_as global
-    objects length_from new_local local declare initialised_by initialised declarator declaration compound_by assigned compound step simple returned
-    check_jump loop_body for_head for_loop
+unfolding function_named is_taken declaring base_of dimensions declare global_variable global_object global_as global objects
 mutex_declared size at = refl
 
 abbrev pub with_sum : ℕ → File
 with_sum size =
     file (outside ((codes "t", meaning.Object (record { kind = Thread; number = 0; length = Some size }))
     ∷ (codes "m", meaning.Object (record { kind = Mutex; number = 0; length = None }))
-    ∷ (codes "s", word.static 0 None) ∷ []) [] gives.Unlisted 0) nothing
+    ∷ (codes "s", word.static 0 Scalar) ∷ []) [] gives.Unlisted 0) nothing
     (record no_tables {
       threads = record { length = size; routine = None } ∷ [];
       mutexes = record { length = 1; initialised = false } ∷ [];
@@ -158,23 +138,11 @@ with_sum size =
     })
 
 pub sum_declared : (size : ℕ) (at : ℕ → ℕ) → declares (tr.sum_object at) (with_mutex size) ≡ Outcome.Gives tt (with_sum size)
-unfolding first function_named look_up is_taken declaring opened closed base_of pieces_from library_place library_name constant object_value
-    named_value operated converted place_value cast terms_value target object_at object_named routine value_argument value_arguments null_argument
-    pointer_value pointer_argument object_place address_argument thread_argument routine_argument created create create_call join join_call mutex_init
-    mutex_init_call object_statement object_call print_arguments print_call library_statement library_call call_of call right_value right_side
-    declare_function parameter_meaning parameter parameters definition head function_by function global_variable global_object global_as global
-    objects length_from new_local local declare initialised_by initialised declarator declaration compound_by assigned compound step simple returned
-    check_jump loop_body for_head for_loop
+unfolding function_named is_taken declaring base_of dimensions declare global_variable global_object global_as global objects
 sum_declared size at = refl
 
 pub elements_declared : (k : ℕ) (at : ℕ → ℕ) → declares (tr.elements_object (suc k) at) (with_sum (size_of (suc k))) ≡ Outcome.Gives tt (behind_objects (size_of (suc k)))
-unfolding first function_named look_up is_taken declaring opened closed base_of pieces_from library_place library_name constant object_value
-    named_value operated converted place_value cast terms_value target object_at object_named routine value_argument value_arguments null_argument
-    pointer_value pointer_argument object_place address_argument thread_argument routine_argument created create create_call join join_call mutex_init
-    mutex_init_call object_statement object_call print_arguments print_call library_statement library_call call_of call right_value right_side
-    declare_function parameter_meaning parameter parameters definition head function_by function global_variable global_object global_as global
-    objects length_from new_local local declare initialised_by initialised declarator declaration compound_by assigned compound step simple returned
-    check_jump loop_body for_head for_loop
+unfolding function_named is_taken declaring base_of dimensions declare global_variable global_object global_as global objects
 elements_declared k at = rw (array_is (with_sum (size_of (suc k))).scope k (at 15) nothing) refl
 
 -- the worker, by its body
@@ -196,13 +164,8 @@ behind_worker size f = file (outside (names_with_worker size) (worker_header ∷
 pub worker_declared : (size : ℕ) (at : ℕ → ℕ) (body : Block) (b : Statement) →
     block_declarators body ≡ 5 → slots_end b ≡ 0 → items body (state (with_argument size) nothing) ≡ Outcome.Gives b (state (worker_scope size) nothing) →
     declares (tr.worker_by at (Some body)) (behind_objects size) ≡ Outcome.Gives tt (behind_worker size (worker_function b (out-Block body).close))
-unfolding first function_named look_up is_taken declaring opened closed base_of pieces_from library_place library_name constant object_value
-    named_value operated converted place_value cast terms_value target object_at object_named routine value_argument value_arguments null_argument
-    pointer_value pointer_argument object_place address_argument thread_argument routine_argument created create create_call join join_call mutex_init
-    mutex_init_call object_statement object_call print_arguments print_call library_statement library_call call_of call right_value right_side
-    declare_function parameter_meaning parameter parameters definition head function_by function global_variable global_object global_as global
-    objects length_from array_length new_local local declare initialised_by initialised declarator declaration compound_by assigned compound step
-    simple returned check_jump loop_body for_head for_loop
+unfolding function_named is_taken declaring opened closed base_of dimensions new_local declare declare_function parameter_meaning parameter parameters
+    definition head function_by function
 worker_declared size at body b from none h = rw from (rw h (rw from (rw none refl)))
 
 -- ---- main, by its body
@@ -224,6 +187,7 @@ in_main size inner locals names = record {
   locals = locals;
   local_names = names;
   loops = 0;
+  exits = 0;
   kept_from = 1;
 }
 
@@ -252,11 +216,6 @@ behind_main size worker f found = file (outside (names_with_main size) (worker_h
 pub main_declared : (size : ℕ) (at : ℕ → ℕ) (worker : Function) (body : Block) (b : Statement) (found : Findings) →
     block_declarators body ≡ 1 → slots_end b ≡ 0 → items body (state (main_begins size) nothing) ≡ Outcome.Gives b (state (main_scope size) found) →
     declares (tr.main_by at (Some body)) (behind_worker size worker) ≡ Outcome.Gives tt (behind_main size worker (main_function b (out-Block body).close) found)
-unfolding first function_named look_up is_taken declaring opened closed base_of pieces_from library_place library_name constant object_value
-    named_value operated converted place_value cast terms_value target object_at object_named routine value_argument value_arguments null_argument
-    pointer_value pointer_argument object_place address_argument thread_argument routine_argument created create create_call join join_call mutex_init
-    mutex_init_call object_statement object_call print_arguments print_call library_statement library_call call_of call right_value right_side
-    declare_function parameter_meaning parameter parameters definition head function_by function global_variable global_object global_as global
-    objects length_from new_local local declare initialised_by initialised declarator declaration compound_by assigned compound step simple returned
-    check_jump loop_body for_head for_loop
+unfolding function_named is_taken declaring opened closed base_of dimensions new_local declare declare_function parameter_meaning parameter parameters
+    definition head function_by function
 main_declared size at worker body b found from none h = rw from (rw h (rw from (rw none refl)))

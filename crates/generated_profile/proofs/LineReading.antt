@@ -13,8 +13,8 @@ use Rattle.c_tree.specs.declared.statement.BlockItem.{BlockItem}
 use Rattle.c_tree.specs.Tokens.{same_keyword, same_punctuator}
 use Rattle.c_reading.specs.Tokens.{Reads, begins_item, expect, read_name, read_constant}
 use Rattle.c_reading.specs.Tokens.{read_unary_operator, read_operator}
-use Rattle.c_reading.specs.Tokens.{read_assignment_operator, read_next, read_more, read_listed, read_any}
-use Rattle.c_reading.specs.Expressions.{read_term, read_binary, read_parenthesized, read_index, read_optional_index, read_place, read_arguments}
+use Rattle.c_reading.specs.Tokens.{read_assignment_operator, read_next, read_more, read_listed, read_any, read_at_most}
+use Rattle.c_reading.specs.Expressions.{read_term, read_binary, read_parenthesized, read_index, read_indices, read_place, read_arguments}
 use Rattle.c_reading.specs.Expressions.{read_address, read_any_argument, read_place_of, read_named, read_primary, read_unary}
 use Rattle.c_reading.specs.Expressions.{read_converted, read_operand, read_whole, read_cast, read_expr, read_target, read_argument}
 use Rattle.c_reading.specs.Statements.{read_called, read_assigned, read_changed, read_on_name, read_simple, read_simple_statement, read_plain}
@@ -56,7 +56,7 @@ tokens_of at k x y z = placed 0 at (kinds (statement_in_line k x y z))
 module _ (at : ℕ → ℕ) (x y z : Letter) where
   sum_reads : (more : List Token) → item (tokens_of at Sum x y z ++ more) ≡ Ok (operation_item b.Add at x y z, more)
   unfolding same_keyword same_punctuator expect read_name read_constant read_unary_operator read_operator read_assignment_operator read_next read_more
-      read_listed read_any read_term read_binary read_parenthesized read_index read_optional_index read_place read_arguments read_address
+      read_listed read_any read_term read_binary read_parenthesized read_index read_at_most read_indices read_place read_arguments read_address
       read_any_argument read_place_of read_named read_primary read_unary read_converted read_operand read_whole read_cast read_expr read_target
       read_argument read_called read_assigned read_changed read_on_name read_simple read_simple_statement read_plain read_condition
       read_statement_item read_item read_block read_block_statement read_other read_branch read_compound read_any_statement read_statement reads_many
@@ -65,7 +65,7 @@ module _ (at : ℕ → ℕ) (x y z : Letter) where
 
   difference_reads : (more : List Token) → item (tokens_of at Difference x y z ++ more) ≡ Ok (operation_item b.Subtract at x y z, more)
   unfolding same_keyword same_punctuator expect read_name read_constant read_unary_operator read_operator read_assignment_operator read_next read_more
-      read_listed read_any read_term read_binary read_parenthesized read_index read_optional_index read_place read_arguments read_address
+      read_listed read_any read_term read_binary read_parenthesized read_index read_at_most read_indices read_place read_arguments read_address
       read_any_argument read_place_of read_named read_primary read_unary read_converted read_operand read_whole read_cast read_expr read_target
       read_argument read_called read_assigned read_changed read_on_name read_simple read_simple_statement read_plain read_condition
       read_statement_item read_item read_block read_block_statement read_other read_branch read_compound read_any_statement read_statement reads_many
@@ -74,7 +74,7 @@ module _ (at : ℕ → ℕ) (x y z : Letter) where
 
   product_reads : (more : List Token) → item (tokens_of at Product x y z ++ more) ≡ Ok (operation_item b.Multiply at x y z, more)
   unfolding same_keyword same_punctuator expect read_name read_constant read_unary_operator read_operator read_assignment_operator read_next read_more
-      read_listed read_any read_term read_binary read_parenthesized read_index read_optional_index read_place read_arguments read_address
+      read_listed read_any read_term read_binary read_parenthesized read_index read_at_most read_indices read_place read_arguments read_address
       read_any_argument read_place_of read_named read_primary read_unary read_converted read_operand read_whole read_cast read_expr read_target
       read_argument read_called read_assigned read_changed read_on_name read_simple read_simple_statement read_plain read_condition
       read_statement_item read_item read_block read_block_statement read_other read_branch read_compound read_any_statement read_statement reads_many
@@ -83,7 +83,7 @@ module _ (at : ℕ → ℕ) (x y z : Letter) where
 
   exclusive_or_reads : (more : List Token) → item (tokens_of at ExclusiveOr x y z ++ more) ≡ Ok (operation_item b.BitXor at x y z, more)
   unfolding same_keyword same_punctuator expect read_name read_constant read_unary_operator read_operator read_assignment_operator read_next read_more
-      read_listed read_any read_term read_binary read_parenthesized read_index read_optional_index read_place read_arguments read_address
+      read_listed read_any read_term read_binary read_parenthesized read_index read_at_most read_indices read_place read_arguments read_address
       read_any_argument read_place_of read_named read_primary read_unary read_converted read_operand read_whole read_cast read_expr read_target
       read_argument read_called read_assigned read_changed read_on_name read_simple read_simple_statement read_plain read_condition
       read_statement_item read_item read_block read_block_statement read_other read_branch read_compound read_any_statement read_statement reads_many
@@ -92,7 +92,7 @@ module _ (at : ℕ → ℕ) (x y z : Letter) where
 
   quotient_reads : (more : List Token) → item (tokens_of at Quotient x y z ++ more) ≡ Ok (quotient_item at x y z, more)
   unfolding same_keyword same_punctuator expect read_name read_constant read_unary_operator read_operator read_assignment_operator read_next read_more
-      read_listed read_any read_term read_binary read_parenthesized read_index read_optional_index read_place read_arguments read_address
+      read_listed read_any read_term read_binary read_parenthesized read_index read_at_most read_indices read_place read_arguments read_address
       read_any_argument read_place_of read_named read_primary read_unary read_converted read_operand read_whole read_cast read_expr read_target
       read_argument read_called read_assigned read_changed read_on_name read_simple read_simple_statement read_plain read_condition
       read_statement_item read_item read_block read_block_statement read_other read_branch read_compound read_any_statement read_statement reads_many
@@ -101,7 +101,7 @@ module _ (at : ℕ → ℕ) (x y z : Letter) where
 
   publish_reads : (more : List Token) → item (tokens_of at Publish x y z ++ more) ≡ Ok (publish_item at x, more)
   unfolding same_keyword same_punctuator expect read_name read_constant read_unary_operator read_operator read_assignment_operator read_next read_more
-      read_listed read_any read_term read_binary read_parenthesized read_index read_optional_index read_place read_arguments read_address
+      read_listed read_any read_term read_binary read_parenthesized read_index read_at_most read_indices read_place read_arguments read_address
       read_any_argument read_place_of read_named read_primary read_unary read_converted read_operand read_whole read_cast read_expr read_target
       read_argument read_called read_assigned read_changed read_on_name read_simple read_simple_statement read_plain read_condition
       read_statement_item read_item read_block read_block_statement read_other read_branch read_compound read_any_statement read_statement reads_many
@@ -112,7 +112,7 @@ module _ (at : ℕ → ℕ) (x y z : Letter) where
       item (tokens_of at Raise x y z ++ (record { kind = kind.Name w; offset = o } ∷ rest))
       ≡ Ok (raise_item at x y z, record { kind = kind.Name w; offset = o } ∷ rest)
   unfolding same_keyword same_punctuator expect read_name read_constant read_unary_operator read_operator read_assignment_operator read_next read_more
-      read_listed read_any read_term read_binary read_parenthesized read_index read_optional_index read_place read_arguments read_address
+      read_listed read_any read_term read_binary read_parenthesized read_index read_at_most read_indices read_place read_arguments read_address
       read_any_argument read_place_of read_named read_primary read_unary read_converted read_operand read_whole read_cast read_expr read_target
       read_argument read_called read_assigned read_changed read_on_name read_simple read_simple_statement read_plain read_condition
       read_statement_item read_item read_block read_block_statement read_other read_branch read_compound read_any_statement read_statement reads_many
@@ -123,7 +123,7 @@ module _ (at : ℕ → ℕ) (x y z : Letter) where
       item (tokens_of at Raise x y z ++ (record { kind = kind.Keyword k.If; offset = o } ∷ rest))
       ≡ Ok (raise_item at x y z, record { kind = kind.Keyword k.If; offset = o } ∷ rest)
   unfolding same_keyword same_punctuator expect read_name read_constant read_unary_operator read_operator read_assignment_operator read_next read_more
-      read_listed read_any read_term read_binary read_parenthesized read_index read_optional_index read_place read_arguments read_address
+      read_listed read_any read_term read_binary read_parenthesized read_index read_at_most read_indices read_place read_arguments read_address
       read_any_argument read_place_of read_named read_primary read_unary read_converted read_operand read_whole read_cast read_expr read_target
       read_argument read_called read_assigned read_changed read_on_name read_simple read_simple_statement read_plain read_condition
       read_statement_item read_item read_block read_block_statement read_other read_branch read_compound read_any_statement read_statement reads_many
@@ -146,7 +146,7 @@ module _ (at : ℕ → ℕ) (x y z : Letter) where
 
   lock_reads : (more : List Token) → item (tokens_of at Add x y z ++ more) ≡ Ok (lock_item at, adding (unlocking more))
   unfolding same_keyword same_punctuator expect read_name read_constant read_unary_operator read_operator read_assignment_operator read_next read_more
-      read_listed read_any read_term read_binary read_parenthesized read_index read_optional_index read_place read_arguments read_address
+      read_listed read_any read_term read_binary read_parenthesized read_index read_at_most read_indices read_place read_arguments read_address
       read_any_argument read_place_of read_named read_primary read_unary read_converted read_operand read_whole read_cast read_expr read_target
       read_argument read_called read_assigned read_changed read_on_name read_simple read_simple_statement read_plain read_condition
       read_statement_item read_item read_block read_block_statement read_other read_branch read_compound read_any_statement read_statement reads_many
@@ -155,7 +155,7 @@ module _ (at : ℕ → ℕ) (x y z : Letter) where
 
   add_reads : (more : List Token) → item (adding more) ≡ Ok (add_item at x, more)
   unfolding same_keyword same_punctuator expect read_name read_constant read_unary_operator read_operator read_assignment_operator read_next read_more
-      read_listed read_any read_term read_binary read_parenthesized read_index read_optional_index read_place read_arguments read_address
+      read_listed read_any read_term read_binary read_parenthesized read_index read_at_most read_indices read_place read_arguments read_address
       read_any_argument read_place_of read_named read_primary read_unary read_converted read_operand read_whole read_cast read_expr read_target
       read_argument read_called read_assigned read_changed read_on_name read_simple read_simple_statement read_plain read_condition
       read_statement_item read_item read_block read_block_statement read_other read_branch read_compound read_any_statement read_statement reads_many
@@ -164,7 +164,7 @@ module _ (at : ℕ → ℕ) (x y z : Letter) where
 
   unlock_reads : (more : List Token) → item (unlocking more) ≡ Ok (unlock_item at, more)
   unfolding same_keyword same_punctuator expect read_name read_constant read_unary_operator read_operator read_assignment_operator read_next read_more
-      read_listed read_any read_term read_binary read_parenthesized read_index read_optional_index read_place read_arguments read_address
+      read_listed read_any read_term read_binary read_parenthesized read_index read_at_most read_indices read_place read_arguments read_address
       read_any_argument read_place_of read_named read_primary read_unary read_converted read_operand read_whole read_cast read_expr read_target
       read_argument read_called read_assigned read_changed read_on_name read_simple read_simple_statement read_plain read_condition
       read_statement_item read_item read_block read_block_statement read_other read_branch read_compound read_any_statement read_statement reads_many

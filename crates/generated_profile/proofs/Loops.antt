@@ -28,7 +28,7 @@ module _ (s : Scope) (x u : SimpleStatement) (e : ExpressionTree) (i : BlockItem
   abbrev adds : List Statement → Outcome State Statement → Outcome State (List Statement)
   adds steps r = and_then r (λ step. pure (steps ++ (step ∷ [])))
 
-  pub loop_step : (steps : List Statement) → simple (opened s) x found ≡ Outcome.Gives a found → condition (opened s) e found ≡ Outcome.Gives c found →
+  pub loop_step : (steps : List Statement) → simple (opened s) x found ≡ Outcome.Gives a found → condition (opened s) e (opened s).kept_from found ≡ Outcome.Gives c found →
       simple (opened s) u found ≡ Outcome.Gives v found → item i [] (state (opened inner) found) ≡ Outcome.Gives (d ∷ []) (state (opened inner) after) →
       closed (opened inner) ≡ inner → shallower inner ≡ opened s → closed (opened s) ≡ s →
       item (block_item.Statement (st.For (start.Simple x) (Some e) (Some u) (st.Block (tree.block (i ∷ []) close)))) steps (state s found)

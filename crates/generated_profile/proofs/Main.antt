@@ -2,8 +2,6 @@
 use Rattle.std.proofs.Common.{◌≡◌, ℕ, List, [], ◌∷◌, ◌++◌, Some, None, refl, ap, ◌∙◌}
 use Rattle.std.specs.Prelude.{codes, cond, is_none}
 use Rattle.hls_ints.specs.Types.{int_type}
-use Rattle.c_token.specs.declared.constant.ConstantType.TheVariants.{Int as IntConstant}
-use Rattle.c_token.specs.declared.constant.Constant.TheVariants.{Typed}
 use Rattle.c_tree.specs.declared.expression.BinaryOperator.TheVariants as b
 use Rattle.c_tree.specs.declared.expression.Argument.{Argument as ArgumentTree}
 use Rattle.c_tree.specs.declared.expression.Argument.TheVariants as argument
@@ -15,7 +13,7 @@ use Rattle.c_tree.specs.declared.expression.Expression.{Expression as Expression
 use Rattle.c_tree.specs.declared.expression.Form.{Form}
 use Rattle.c_tree.specs.declared.expression.Form.TheVariants as form
 use Rattle.c_tree.specs.declared.expression.Term.{Term}
-use Rattle.c_tree.specs.declared.expression.Argument.TheOpen.{Form-F, Pointer-F}
+use Rattle.c_tree.specs.declared.expression.Argument.TheOpen.{Pointer-F}
 use Rattle.c_tree.specs.declared.statement.AssignmentOperator.TheVariants.{Set}
 use Rattle.c_tree.specs.declared.statement.SimpleStatement.{SimpleStatement}
 use Rattle.c_tree.specs.declared.statement.BlockItem.TheVariants as block_item
@@ -28,20 +26,18 @@ use Rattle.c_rules.specs.declared.specifiers.BasicType.TheVariants.{Int}
 use Rattle.c_rules.specs.declared.findings.Findings.{Findings}
 use Rattle.c_rules.specs.declared.library.LibraryFunction.TheVariants as library
 use Rattle.c_rules.specs.declared.names.ObjectKind.TheVariants.{Thread, Mutex}
+use Rattle.c_rules.specs.declared.dimensions.Dimensions.TheVariants.{Scalar, One}
 use Rattle.c_rules.specs.declared.names.Meaning.{Meaning}
 use Rattle.c_rules.specs.declared.names.Meaning.TheVariants as meaning
 use Rattle.c_rules.specs.declared.names.Known.TheVariants as known
 use Rattle.c_rules.specs.declared.names.Scope.{Scope}
 use Rattle.c_rules.specs.Names.{look_up}
-use Rattle.c_rules.specs.Walks.{Outcome, and_then, pure, place_in_tree, ◌>>=◌, ◌>>◌}
-use Rattle.c_expressions.specs.Expressions.{value, named_value, object_value, operated}
-use Rattle.c_expressions.specs.Targets.{target}
+use Rattle.c_rules.specs.Walks.{Outcome, and_then, pure, place_in_tree, ◌>>◌}
+use Rattle.c_expressions.specs.Cuts.{Cut, free_from}
 use Rattle.c_expressions.specs.Callees.{library_name, library_place}
-use Rattle.c_calls.specs.Arguments.{ArgumentLayer, address_argument, object_named, object_at, null_argument, is_null_in, refused}
-use Rattle.c_calls.specs.Cuts.{Cut}
-use Rattle.c_resolution.specs.Sequences.{behind_cuts}
-use Rattle.c_calls.specs.Calls.{right_side, call_of, library_call, library_statement, object_call, object_statement, mutex_init, mutex_init_call}
-use Rattle.c_resolution.specs.Simple.{simple, assigned, step, updated}
+use Rattle.c_calls.specs.Arguments.{ArgumentLayer, null_argument, is_null_in, refused}
+use Rattle.c_calls.specs.Calls.{thread_call, call_of, library_call, library_statement, object_call, object_statement, mutex_init, mutex_init_call}
+use Rattle.c_resolution.specs.Simple.{simple, step, updated}
 use Rattle.c_resolution.specs.States.{state, in_scope}
 use Rattle.c_resolution.specs.Statements.{Adds, item, with_step}
 use Rattle.generated_profile.proofs.Trees as tr
@@ -58,14 +54,14 @@ abbrev pub counter_place : Place
 counter_place = Place.Scalar Automatic 0 int_type
 
 abbrev pub threads : ℕ → Meaning
-threads size = meaning.Object (record { kind = Thread; number = 0; length = Some size })
+threads size = node.object Thread 0 (Some size)
 
 -- the names mean what they mean in main
 pub record MainMeans (s : Scope) (size : ℕ) : Type 0 where
   pub i : look_up s (codes "i") ≡ known.Declared (word.automatic 0 Int)
   pub threads_are : look_up s (codes "t") ≡ known.Declared (threads size)
-  pub elements : look_up s (codes "g") ≡ known.Declared (word.static 1 (Some size))
-  pub total : look_up s (codes "s") ≡ known.Declared (word.static 0 None)
+  pub elements : look_up s (codes "g") ≡ known.Declared (word.static 1 (One size))
+  pub total : look_up s (codes "s") ≡ known.Declared (word.static 0 Scalar)
   pub mutex : look_up s (codes "m") ≡ known.Declared word.lock_place
   pub init : look_up s (codes "pthread_mutex_init") ≡ known.Library library.MutexInit
   pub destroy : look_up s (codes "pthread_mutex_destroy") ≡ known.Library library.MutexDestroy
@@ -81,44 +77,36 @@ module _ (s : Scope) (size : ℕ) (found : Findings) (means : MainMeans s size) 
       ap (λ (a : Adds). a steps (state s found)) (node.statement_item (st.Simple x) ∙ ap with_step (node.simple_statement x))
       ∙ ap (λ (r : Outcome Findings Statement). and_then (in_scope s r) (λ step. pure (steps ++ (step ∷ [])))) h
 
-  pub counter_gives : (o : ℕ) → value s (tr.variable (tr.named (codes "i") o)) found ≡ Outcome.Gives counter found
-  unfolding named_value object_value
-  counter_gives o = node.variable_value s (tr.named (codes "i") o) found ∙ ap (λ k. named_value k o None found) means.i
+  pub counter_gives : (o : ℕ) → node.IsValue s (tr.variable (tr.named (codes "i") o)) found counter
+  counter_gives o = node.variable_value s (tr.named (codes "i") o) Automatic 0 Int found means.i
 
-  counter_target : (o : ℕ) → target s (tr.alone (tr.named (codes "i") o)) found ≡ Outcome.Gives counter_place found
-  counter_target o = node.target_alone s (tr.named (codes "i") o) (known.Declared (word.automatic 0 Int)) found means.i refl
+  counter_target : (o : ℕ) → node.IsTarget s (tr.alone (tr.named (codes "i") o)) found counter_place
+  counter_target o = node.target_alone s (tr.named (codes "i") o) Automatic 0 Int found means.i
 
   -- i = 0
   pub starts : (o p : ℕ) → simple s (tr.changed o (tr.alone (tr.named (codes "i") o)) Set (tr.constant 0 p)) found
       ≡ Outcome.Gives (Statement.Assign (place_in_tree o) counter_place (word.int_number 0)) found
-  unfolding simple assigned
   starts o p =
-      ap (λ (r : Outcome Findings Place). and_then r (λ q. (right_side s (place_in_tree o) s.kept_from (tr.constant 0 p)
-      >>= (λ right. pure (behind_cuts right.before (Statement.Assign (place_in_tree o) q right.rest)))))) (counter_target o)
-      ∙ ap (λ (r : Outcome Findings Cut). and_then r (λ right. pure (behind_cuts right.before (Statement.Assign (place_in_tree o) counter_place right.rest))))
-      (node.right_of s (place_in_tree o) s.kept_from p (form.Constant (Typed 0 IntConstant) p) (Form-F.Constant (Typed 0 IntConstant) p) (word.int_number 0) found
-      (form.outs-Constant (Typed 0 IntConstant) p) refl (node.constant_value s 0 p found))
+      node.assigns s found o (tr.alone (tr.named (codes "i") o)) (tr.constant 0 p) counter_place (word.int_number 0) (counter_target o) (node.constant_value s 0 p found)
 
   -- i++
   pub steps_up : (o : ℕ) → simple s (tr.stepped o (tr.alone (tr.named (codes "i") o))) found
       ≡ Outcome.Gives (Statement.Update (place_in_tree o) counter_place operator.Add int_type (word.int_number 1)) found
   unfolding simple step
-  steps_up o = ap (λ (r : Outcome Findings Place). and_then r (λ p. pure (updated o p operator.Add (word.int_number 1)))) (counter_target o)
+  steps_up o =
+      ap (λ (r : Outcome Findings (Cut Place)). and_then r (λ p. pure (updated o p operator.Add (word.int_number 1)))) (counter_target o (place_in_tree o) (free_from s.kept_from))
 
   -- i < t
-  pub below : (k : ℕ) (at : ℕ → ℕ) (n : ℕ) → value s (tree.expression (at 0) (form.Binary (tr.variable (tr.named (codes "i") (at 0)))
-      (tree.term (b.Less, at 1) (tr.constant k (at 2)) ∷ []))) found
-      ≡ Outcome.Gives (Expression.Binary operator.Less int_type counter (word.int_number k)) found
-  unfolding operated
-  below k at n =
+  pub below : (k : ℕ) (at : ℕ → ℕ) → node.IsValue s (tree.expression (at 0) (form.Binary (tr.variable (tr.named (codes "i") (at 0)))
+      (tree.term (b.Less, at 1) (tr.constant k (at 2)) ∷ []))) found (Expression.Binary operator.Less int_type counter (word.int_number k))
+  below k at =
       node.between_value s (at 0) (at 1) b.Less (tr.variable (tr.named (codes "i") (at 0))) (tr.constant k (at 2)) counter (word.int_number k)
-      (Expression.Binary operator.Less int_type counter (word.int_number k)) found (counter_gives (at 0)) (node.constant_value s k (at 2) found) refl
+      (Expression.Binary operator.Less int_type counter (word.int_number k)) found refl (counter_gives (at 0)) (node.constant_value s k (at 2) found) refl
 
   -- ---- the mutex
 
-  mutex_address : (o at : ℕ) → address_argument s Mutex (argument.Address (tr.alone (tr.named (codes "m") o)) at) found ≡ Outcome.Gives (ObjectPlace.Single 0) found
-  unfolding object_named object_at
-  mutex_address o at = node.address_alone s Mutex (tr.named (codes "m") o) at found ∙ ap (λ k. object_named Mutex k o at None found) means.mutex
+  mutex_address : (o at : ℕ) → node.IsAddress s Mutex (argument.Address (tr.alone (tr.named (codes "m") o)) at) found (ObjectPlace.Single 0)
+  mutex_address o at = node.mutex_address s (tr.named (codes "m") o) 0 at found means.mutex
 
   pub null_is : (o : ℕ) → null_argument s (argument.Pointer (tree.null o)) found ≡ Outcome.Gives tt found
   unfolding null_argument
@@ -133,7 +121,8 @@ module _ (s : Scope) (size : ℕ) (found : Findings) (means : MainMeans s size) 
       let a : ArgumentTree = argument.Address (tr.alone (tr.named (codes "m") (at 114))) (at 113) in
       simple_item (tr.called (tr.named (codes "pthread_mutex_destroy") (at 111)) (at 111) (a ∷ [])) _ steps
       (node.call_is s (place_in_tree (at 111)) (tr.named (codes "pthread_mutex_destroy") (at 111)) (a ∷ []) (known.Library library.MutexDestroy) found means.destroy
-      ∙ ap (λ (r : Outcome Findings ObjectPlace). and_then r (λ q. pure (Statement.Thread (place_in_tree (at 111)) (ThreadCall.MutexDestroy q)))) (mutex_address (at 114) (at 113)))
+      ∙ ap (λ (r : Outcome Findings (Cut ObjectPlace)). and_then r (λ q. pure (thread_call (place_in_tree (at 111)) q.cuts (ThreadCall.MutexDestroy q.rest))))
+      (mutex_address (at 114) (at 113) (place_in_tree (at 111)) (free_from s.kept_from)))
 
   pub init_step : (at : ℕ → ℕ) (steps : List Statement) → item (tr.init_item at) steps (state s found)
       ≡ Outcome.Gives (steps ++ (Statement.Thread (place_in_tree (at 9)) (ThreadCall.MutexInit (ObjectPlace.Single 0)) ∷ [])) (state s found)
@@ -143,6 +132,6 @@ module _ (s : Scope) (size : ℕ) (found : Findings) (means : MainMeans s size) 
       let n : ArgumentTree = argument.Pointer (tree.null (at 14)) in
       simple_item (tr.called (tr.named (codes "pthread_mutex_init") (at 9)) (at 9) (a ∷ n ∷ [])) _ steps
       (node.call_is s (place_in_tree (at 9)) (tr.named (codes "pthread_mutex_init") (at 9)) (a ∷ n ∷ []) (known.Library library.MutexInit) found means.init
-      ∙ ap (λ (r : Outcome Findings ObjectPlace). and_then r (λ q. (null_argument s n >> pure (Statement.Thread (place_in_tree (at 9)) (ThreadCall.MutexInit q)))))
-      (mutex_address (at 12) (at 11))
+      ∙ ap (λ (r : Outcome Findings (Cut ObjectPlace)). and_then r (λ q. (null_argument s n >> pure (thread_call (place_in_tree (at 9)) q.cuts (ThreadCall.MutexInit q.rest)))))
+      (mutex_address (at 12) (at 11) (place_in_tree (at 9)) (free_from s.kept_from))
       ∙ ap (λ (r : Outcome Findings (Unit {0})). and_then r (λ u. pure (Statement.Thread (place_in_tree (at 9)) (ThreadCall.MutexInit (ObjectPlace.Single 0))))) (null_is (at 14)))

@@ -1,22 +1,12 @@
 -- What the body of the main function of a generated text stands for.
-use Rattle.std.proofs.Common.{◌≡◌, ℕ, List, [], ◌∷◌, ◌++◌, map, Some, None, true, refl, sym, ap, ◌∙◌}
-use Rattle.std.specs.Prelude.{codes, fold, not, ◌&&◌, ◌+◌, take, drop, slice_get, Option}
+use Rattle.std.proofs.Common.{◌≡◌, ℕ, List, [], ◌∷◌, ◌++◌, map, Some, None, refl, ap, ◌∙◌}
+use Rattle.std.specs.Prelude.{codes, fold, not, ◌+◌, take, drop, slice_get}
 use Rattle.hls_ints.specs.Types.{int_type, unsigned_int, long_int}
-use Rattle.c_token.specs.declared.constant.ConstantType.TheVariants.{Int as IntConstant}
-use Rattle.c_token.specs.declared.constant.Constant.TheVariants.{Typed}
 use Rattle.c_tree.specs.declared.expression.BinaryOperator.TheVariants as b
 use Rattle.c_tree.specs.declared.expression.Argument.{Argument as ArgumentTree}
 use Rattle.c_tree.specs.declared.expression.Argument.TheVariants as argument
-use Rattle.c_tree.specs.declared.expression.Argument.TheOpen.{Argument-F, Form-F, Term-F}
-use Rattle.c_tree.specs.declared.expression.Argument.TheFolds.{fold-roll-Argument}
-use Rattle.c_tree.specs.declared.expression.Call.{Call as CallTree}
-use Rattle.c_tree.specs.declared.expression.Choice.{Choice as ChoiceTree}
-use Rattle.c_tree.specs.declared.expression.Pointer.{Pointer as PointerTree}
-use Rattle.c_tree.specs.declared.expression.Place.{Place as PlaceTree}
 use Rattle.c_tree.specs.declared.expression.Expression.{Expression as ExpressionTree}
-use Rattle.c_tree.specs.declared.expression.Form.{Form}
 use Rattle.c_tree.specs.declared.expression.Form.TheVariants as form
-use Rattle.c_tree.specs.declared.expression.Term.{Term, out-roll-Term}
 use Rattle.c_tree.specs.declared.expression.TypeWord.TheVariants as w
 use Rattle.c_tree.specs.declared.statement.AssignmentOperator.TheVariants.{Set}
 use Rattle.c_tree.specs.declared.statement.SimpleStatement.{SimpleStatement}
@@ -41,19 +31,17 @@ use Rattle.c_rules.specs.Formats.{pieces_from}
 use Rattle.c_rules.specs.Library.{function_named}
 use Rattle.c_rules.specs.Names.{look_up, is_taken, declaring, opened, closed}
 use Rattle.c_rules.specs.Specifiers.{base_of}
-use Rattle.c_rules.specs.Walks.{Finds, Outcome, and_then, pure, finds_if, place_in_tree, ◌>>=◌, ◌>>◌}
-use Rattle.c_expressions.specs.Expressions.{Operand, Looked, Formed, Called, Meant, Placed, value, condition, argument as looked_argument}
-use Rattle.c_expressions.specs.Expressions.{named_value, object_value, is_short_circuit}
-use Rattle.c_expressions.specs.Expressions.{argument_step, form_step, call_step, choice_step, expression_step, place_step, pointer_step, term_step}
+use Rattle.c_rules.specs.Walks.{Outcome, and_then, pure, finds_if, place_in_tree, ◌>>=◌, ◌>>◌}
+use Rattle.c_rules.specs.declared.specifiers.BasicType.TheVariants.{UnsignedInt}
+use Rattle.c_expressions.specs.Cuts.{Cuts, Cut, free_from}
+use Rattle.c_expressions.specs.Expressions.{value, condition, argument_offset, looked_argument, all_passed}
 use Rattle.c_expressions.specs.Callees.{library_name, library_place}
-use Rattle.c_expressions.proofs.ConditionLemmas.{condition-other}
-use Rattle.c_calls.specs.Arguments.{ArgumentLayer, argument_offset, value_arguments, value_argument, value_in}
-use Rattle.c_calls.specs.Cuts.{Cut}
-use Rattle.c_calls.specs.Calls.{call_of, library_call, library_statement, print_call, print_arguments, format_in, takes, printed, right_side}
-use Rattle.c_resolution.specs.Simple.{simple, returned, may_return}
+use Rattle.c_calls.specs.Arguments.{ArgumentLayer}
+use Rattle.c_calls.specs.Calls.{call_of, library_call, library_statement, print_call, print_arguments, format_in, takes, printed}
+use Rattle.c_resolution.specs.Simple.{simple, returned, may_return, given_back}
 use Rattle.c_resolution.specs.States.{State, state, in_scope}
-use Rattle.c_resolution.specs.Locals.{declaration, declarator, local, new_local, declare}
-use Rattle.c_resolution.specs.Sequences.{sequence, behind_cuts}
+use Rattle.c_resolution.specs.Locals.{declaration, declarator, dimensions, local, new_local, declare}
+use Rattle.c_resolution.specs.Sequences.{sequence}
 use Rattle.c_resolution.specs.Statements.{Adds, item, items, with_step, deeper}
 use Rattle.generated_profile.proofs.Trees as tr
 use Rattle.generated_profile.proofs.Layers as node
@@ -64,9 +52,6 @@ use Rattle.generated_profile.proofs.MainCalls.{create_tree, join_tree, create_is
 use Rattle.generated_profile.proofs.Scopes.{worker_header}
 use Rattle.generated_profile.proofs.Declaring.{main_begins, main_scope}
 
-abbrev TermLayer : Type 0
-TermLayer = Term-F ArgumentTree Form CallTree ChoiceTree ExpressionTree PlaceTree PointerTree Term
-
 -- "%u\n"
 abbrev pub number_pieces : List Piece
 number_pieces = Piece.Conversion unsigned_int ∷ Piece.Text (10 ∷ []) ∷ []
@@ -75,43 +60,30 @@ abbrev format_text : List ℕ
 format_text = codes "%u\\n"
 
 module _ (s : Scope) (size : ℕ) (found : Findings) (means : MainMeans s size) where
-  text_is : (o : ℕ) → looked_argument s (argument.Text format_text o) found ≡ Outcome.Gives tt found
-  text_is o =
-      ap (λ a. looked_argument s a found) (sym (argument.rolls-Text format_text o))
-      ∙ ap (λ (w : Looked). w found) (fold-roll-Argument Looked Formed Called Looked Meant Placed Looked Operand (argument_step s) (form_step s) (call_step s) (choice_step s)
-      (expression_step s) (place_step s) (pointer_step s) (term_step s) (Argument-F.Text format_text o))
-
-  one_value : (e : ExpressionTree) (v : Expression) → value s e found ≡ Outcome.Gives v found →
-      value_arguments s (argument.Value e ∷ []) found ≡ Outcome.Gives (v ∷ []) found
-  unfolding value_arguments value_argument
-  one_value e v h =
-      ap (λ (l : ArgumentLayer). and_then (value_in s (argument.Value e) l found) (λ a. pure (a ∷ []))) (argument.outs-Value e)
-      ∙ ap (λ (r : Outcome Findings Expression). and_then r (λ a. pure (a ∷ []))) h
-
   -- printf("%u\n", e);
-  print_is : (o p : ℕ) (e : ExpressionTree) (v : Expression) → value s e found ≡ Outcome.Gives v found →
+  print_is : (o p : ℕ) (e : ExpressionTree) (v : Expression) → node.IsValue s e found v →
       simple s (tr.called (tr.named (codes "printf") o) o (argument.Text format_text p ∷ argument.Value e ∷ [])) found
       ≡ Outcome.Gives (Statement.Print (place_in_tree o) number_pieces (v ∷ [])) found
   unfolding simple call_of library_call library_name library_place library_statement print_call print_arguments pieces_from
   print_is o p e v h =
       let t : ArgumentTree = argument.Text format_text p in
       let q : ℕ = place_in_tree o in
+      let no_cuts : Cuts = free_from s.kept_from in
       node.call_is s q (tr.named (codes "printf") o) (t ∷ argument.Value e ∷ []) (known.Library library.Print) found means.print
       ∙ ap (λ (l : ArgumentLayer). and_then (finds_if (not (takes (format_in l) 1)) rule.Format (argument_offset t) found)
-      (λ u. (looked_argument s t >> (value_arguments s (argument.Value e ∷ []) >>= (λ x. pure (printed q (format_in l) x)))))) (argument.outs-Text format_text p)
-      ∙ ap (λ (r : Outcome Findings (Unit {0})). and_then r (λ u. (value_arguments s (argument.Value e ∷ []) >>= (λ x. pure (Statement.Print q number_pieces x))))) (text_is p)
-      ∙ ap (λ (r : Outcome Findings (List Expression)). and_then r (λ x. pure (Statement.Print q number_pieces x))) (one_value e v h)
+      (λ u. (looked_argument s t >> (all_passed s (argument.Value e ∷ []) q no_cuts >>= (λ x. pure (printed q (format_in l) x)))))) (argument.outs-Text format_text p)
+      ∙ ap (λ (r : Outcome Findings (Unit {0})). and_then r
+      (λ u. (all_passed s (argument.Value e ∷ []) q no_cuts >>= (λ x. pure (printed q (Some number_pieces) x))))) (node.text_looked s format_text p found)
+      ∙ ap (λ (r : Outcome Findings (Cut (List Expression))). and_then r (λ x. pure (printed q (Some number_pieces) x))) (node.one_passed s e v found h q no_cuts)
 
-  element_gives : (o p : ℕ) → value s (tree.expression o (form.Place (tree.place (tr.named (codes "g") o) (Some (tr.variable (tr.named (codes "i") p)))))) found
-      ≡ Outcome.Gives (Expression.Element Static 1 size unsigned_int counter) found
-  unfolding named_value object_value
+  element_gives : (o p : ℕ) → node.IsValue s (tree.expression o (form.Place (tree.place (tr.named (codes "g") o) (tr.variable (tr.named (codes "i") p) ∷ [])))) found
+      (Expression.Element Static 1 size unsigned_int counter)
   element_gives o p =
-      node.element_value s o (tr.named (codes "g") o) (tr.variable (tr.named (codes "i") p)) counter found (counter_gives s size found means p)
-      ∙ ap (λ k. named_value k o (Some counter) found) means.elements
+      node.element_value s o (tr.named (codes "g") o) (tr.variable (tr.named (codes "i") p)) counter Static 1 size UnsignedInt found means.elements
+      (counter_gives s size found means p)
 
-  total_gives : (o : ℕ) → value s (tr.variable (tr.named (codes "s") o)) found ≡ Outcome.Gives (Expression.Variable Static 0 unsigned_int) found
-  unfolding named_value object_value
-  total_gives o = node.variable_value s (tr.named (codes "s") o) found ∙ ap (λ k. named_value k o None found) means.total
+  total_gives : (o : ℕ) → node.IsValue s (tr.variable (tr.named (codes "s") o)) found (Expression.Variable Static 0 unsigned_int)
+  total_gives o = node.variable_value s (tr.named (codes "s") o) Static 0 UnsignedInt found means.total
 
   sum_step : (at : ℕ → ℕ) (steps : List Statement) → item (tr.sum_item at) steps (state s found)
       ≡ Outcome.Gives (steps ++ (Statement.Print (place_in_tree (at 104)) number_pieces (Expression.Variable Static 0 unsigned_int ∷ []) ∷ [])) (state s found)
@@ -126,27 +98,19 @@ module _ (s : Scope) (size : ℕ) (found : Findings) (means : MainMeans s size) 
   zero_step back at steps =
       let e : ExpressionTree = tr.constant 0 (at 118) in
       let o : ℕ = place_in_tree (at 117) in
-      let whole : Cut → Finds (List Statement × Option Expression) = λ right. pure (right.before, Some right.rest) in
-      let to : List Statement × Option Expression → Finds Statement = λ given. pure (behind_cuts given.0 (Statement.Return o given.1)) in
       ap (λ (a : Adds). a steps (state s found))
       (node.statement_item (st.Return (returned_as.Value e) (at 117)) ∙ ap with_step (node.return_statement (returned_as.Value e) (at 117)))
       ∙ ap (λ (g : Gives). and_then (in_scope s (and_then (finds_if (not (may_return g (returned_as.Value e))) rule.Kind (at 117) found)
-      (λ u. ((right_side s o s.kept_from e >>= whole) >>= to)))) (λ step. pure (steps ++ (step ∷ [])))) back
-      ∙ ap (λ (r : Outcome Findings Cut). and_then (in_scope s (and_then (and_then r whole) to))
-      (λ step. pure (steps ++ (step ∷ []))))
-      (node.right_of s o s.kept_from (at 118) (form.Constant (Typed 0 IntConstant) (at 118)) (Form-F.Constant (Typed 0 IntConstant) (at 118)) (word.int_number 0) found
-      (form.outs-Constant (Typed 0 IntConstant) (at 118)) refl (node.constant_value s 0 (at 118) found))
+      (λ u. (value s e o (free_from s.kept_from) >>= (λ right. pure (given_back s o right)))))) (λ step. pure (steps ++ (step ∷ [])))) back
+      ∙ ap (λ (r : Outcome Findings (Cut Expression)). and_then (in_scope s (and_then r (λ right. pure (given_back s o right)))) (λ step. pure (steps ++ (step ∷ []))))
+      (node.constant_value s 0 (at 118) found o (free_from s.kept_from))
 
-  below_condition : (k : ℕ) (at : ℕ → ℕ) → condition s (tree.expression (at 0) (form.Binary (tr.variable (tr.named (codes "i") (at 0)))
-      (tree.term (b.Less, at 1) (tr.constant k (at 2)) ∷ []))) found
+  below_condition : (k : ℕ) (at : ℕ → ℕ) (n : ℕ) → condition s (tree.expression (at 0) (form.Binary (tr.variable (tr.named (codes "i") (at 0)))
+      (tree.term (b.Less, at 1) (tr.constant k (at 2)) ∷ []))) n found
       ≡ Outcome.Gives (Statement.Test (place_in_tree (at 0)) (Expression.Binary operator.Less int_type counter (word.int_number k))) found
-  below_condition k at =
-      let e : ExpressionTree = tr.variable (tr.named (codes "i") (at 0)) in
-      let f : ExpressionTree = tr.constant k (at 2) in
-      ap (λ w. w found)
-      (condition-other s (tree.expression (at 0) (form.Binary e (tree.term (b.Less, at 1) f ∷ []))) e (tree.term (b.Less, at 1) f ∷ []) refl
-      (ap (λ (t : TermLayer). is_short_circuit t.operator && true) (out-roll-Term (record { operator = b.Less; offset = at 1; operand = f }))))
-      ∙ ap (λ (r : Outcome Findings Expression). and_then r (λ x. pure (Statement.Test (place_in_tree (at 0)) x))) (below s size found means k at 0)
+  below_condition k at n =
+      node.between_condition s (at 0) (at 1) b.Less (tr.variable (tr.named (codes "i") (at 0))) (tr.constant k (at 2))
+      (Expression.Binary operator.Less int_type counter (word.int_number k)) found n refl (below s size found means k at)
 
 -- ---- scopes
 
@@ -203,14 +167,14 @@ module _ (size k : ℕ) where
       (Statement.Assign (place_in_tree a) counter_place (word.int_number 0))
       (Statement.Update (place_in_tree c) counter_place operator.Add int_type (word.int_number 1)) v
       (Statement.Test (place_in_tree (at 0)) (Expression.Binary operator.Less int_type counter (word.int_number k))) found after steps
-      (starts (opened m) size found (head_means size) a z) (below_condition (opened m) size found (head_means size) k at)
+      (starts (opened m) size found (head_means size) a z) (below_condition (opened m) size found (head_means size) k at (opened m).kept_from)
       (steps_up (opened m) size found (head_means size) c) (simple_to (looping size) x v [] found after h) refl refl refl
 
   -- ---- the items
 
   counter_step : (at : ℕ → ℕ) (found : Findings) → item (tr.counter_item at) [] (state (main_begins size) found)
       ≡ Outcome.Gives (Statement.Declare (place_in_tree (at 7)) 0 0 ∷ []) (state m found)
-  unfolding declaration declarator local new_local declare is_taken declaring function_named base_of
+  unfolding declaration declarator dimensions local new_local declare is_taken declaring function_named base_of
   counter_step at found =
       ap (λ add. add [] (state (main_begins size) found)) (node.declaration_item (record {
         specifiers = tr.words (w.Int ∷ []) (at 6);
@@ -237,7 +201,7 @@ module _ (size k : ℕ) where
       ≡ Outcome.Gives (steps ++ (counted k (at 81) (at 85) (at 89)
       (Statement.Print (place_in_tree (at 93)) number_pieces (Expression.Element Static 1 size unsigned_int counter ∷ [])) ∷ [])) (state m found)
   print_step at found steps =
-      let e : ExpressionTree = tree.expression (at 97) (form.Place (tree.place (tr.named (codes "g") (at 97)) (Some (tr.variable (tr.named (codes "i") (at 99)))))) in
+      let e : ExpressionTree = tree.expression (at 97) (form.Place (tree.place (tr.named (codes "g") (at 97)) (tr.variable (tr.named (codes "i") (at 99)) ∷ []))) in
       counted_step (at 81) (at 83) (at 89) (λ n. at (85 + n))
       (tr.called (tr.named (codes "printf") (at 93)) (at 93) (argument.Text format_text (at 95) ∷ argument.Value e ∷ []))
       (Statement.Print (place_in_tree (at 93)) number_pieces (Expression.Element Static 1 size unsigned_int counter ∷ [])) found found (at 103) steps

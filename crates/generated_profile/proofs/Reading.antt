@@ -19,8 +19,8 @@ use Rattle.c_tree.specs.Trees as tree
 use Rattle.c_tree.specs.Declarations.{unit}
 use Rattle.c_reading.specs.Tokens.{Reads, begins_item, expect, read_name, read_text, read_constant, read_first_word, read_type_word}
 use Rattle.c_reading.specs.Tokens.{read_unary_operator, read_operator}
-use Rattle.c_reading.specs.Tokens.{read_assignment_operator, read_direction, read_way, read_words, read_specifiers, read_next, read_more, read_listed, read_any}
-use Rattle.c_reading.specs.Expressions.{read_term, read_binary, read_parenthesized, read_index, read_optional_index, read_place, read_arguments}
+use Rattle.c_reading.specs.Tokens.{read_assignment_operator, read_direction, read_way, read_words, read_specifiers, read_next, read_more, read_listed, read_any, read_at_most}
+use Rattle.c_reading.specs.Expressions.{read_term, read_binary, read_parenthesized, read_index, read_indices, read_place, read_arguments}
 use Rattle.c_reading.specs.Expressions.{read_conversion}
 use Rattle.c_reading.specs.Expressions.{read_conversion_to_pointer, read_null, read_converted_pointer, read_pointer_argument, read_null_argument}
 use Rattle.c_reading.specs.Expressions.{read_text_argument}
@@ -64,7 +64,7 @@ module _ (at : ℕ → ℕ) (n : ℕ) (found : List BlockItem) (more : List Toke
   opening_reads : items (suc (suc n)) [] (placed 27 at (kinds ps.opening_pieces) ++ more) ≡ items n (tr.opening_items at) more
   unfolding same_keyword same_punctuator expect read_name read_text read_constant read_first_word read_type_word read_unary_operator read_operator
       read_assignment_operator read_direction read_way read_words read_specifiers read_next read_more read_listed read_any read_term read_binary
-      read_parenthesized read_index read_optional_index read_place read_arguments read_conversion read_conversion_to_pointer read_null
+      read_parenthesized read_index read_at_most read_indices read_place read_arguments read_conversion read_conversion_to_pointer read_null
       read_converted_pointer read_pointer_argument read_null_argument read_text_argument read_address read_value_argument read_any_argument
       read_call_of read_place_of read_named read_primary read_unary read_converted read_operand read_whole read_cast read_expr read_target
       read_argument reads_many read_called read_step_behind read_assigned read_changed read_on_name read_simple read_value read_optional_value
@@ -80,7 +80,7 @@ module _ (at : ℕ → ℕ) (n : ℕ) (found : List BlockItem) (more : List Toke
       (close_at (at 35) ∷ more)
   unfolding same_keyword same_punctuator expect read_name read_text read_constant read_first_word read_type_word read_unary_operator read_operator
       read_assignment_operator read_direction read_way read_words read_specifiers read_next read_more read_listed read_any read_term read_binary
-      read_parenthesized read_index read_optional_index read_place read_arguments read_conversion read_conversion_to_pointer read_null
+      read_parenthesized read_index read_at_most read_indices read_place read_arguments read_conversion read_conversion_to_pointer read_null
       read_converted_pointer read_pointer_argument read_null_argument read_text_argument read_address read_value_argument read_any_argument
       read_call_of read_place_of read_named read_primary read_unary read_converted read_operand read_whole read_cast read_expr read_target
       read_argument reads_many read_called read_step_behind read_assigned read_changed read_on_name read_simple read_value read_optional_value
@@ -154,7 +154,7 @@ module _ (t : ℕ) (at : ℕ → ℕ) (more : List Token) where
   threads_read : external (placed 0 at (kinds (ps.threads_pieces t)) ++ more) ≡ Ok (tr.threads_object t at, more)
   unfolding same_keyword same_punctuator expect read_name read_text read_constant read_first_word read_type_word read_unary_operator read_operator
       read_assignment_operator read_direction read_way read_words read_specifiers read_next read_more read_listed read_any read_term read_binary
-      read_parenthesized read_index read_optional_index read_place read_arguments read_conversion read_conversion_to_pointer read_null
+      read_parenthesized read_index read_at_most read_indices read_place read_arguments read_conversion read_conversion_to_pointer read_null
       read_converted_pointer read_pointer_argument read_null_argument read_text_argument read_address read_value_argument read_any_argument
       read_call_of read_place_of read_named read_primary read_unary read_converted read_operand read_whole read_cast read_expr read_target
       read_argument read_star read_optional_name read_parameter read_parameters read_optional_initializer read_global read_globals read_objects
@@ -164,7 +164,7 @@ module _ (t : ℕ) (at : ℕ → ℕ) (more : List Token) where
   mutex_reads : external (placed 6 at (kinds ps.mutex_pieces) ++ more) ≡ Ok (tr.mutex_object at, more)
   unfolding same_keyword same_punctuator expect read_name read_text read_constant read_first_word read_type_word read_unary_operator read_operator
       read_assignment_operator read_direction read_way read_words read_specifiers read_next read_more read_listed read_any read_term read_binary
-      read_parenthesized read_index read_optional_index read_place read_arguments read_conversion read_conversion_to_pointer read_null
+      read_parenthesized read_index read_at_most read_indices read_place read_arguments read_conversion read_conversion_to_pointer read_null
       read_converted_pointer read_pointer_argument read_null_argument read_text_argument read_address read_value_argument read_any_argument
       read_call_of read_place_of read_named read_primary read_unary read_converted read_operand read_whole read_cast read_expr read_target
       read_argument read_star read_optional_name read_parameter read_parameters read_optional_initializer read_global read_globals read_objects
@@ -174,7 +174,7 @@ module _ (t : ℕ) (at : ℕ → ℕ) (more : List Token) where
   sum_reads : external (placed 9 at (kinds ps.sum_pieces) ++ more) ≡ Ok (tr.sum_object at, more)
   unfolding same_keyword same_punctuator expect read_name read_text read_constant read_first_word read_type_word read_unary_operator read_operator
       read_assignment_operator read_direction read_way read_words read_specifiers read_next read_more read_listed read_any read_term read_binary
-      read_parenthesized read_index read_optional_index read_place read_arguments read_conversion read_conversion_to_pointer read_null
+      read_parenthesized read_index read_at_most read_indices read_place read_arguments read_conversion read_conversion_to_pointer read_null
       read_converted_pointer read_pointer_argument read_null_argument read_text_argument read_address read_value_argument read_any_argument
       read_call_of read_place_of read_named read_primary read_unary read_converted read_operand read_whole read_cast read_expr read_target
       read_argument read_star read_optional_name read_parameter read_parameters read_optional_initializer read_global read_globals read_objects
@@ -184,7 +184,7 @@ module _ (t : ℕ) (at : ℕ → ℕ) (more : List Token) where
   elements_read : external (placed 12 at (kinds (ps.elements_pieces t)) ++ more) ≡ Ok (tr.elements_object t at, more)
   unfolding same_keyword same_punctuator expect read_name read_text read_constant read_first_word read_type_word read_unary_operator read_operator
       read_assignment_operator read_direction read_way read_words read_specifiers read_next read_more read_listed read_any read_term read_binary
-      read_parenthesized read_index read_optional_index read_place read_arguments read_conversion read_conversion_to_pointer read_null
+      read_parenthesized read_index read_at_most read_indices read_place read_arguments read_conversion read_conversion_to_pointer read_null
       read_converted_pointer read_pointer_argument read_null_argument read_text_argument read_address read_value_argument read_any_argument
       read_call_of read_place_of read_named read_primary read_unary read_converted read_operand read_whole read_cast read_expr read_target
       read_argument read_star read_optional_name read_parameter read_parameters read_optional_initializer read_global read_globals read_objects
@@ -194,7 +194,7 @@ module _ (t : ℕ) (at : ℕ → ℕ) (more : List Token) where
   main_reads : external (placed 0 at (kinds (ps.main_pieces t)) ++ more) ≡ Ok (tr.main t at, more)
   unfolding same_keyword same_punctuator expect read_name read_text read_constant read_first_word read_type_word read_unary_operator read_operator
       read_assignment_operator read_direction read_way read_words read_specifiers read_next read_more read_listed read_any read_term read_binary
-      read_parenthesized read_index read_optional_index read_place read_arguments read_conversion read_conversion_to_pointer read_null
+      read_parenthesized read_index read_at_most read_indices read_place read_arguments read_conversion read_conversion_to_pointer read_null
       read_converted_pointer read_pointer_argument read_null_argument read_text_argument read_address read_value_argument read_any_argument
       read_call_of read_place_of read_named read_primary read_unary read_converted read_operand read_whole read_cast read_expr read_target
       read_argument reads_many read_called read_step_behind read_assigned read_changed read_on_name read_simple read_value read_optional_value

@@ -1,22 +1,19 @@
 -- What is known in the worker of a generated text.
-use Rattle.std.proofs.Common.{◌≡◌, ℕ, List, [], ◌∷◌, ◌++◌, Some, None, true, false, refl, ap, ◌∙◌}
+use Rattle.std.proofs.Common.{◌≡◌, ℕ, List, [], ◌∷◌, ◌++◌, Some, true, false, refl, ap, ◌∙◌}
 use Rattle.std.specs.Prelude.{codes, fold}
 use Rattle.hls_ints.specs.Types.{unsigned_int, long_int}
 use Rattle.c_tree.specs.declared.expression.Expression.{Expression as ExpressionTree}
 use Rattle.c_tree.specs.declared.expression.BinaryOperator.TheVariants as b
 use Rattle.c_tree.specs.declared.expression.Form.TheVariants as form
 use Rattle.c_tree.specs.declared.expression.TypeWord.TheVariants as w
-use Rattle.c_tree.specs.declared.expression.Argument.TheOpen.{Form-F}
-use Rattle.c_tree.specs.declared.expression.Term.{Term}
 use Rattle.c_tree.specs.declared.declaration.Declarator.{Declarator}
-use Rattle.c_token.specs.declared.constant.ConstantType.TheVariants.{Int}
-use Rattle.c_token.specs.declared.constant.Constant.TheVariants.{Typed}
 use Rattle.c_tree.specs.Trees as tree
 use Rattle.c_program.specs.declared.tree.Storage.TheVariants.{Automatic}
 use Rattle.c_program.specs.declared.tree.BinaryOperator.TheVariants as operator
 use Rattle.c_program.specs.declared.tree.LocalVariable.{LocalVariable}
 use Rattle.c_program.specs.Tree.{Expression, Place, Statement}
 use Rattle.c_program.specs.Resolved.{scalar}
+use Rattle.c_rules.specs.declared.dimensions.Dimensions.TheVariants.{Scalar, One}
 use Rattle.c_rules.specs.declared.specifiers.BasicType.TheVariants.{UnsignedInt, Long}
 use Rattle.c_rules.specs.declared.specifiers.BaseType.TheVariants as base
 use Rattle.c_rules.specs.declared.findings.Findings.{Findings}
@@ -32,11 +29,10 @@ use Rattle.c_rules.specs.Library.{function_named}
 use Rattle.c_rules.specs.Names.{look_up, is_taken, declaring, opened, closed}
 use Rattle.c_rules.specs.Specifiers.{base_of, spelled_by}
 use Rattle.c_rules.specs.Walks.{Outcome, and_then, pure, place_in_tree, ◌>>=◌}
-use Rattle.c_expressions.specs.Expressions.{value, cast, converted, place_value, named_value, object_value, operated, Meant}
-use Rattle.c_calls.specs.Cuts.{Cut, uncut}
-use Rattle.c_calls.specs.Calls.{right_side}
+use Rattle.c_expressions.specs.Cuts.{Cut, free_from}
+use Rattle.c_expressions.specs.Expressions.{cast, converted, place_value, element_number, no_number, Meant}
 use Rattle.c_resolution.specs.States.{Goes, State, state, in_scope}
-use Rattle.c_resolution.specs.Locals.{declarator, local, new_local, declare, initialised, initialised_by, declaration}
+use Rattle.c_resolution.specs.Locals.{declarator, dimensions, local, new_local, declare, initialised, initialised_by, declaration}
 use Rattle.c_resolution.specs.Statements.{item}
 use Rattle.generated_text.specs.declared.draws.Letter.TheVariants.{A, B, C, D}
 use Rattle.generated_text.specs.Text.{byte_of}
@@ -52,8 +48,8 @@ abbrev pub object_names : ℕ → Names
 object_names size =
     (codes "t", meaning.Object (record { kind = Thread; number = 0; length = Some size }))
     ∷ (codes "m", word.lock_place)
-    ∷ (codes "s", word.static 0 None)
-    ∷ (codes "g", word.static 1 (Some size))
+    ∷ (codes "s", word.static 0 Scalar)
+    ∷ (codes "g", word.static 1 (One size))
     ∷ []
 
 abbrev pub worker_header : Header
@@ -82,6 +78,7 @@ inside size inner locals names = record {
   locals = locals;
   local_names = names;
   loops = 0;
+  exits = 0;
   kept_from = 6;
 }
 
@@ -151,28 +148,27 @@ worker_closes size = refl
 
 -- ---- long id = (long)arg;
 
-id_right : (size step o p q : ℕ) (found : Findings) →
-    right_side (with_id size) step 6 (tree.expression o (form.Cast (tr.words (w.Long ∷ []) p) (tr.variable (tr.named (codes "arg") q)))) found
-    ≡ Outcome.Gives (uncut (Expression.Cast long_int (Expression.Variable Automatic 0 long_int))) found
+id_right : (size o p q : ℕ) (found : Findings) →
+    node.IsValue (with_id size) (tree.expression o (form.Cast (tr.words (w.Long ∷ []) p) (tr.variable (tr.named (codes "arg") q)))) found
+    (Expression.Cast long_int (Expression.Variable Automatic 0 long_int))
 unfolding cast converted look_up function_named base_of
-id_right size step o p q found =
+id_right size o p q found at cuts =
     let s : Scope = with_id size in
     let e : ExpressionTree = tr.variable (tr.named (codes "arg") q) in
     let words = tr.words (w.Long ∷ []) p in
-    node.right_of s step 6 o (form.Cast words e) (Form-F.Cast words e) (Expression.Cast long_int (Expression.Variable Automatic 0 long_int)) found (form.outs-Cast words e) refl
-    (node.cast_value s o words e found ∙ ap (λ (m : Meant). cast s words m found) (node.variable_meant s (tr.named (codes "arg") q)))
+    node.cast_value s o words e found at cuts ∙ ap (λ (m : Meant). cast s words m at cuts found) (node.variable_meant s (tr.named (codes "arg") q))
 
 pub id_step : (size : ℕ) (at : ℕ → ℕ) (found : Findings) → item (tr.id_item at) [] (state (with_argument size) found)
     ≡ Outcome.Gives (Statement.Assign (place_in_tree (at 28)) (Place.Scalar Automatic 1 long_int)
     (Expression.Cast long_int (Expression.Variable Automatic 0 long_int)) ∷ []) (state (with_id size) found)
-unfolding declaration declarator local new_local declare is_taken declaring function_named base_of initialised initialised_by
+unfolding declaration declarator dimensions local new_local declare is_taken declaring function_named base_of initialised initialised_by
 id_step size at found =
     ap (λ add. add [] (state (with_argument size) found)) (node.declaration_item (record {
       specifiers = tr.words (w.Long ∷ []) (at 27);
       declarators = tr.declarator (tr.named (codes "id") (at 28)) (Some (tree.expression (at 30) (form.Cast (tr.words (w.Long ∷ []) (at 31)) (tr.variable (tr.named (codes "arg") (at 33)))))) ∷ [];
     }))
-    ∙ ap (λ r. and_then (in_scope (with_id size) (and_then r (initialised_by (Some (record { storage = Automatic; number = 1; ty = Long; length = None; is_const = false })) (at 28))))
-    (λ step. pure (step ∷ []))) (id_right size (place_in_tree (at 28)) (at 30) (at 31) (at 33) found)
+    ∙ ap (λ r. and_then (in_scope (with_id size) (and_then r (initialised_by (Some (record { storage = Automatic; number = 1; ty = Long; dimensions = Scalar; is_const = false })) (at 28))))
+    (λ step. pure (step ∷ []))) (id_right size (at 30) (at 31) (at 33) found (place_in_tree (at 28)) (free_from 6))
 
 -- ---- unsigned a = (unsigned)id + 1, b = 2, c = 3, d = 4;
 
@@ -184,7 +180,7 @@ first_tree at =
 
 -- an unsigned local of that number
 abbrev unsigned_local : ℕ → Variable
-unsigned_local n = record { storage = Automatic; number = n; ty = UnsignedInt; length = None; is_const = false }
+unsigned_local n = record { storage = Automatic; number = n; ty = UnsignedInt; dimensions = Scalar; is_const = false }
 
 abbrev unsigned_words : ℕ → Spelled
 unsigned_words o = spelled_by (tr.words (w.Unsigned ∷ []) o)
@@ -192,59 +188,49 @@ unsigned_words o = spelled_by (tr.words (w.Unsigned ∷ []) o)
 abbrev first_value : Expression
 first_value = word.unsigned_of operator.Add (Expression.Cast unsigned_int word.id_value) (word.int_number 1)
 
-first_gives : (size : ℕ) (at : ℕ → ℕ) (found : Findings) → value (with_a size) (first_tree at) found ≡ Outcome.Gives first_value found
-unfolding cast converted look_up function_named base_of operated named_value object_value place_value
+first_gives : (size : ℕ) (at : ℕ → ℕ) (found : Findings) → node.IsValue (with_a size) (first_tree at) found first_value
+unfolding cast converted look_up function_named base_of place_value element_number no_number
 first_gives size at found =
     let s : Scope = with_a size in
     let words = tr.words (w.Unsigned ∷ []) (at 39) in
     let e : ExpressionTree = tr.variable (tr.named (codes "id") (at 41)) in
+    let converted_id : node.IsValue s (tree.expression (at 38) (form.Cast words e)) found (Expression.Cast unsigned_int word.id_value) =
+    λ step cuts.
+    node.cast_value s (at 38) words e found step cuts ∙ ap (λ (m : Meant). cast s words m step cuts found) (node.variable_meant s (tr.named (codes "id") (at 41))) in
     node.between_value s (at 38) (at 42) b.Add (tree.expression (at 38) (form.Cast words e)) (tr.constant 1 (at 43))
-    (Expression.Cast unsigned_int word.id_value) (word.int_number 1) first_value found
-    (node.cast_value s (at 38) words e found ∙ ap (λ (m : Meant). cast s words m found) (node.variable_meant s (tr.named (codes "id") (at 41))))
-    (node.constant_value s 1 (at 43) found) refl
-
-first_right : (size step : ℕ) (at : ℕ → ℕ) (found : Findings) → right_side (with_a size) step 6 (first_tree at) found ≡ Outcome.Gives (uncut first_value) found
-first_right size step at found =
-    let e : ExpressionTree = tree.expression (at 38) (form.Cast (tr.words (w.Unsigned ∷ []) (at 39)) (tr.variable (tr.named (codes "id") (at 41)))) in
-    let terms : List Term = tree.term (b.Add, (at 42)) (tr.constant 1 (at 43)) ∷ [] in
-    node.right_of (with_a size) step 6 (at 38) (form.Binary e terms) (Form-F.Binary e terms) first_value found (form.outs-Binary e terms) refl (first_gives size at found)
-
-constant_right : (s : Scope) (step n o : ℕ) (found : Findings) → right_side s step 6 (tr.constant n o) found ≡ Outcome.Gives (uncut (word.int_number n)) found
-constant_right s step n o found =
-    node.right_of s step 6 o (form.Constant (Typed n Int) o) (Form-F.Constant (Typed n Int) o) (word.int_number n) found (form.outs-Constant (Typed n Int) o) refl
-    (node.constant_value s n o found)
+    (Expression.Cast unsigned_int word.id_value) (word.int_number 1) first_value found refl converted_id (node.constant_value s 1 (at 43) found) refl
 
 declares_a : (size o : ℕ) (e : ExpressionTree) (v : Expression) (found : Findings) →
-    right_side (with_a size) (place_in_tree o) 6 e found ≡ Outcome.Gives (uncut v) found →
+    node.IsValue (with_a size) e found v →
     (p : ℕ) → declarator (unsigned_words p) (tr.declarator (tr.named (codes "a") o) (Some e)) (state (with_id size) found)
     ≡ Outcome.Gives (word.set_to o A v) (state (with_a size) found)
-unfolding declarator local new_local declare is_taken declaring function_named base_of initialised initialised_by
+unfolding declarator dimensions local new_local declare is_taken declaring function_named base_of initialised initialised_by
 declares_a size o e v found h p =
-    ap (λ (r : Outcome Findings Cut). in_scope (with_a size) (and_then r (initialised_by (Some (unsigned_local 2)) o))) h
+    ap (λ (r : Outcome Findings (Cut Expression)). in_scope (with_a size) (and_then r (initialised_by (Some (unsigned_local 2)) o))) (h (place_in_tree o) (free_from 6))
 
 declares_b : (size o : ℕ) (e : ExpressionTree) (v : Expression) (found : Findings) →
-    right_side (with_b size) (place_in_tree o) 6 e found ≡ Outcome.Gives (uncut v) found →
+    node.IsValue (with_b size) e found v →
     (p : ℕ) → declarator (unsigned_words p) (tr.declarator (tr.named (codes "b") o) (Some e)) (state (with_a size) found)
     ≡ Outcome.Gives (word.set_to o B v) (state (with_b size) found)
-unfolding declarator local new_local declare is_taken declaring function_named base_of initialised initialised_by
+unfolding declarator dimensions local new_local declare is_taken declaring function_named base_of initialised initialised_by
 declares_b size o e v found h p =
-    ap (λ (r : Outcome Findings Cut). in_scope (with_b size) (and_then r (initialised_by (Some (unsigned_local 3)) o))) h
+    ap (λ (r : Outcome Findings (Cut Expression)). in_scope (with_b size) (and_then r (initialised_by (Some (unsigned_local 3)) o))) (h (place_in_tree o) (free_from 6))
 
 declares_c : (size o : ℕ) (e : ExpressionTree) (v : Expression) (found : Findings) →
-    right_side (with_c size) (place_in_tree o) 6 e found ≡ Outcome.Gives (uncut v) found →
+    node.IsValue (with_c size) e found v →
     (p : ℕ) → declarator (unsigned_words p) (tr.declarator (tr.named (codes "c") o) (Some e)) (state (with_b size) found)
     ≡ Outcome.Gives (word.set_to o C v) (state (with_c size) found)
-unfolding declarator local new_local declare is_taken declaring function_named base_of initialised initialised_by
+unfolding declarator dimensions local new_local declare is_taken declaring function_named base_of initialised initialised_by
 declares_c size o e v found h p =
-    ap (λ (r : Outcome Findings Cut). in_scope (with_c size) (and_then r (initialised_by (Some (unsigned_local 4)) o))) h
+    ap (λ (r : Outcome Findings (Cut Expression)). in_scope (with_c size) (and_then r (initialised_by (Some (unsigned_local 4)) o))) (h (place_in_tree o) (free_from 6))
 
 declares_d : (size o : ℕ) (e : ExpressionTree) (v : Expression) (found : Findings) →
-    right_side (worker_scope size) (place_in_tree o) 6 e found ≡ Outcome.Gives (uncut v) found →
+    node.IsValue (worker_scope size) e found v →
     (p : ℕ) → declarator (unsigned_words p) (tr.declarator (tr.named (codes "d") o) (Some e)) (state (with_c size) found)
     ≡ Outcome.Gives (word.set_to o D v) (state (worker_scope size) found)
-unfolding declarator local new_local declare is_taken declaring function_named base_of initialised initialised_by
+unfolding declarator dimensions local new_local declare is_taken declaring function_named base_of initialised initialised_by
 declares_d size o e v found h p =
-    ap (λ (r : Outcome Findings Cut). in_scope (worker_scope size) (and_then r (initialised_by (Some (unsigned_local 5)) o))) h
+    ap (λ (r : Outcome Findings (Cut Expression)). in_scope (worker_scope size) (and_then r (initialised_by (Some (unsigned_local 5)) o))) (h (place_in_tree o) (free_from 6))
 
 -- behind other steps
 pub letters_step : (size : ℕ) (at : ℕ → ℕ) (found : Findings) (steps : List Statement) → item (tr.letters_item at) steps (state (with_id size) found)
@@ -265,10 +251,10 @@ letters_step size at found steps =
     ap (λ add. add steps (state (with_id size) found))
     (node.declaration_item (record { specifiers = tr.words (w.Unsigned ∷ []) (at 35); declarators = a ∷ b2 ∷ c3 ∷ d4 ∷ [] }))
     ∙ ap (λ (r : Outcome State Statement). more (b2 ∷ c3 ∷ d4 ∷ []) (and_then r (λ step. pure (steps ++ (step ∷ [])))))
-    (declares_a size (at 36) (first_tree at) first_value found (first_right size (place_in_tree (at 36)) at found) (at 35))
+    (declares_a size (at 36) (first_tree at) first_value found (first_gives size at found) (at 35))
     ∙ ap (λ (r : Outcome State Statement). more (c3 ∷ d4 ∷ []) (and_then r (λ step. pure (one ++ (step ∷ [])))))
-    (declares_b size (at 45) (tr.constant 2 (at 47)) (word.int_number 2) found (constant_right (with_b size) (place_in_tree (at 45)) 2 (at 47) found) (at 35))
+    (declares_b size (at 45) (tr.constant 2 (at 47)) (word.int_number 2) found (node.constant_value (with_b size) 2 (at 47) found) (at 35))
     ∙ ap (λ (r : Outcome State Statement). more (d4 ∷ []) (and_then r (λ step. pure (two ++ (step ∷ [])))))
-    (declares_c size (at 49) (tr.constant 3 (at 51)) (word.int_number 3) found (constant_right (with_c size) (place_in_tree (at 49)) 3 (at 51) found) (at 35))
+    (declares_c size (at 49) (tr.constant 3 (at 51)) (word.int_number 3) found (node.constant_value (with_c size) 3 (at 51) found) (at 35))
     ∙ ap (λ (r : Outcome State Statement). and_then r (λ step. pure (three ++ (step ∷ []))))
-    (declares_d size (at 53) (tr.constant 4 (at 55)) (word.int_number 4) found (constant_right (worker_scope size) (place_in_tree (at 53)) 4 (at 55) found) (at 35))
+    (declares_d size (at 53) (tr.constant 4 (at 55)) (word.int_number 4) found (node.constant_value (worker_scope size) 4 (at 55) found) (at 35))

@@ -48,10 +48,10 @@ abbrev pub words : List TypeWord → ℕ → Specifiers
 words list at = record { words = list; offset = at }
 
 abbrev pub alone : Name → Place
-alone x = tree.place x None
+alone x = tree.place x []
 
 abbrev pub variable : Name → Expression
-variable x = tree.expression x.offset (form.Place (tree.place x None))
+variable x = tree.expression x.offset (form.Place (tree.place x []))
 
 abbrev pub constant : ℕ → ℕ → Expression
 constant n at = tree.expression at (form.Constant (Typed n Int) at)
@@ -66,7 +66,7 @@ abbrev pub called : Name → ℕ → List Argument → SimpleStatement
 called f at list = record { form = simple_form.Call (tree.call f list); offset = at }
 
 abbrev pub declarator : Name → Option Expression → Declarator
-declarator x value = record { name = x; length = None; initializer = value }
+declarator x value = record { name = x; lengths = []; initializer = value }
 
 abbrev pub declared : Specifiers → List Declarator → BlockItem
 declared s list = block_item.Declaration (record { specifiers = s; declarators = list })
@@ -74,11 +74,11 @@ declared s list = block_item.Declaration (record { specifiers = s; declarators =
 abbrev pub parameter : Specifiers → Bool → Option Name → Parameter
 parameter s is_pointer x = record { specifiers = s; is_pointer = is_pointer; name = x }
 
-abbrev pub object : Specifiers → Name → Option Expression → ExternalDeclaration
-object s x length = external.Objects (record {
+abbrev pub object : Specifiers → Name → List Expression → ExternalDeclaration
+object s x lengths = external.Objects (record {
   specifiers = s;
   is_pointer = false;
-  declarators = record { name = x; length = length; initializer = None } ∷ [];
+  declarators = record { name = x; lengths = lengths; initializer = None } ∷ [];
 })
 
 abbrev pub function : Specifiers → Bool → Name → List Parameter → Block → ExternalDeclaration
@@ -115,7 +115,7 @@ raise_item at x y z =
 
 abbrev pub publish_item : (ℕ → ℕ) → Letter → BlockItem
 publish_item at x =
-    block_item.Statement (st.Simple (changed (at 0) (tree.place (named (codes "g") (at 0)) (Some (variable (named (codes "id") (at 2))))) Set
+    block_item.Statement (st.Simple (changed (at 0) (tree.place (named (codes "g") (at 0)) (variable (named (codes "id") (at 2)) ∷ [])) Set
     (variable (lettered x (at 5)))))
 
 abbrev pub lock_item : (ℕ → ℕ) → BlockItem
@@ -146,19 +146,19 @@ line_items Add at x y z = lock_item at ∷ add_item at x ∷ unlock_item at ∷ 
 
 abbrev pub threads_object : ℕ → (ℕ → ℕ) → ExternalDeclaration
 threads_object t at =
-    object (words (w.ThreadId ∷ []) (at 0)) (named (codes "t") (at 1)) (Some (constant t (at 3)))
+    object (words (w.ThreadId ∷ []) (at 0)) (named (codes "t") (at 1)) (constant t (at 3) ∷ [])
 
 abbrev pub mutex_object : (ℕ → ℕ) → ExternalDeclaration
 mutex_object at =
-    object (words (w.Mutex ∷ []) (at 6)) (named (codes "m") (at 7)) None
+    object (words (w.Mutex ∷ []) (at 6)) (named (codes "m") (at 7)) []
 
 abbrev pub sum_object : (ℕ → ℕ) → ExternalDeclaration
 sum_object at =
-    object (words (w.Unsigned ∷ []) (at 9)) (named (codes "s") (at 10)) None
+    object (words (w.Unsigned ∷ []) (at 9)) (named (codes "s") (at 10)) []
 
 abbrev pub elements_object : ℕ → (ℕ → ℕ) → ExternalDeclaration
 elements_object t at =
-    object (words (w.Unsigned ∷ []) (at 12)) (named (codes "g") (at 13)) (Some (constant t (at 15)))
+    object (words (w.Unsigned ∷ []) (at 12)) (named (codes "g") (at 13)) (constant t (at 15) ∷ [])
 
 abbrev pub id_item : (ℕ → ℕ) → BlockItem
 id_item at =
@@ -174,7 +174,7 @@ letters_item at =
 
 abbrev pub mix_item : (ℕ → ℕ) → BlockItem
 mix_item at =
-    block_item.Statement (st.Simple (changed (at 0) (tree.place (named (codes "g") (at 0)) (Some (variable (named (codes "id") (at 2))))) Set
+    block_item.Statement (st.Simple (changed (at 0) (tree.place (named (codes "g") (at 0)) (variable (named (codes "id") (at 2)) ∷ [])) Set
     (tree.expression (at 5) (form.Binary (variable (named (codes "a") (at 5))) (tree.term (b.BitXor, (at 6)) (variable (named (codes "b") (at 7))) ∷
     tree.term (b.BitXor, (at 8)) (variable (named (codes "c") (at 9))) ∷ tree.term (b.BitXor, (at 10)) (variable (named (codes "d") (at 11))) ∷
     [])))))
@@ -187,7 +187,7 @@ last_lock_item at =
 abbrev pub last_add_item : (ℕ → ℕ) → BlockItem
 last_add_item at =
     block_item.Statement (st.Simple (changed (at 19) (alone (named (codes "s") (at 19))) (Compound b.Add) (tree.expression (at 21) (form.Place
-    (tree.place (named (codes "g") (at 21)) (Some (variable (named (codes "id") (at 23)))))))))
+    (tree.place (named (codes "g") (at 21)) (variable (named (codes "id") (at 23)) ∷ []))))))
 
 abbrev pub last_unlock_item : (ℕ → ℕ) → BlockItem
 last_unlock_item at =
@@ -212,7 +212,7 @@ create_item t at =
     block_item.Statement (st.For (start.Simple (changed (at 19) (alone (named (codes "i") (at 19))) Set (constant 0 (at 21)))) (Some (tree.expression
     (at 23) (form.Binary (variable (named (codes "i") (at 23))) (tree.term (b.Less, (at 24)) (constant t (at 25)) ∷ [])))) (Some (stepped (at 27)
     (alone (named (codes "i") (at 27))))) (st.Block (tree.block (block_item.Statement (st.Simple (called (named (codes "pthread_create") (at 31))
-    (at 31) (argument.Address (tree.place (named (codes "t") (at 34)) (Some (variable (named (codes "i") (at 36))))) (at 33) ∷ argument.Pointer
+    (at 31) (argument.Address (tree.place (named (codes "t") (at 34)) (variable (named (codes "i") (at 36)) ∷ [])) (at 33) ∷ argument.Pointer
     (tree.null (at 39)) ∷ argument.Value (variable (named (codes "worker") (at 41))) ∷ argument.Pointer (tree.pointer (at 43) (tree.expression
     (at 47) (form.Cast (words (w.Long ∷ []) (at 48)) (variable (named (codes "i") (at 50)))))) ∷ []))) ∷ []) (at 53))))
 
@@ -221,16 +221,16 @@ join_item t at =
     block_item.Statement (st.For (start.Simple (changed (at 56) (alone (named (codes "i") (at 56))) Set (constant 0 (at 58)))) (Some (tree.expression
     (at 60) (form.Binary (variable (named (codes "i") (at 60))) (tree.term (b.Less, (at 61)) (constant t (at 62)) ∷ [])))) (Some (stepped (at 64)
     (alone (named (codes "i") (at 64))))) (st.Block (tree.block (block_item.Statement (st.Simple (called (named (codes "pthread_join") (at 68))
-    (at 68) (argument.Value (tree.expression (at 70) (form.Place (tree.place (named (codes "t") (at 70)) (Some (variable
-    (named (codes "i") (at 72))))))) ∷ argument.Pointer (tree.null (at 75)) ∷ []))) ∷ []) (at 78))))
+    (at 68) (argument.Value (tree.expression (at 70) (form.Place (tree.place (named (codes "t") (at 70)) (variable
+    (named (codes "i") (at 72)) ∷ [])))) ∷ argument.Pointer (tree.null (at 75)) ∷ []))) ∷ []) (at 78))))
 
 abbrev pub print_item : ℕ → (ℕ → ℕ) → BlockItem
 print_item t at =
     block_item.Statement (st.For (start.Simple (changed (at 81) (alone (named (codes "i") (at 81))) Set (constant 0 (at 83)))) (Some (tree.expression
     (at 85) (form.Binary (variable (named (codes "i") (at 85))) (tree.term (b.Less, (at 86)) (constant t (at 87)) ∷ [])))) (Some (stepped (at 89)
     (alone (named (codes "i") (at 89))))) (st.Block (tree.block (block_item.Statement (st.Simple (called (named (codes "printf") (at 93)) (at 93)
-    (argument.Text (codes "%u\\n") (at 95) ∷ argument.Value (tree.expression (at 97) (form.Place (tree.place (named (codes "g") (at 97)) (Some
-    (variable (named (codes "i") (at 99))))))) ∷ []))) ∷ []) (at 103))))
+    (argument.Text (codes "%u\\n") (at 95) ∷ argument.Value (tree.expression (at 97) (form.Place (tree.place (named (codes "g") (at 97))
+    (variable (named (codes "i") (at 99)) ∷ [])))) ∷ []))) ∷ []) (at 103))))
 
 abbrev pub sum_item : (ℕ → ℕ) → BlockItem
 sum_item at =

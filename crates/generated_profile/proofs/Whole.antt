@@ -61,7 +61,8 @@ module _ (k : ℕ) (before behind_lines last : ℕ → ℕ) (o : ℕ) (lines : L
   all_declared : declarations unit.declarations (file (scope_with definitions) findings.nothing no_tables) ≡ Outcome.Gives tt end
   unfolding declarations
   all_declared =
-      ap (λ r. fold walk r (tr.mutex_object before ∷ tr.sum_object before ∷ tr.elements_object threads before ∷ tr.worker before behind_lines (items_of o lines) ∷ tr.main threads last ∷ []))
+      ap (λ r. fold walk r (tr.mutex_object before ∷ tr.sum_object before ∷ tr.elements_object threads before
+      ∷ tr.worker before behind_lines (items_of o lines) ∷ tr.main threads last ∷ []))
       (part.threads_declared k before)
       ∙ ap (λ r. fold walk r (tr.sum_object before ∷ tr.elements_object threads before ∷ tr.worker before behind_lines (items_of o lines) ∷ tr.main threads last ∷ []))
       (part.mutex_declared size before)
