@@ -1,7 +1,8 @@
 -- The code of each function that threads run, by a right plan, is code as the machine and the theory need it.
-use Rattle.std.specs.Prelude.{Bool, true, false, nat_lt, if◌then◌else◌, Option, Some, None, slice_get}
+use Rattle.std.specs.Prelude.{Bool, if◌then◌else◌, Option, Some, None, slice_get}
 use Rattle.std.specs.List.{flat_map}
-use Rattle.std.proofs.Common.{◌≡◌, ◌≢◌, ℕ, zero, suc, ◌+◌, ◌*◌, ◌<◌, ◌≤◌, List, [], ◌∷◌, ◌++◌, length, replicate, refl, sym, ap, ◌∙◌, subst, ⊎_elim, arith}
+use Rattle.std.proofs.Common.{◌≡◌, ◌≢◌, ℕ, zero, suc, ◌+◌, ◌*◌, ◌<◌, ◌≤◌, List, [], ◌∷◌, ◌++◌, length, replicate, refl, sym, ap, ◌∙◌, subst, ⊎_elim, arith, ℤ}
+use Rattle.std.proofs.lemmas.Option.{slice_get_within}
 use Rattle.lists.proofs.Places.{get_nothing}
 use Rattle.hls_ints.specs.Types.{IntegerType}
 use Rattle.c_program.specs.declared.tree.ThreadObject.{ThreadObject}
@@ -18,17 +19,18 @@ use Rattle.block_ir.specs.declared.code.Stage.{Stage}
 use Rattle.block_ir.specs.declared.code.Stage.TheVariants as stage
 use Rattle.block_ir.specs.declared.plan.StagePlan.{StagePlan}
 use Rattle.bank_partition.specs.Shapes.{spreads_from}
-use Rattle.code_following.specs.Typed.{types_of, BeginsWith, IsTypedNext, IsTypedStage}
+use Rattle.code_following.specs.Typed.{types_of, most_operations, BeginsWith, IsTypedNext, IsTypedStage}
 use Rattle.code_following.proofs.Arguments.{main_takes_none}
-use Rattle.planned_block.proofs.Bits.{less_is, not_less_is}
+use Rattle.planned_block.proofs.Bits.{less_is, not_less_is, less_or_not}
 use Rattle.planned_block.specs.Following.{own_latencies, AreChains, no_spare}
+use Rattle.planned_block.specs.Block.{Operand, leads_to}
 use Rattle.block_refine.specs.Threads.{block_at, plan_at}
 use Rattle.block_refine.specs.Routines.{RoutineCode, Codes, stage_at, rest_of, blocks_of, plans_of, ArePlanned}
 use Rattle.law_threads.specs.Laws.{AreChainsThere, AreCoded}
 use Rattle.law_cycle.specs.Thread.{LeadsBelow, StageLeads}
 use Rattle.law_cycle.specs.Built.{IsCode}
-use Rattle.law_routines.specs.Plans.{IsRoutine, AreRoutines, chain_of, RoutinesAreCoded, RoutinesAreCode}
-use Rattle.law_routines.proofs.Chains.{planned_at, short, busy, low}
+use Rattle.law_routines.specs.Plans.{IsRoutine, AreRoutines, stage_chain, chain_of, RoutinesAreCoded, RoutinesAreCode}
+use Rattle.law_routines.proofs.Chains.{goes_within, planned_at, short, holds, stepless, low}
 use Rattle.law_routines.proofs.Whole.{planned}
 
 -- ---- one function
@@ -38,7 +40,7 @@ module _ (P : Program) (threads : List ℕ) (f : ℕ) (c : RoutineCode) (is : Is
   leads before (Jump l) h = h
   leads before (Branch test l k) h = (h.1, h.2)
 
-  stage_leads : (s : Stage) → IsTypedStage (types_of P c.code) P (length c.code.stages) (4 * weight P) s → StageLeads (length c.code.stages) s
+  stage_leads : (s : Stage) → IsTypedStage (types_of P c.code) P (length c.code.stages) (most_operations P c.code.stages) s → StageLeads (length c.code.stages) s
   stage_leads (stage.Run b) h = leads b.operations b.next h.next
   stage_leads (stage.Act (act.Print site values) next) h = h.1
   stage_leads (stage.Act act.Return next) h = tt
@@ -116,44 +118,70 @@ module _ (P : Program) (codes : Codes) (are : AreRoutines P codes) where
   short_at f l (Some (stage.Run b)) at =
       let is = block_there f l b at in short P f (codes f).code (codes f).plan is.code.typed is.plan l (Some (stage.Run b)) at
 
-  busy_at : (f l : ℕ) (o : Option Stage) → stage_at codes f l ≡ o → 0 < (plan_at o (slice_get (codes f).plan.stages l)).states → (block_at o).steps ≡ 0 → ⊥
-  busy_at f l None at some idle = omega arith
-  busy_at f l (Some (stage.Act a next)) at some idle = omega arith
-  busy_at f l (Some (stage.Run b)) at some idle =
-      let is = block_there f l b at in busy P f (codes f).code (codes f).plan is.code.typed is.plan l (Some (stage.Run b)) at some idle
+  abbrev chain_there : ℕ → ℕ → ℕ
+  chain_there f l = stage_chain P (codes f).code.stages l
 
-  low_at : (f l : ℕ) (o : Option Stage) → stage_at codes f l ≡ o → own_latencies (block_at o) ≤ 32 * weight P + 1
-  low_at f l None at = omega arith
-  low_at f l (Some (stage.Act a next)) at = omega arith
-  low_at f l (Some (stage.Run b)) at =
-      let is = block_there f l b at in low P f (codes f).code (codes f).plan is.code.typed is.plan l (Some (stage.Run b)) at
+  holds_at : (f l : ℕ) (o : Option Stage) → stage_at codes f l ≡ o → own_latencies (block_at o) ≤ chain_there f l
+  holds_at f l None at = omega arith
+  holds_at f l (Some (stage.Act a next)) at = omega arith
+  holds_at f l (Some (stage.Run b)) at =
+      let is = block_there f l b at in holds P f (codes f).code (codes f).plan is.code.typed is.plan l (Some (stage.Run b)) at
 
-  low_here : (f l : ℕ) → own_latencies (blocks_of codes f l) ≤ 32 * weight P + 1
-  low_here f l = low_at f l (stage_at codes f l) refl
+  -- code without stages has no chains
+  low_at : (f l : ℕ) → l < rest_of codes f → chain_there f l ≤ 32 * weight P + 1
+  low_at f l lt = ⊎_elim (λ is. low P f (codes f).code (codes f).plan is.code.typed is.plan l) (λ none. absurd (nothing (codes f).code.stages none lt)) (are.each f)
+    where
+      nothing : (stages : List Stage) → stages ≡ [] → l < length stages → ⊥
+      nothing stages none less = let e = ap length none in omega (arith, e, less)
+
+  low_there : (f l : ℕ) → l < rest_of codes f → chain_of P codes f l ≡ chain_there f l
+  low_there f l lt = ap (λ (b : Bool). if b then chain_there f l else 32 * weight P + 2) (less_is l (rest_of codes f) lt)
+
+  high_there : (f l : ℕ) → rest_of codes f ≤ l → chain_of P codes f l ≡ 32 * weight P + 2
+  high_there f l le = ap (λ (b : Bool). if b then chain_there f l else 32 * weight P + 2) (not_less_is l (rest_of codes f) le)
 
   -- by whether it is a stage
-  by_test : (f l : ℕ) (Q : ℕ → Type 0) → Q (own_latencies (blocks_of codes f l)) → Q (32 * weight P + 2) → (b : Bool) →
-      Q (if b then own_latencies (blocks_of codes f l) else 32 * weight P + 2)
-  by_test f l Q inside past true = inside
-  by_test f l Q inside past false = past
+  by_test : (f l : ℕ) (Q : ℕ → Type 0) → (l < rest_of codes f → Q (chain_there f l)) → (rest_of codes f ≤ l → Q (32 * weight P + 2)) → Q (chain_of P codes f l)
+  by_test f l Q inside past =
+      ⊎_elim (λ lt. subst Q (sym (low_there f l lt)) (inside lt)) (λ le. subst Q (sym (high_there f l le)) (past le)) (less_or_not l (rest_of codes f))
+
+  -- what a block takes
+  own_at : (f l : ℕ) (o : Option Stage) → stage_at codes f l ≡ o → own_latencies (block_at o) ≤ 32 * weight P + 1
+  own_at f l None at = omega arith
+  own_at f l (Some (stage.Act a next)) at = omega arith
+  own_at f l (Some (stage.Run b)) at =
+      let holds_ = holds_at f l (Some (stage.Run b)) at in
+      let few = low_at f l (slice_get_within (codes f).code.stages l (stage.Run b) at) in
+      omega (arith, holds_, few)
+
+  stepless_at : (f l : ℕ) (o : Option Stage) → stage_at codes f l ≡ o → 0 < (plan_at o (slice_get (codes f).plan.stages l)).states → (block_at o).steps ≡ 0 → (value : Operand → ℤ) →
+      own_latencies (block_at o) + (chain_of P codes f (leads_to value (block_at o).next) + 0) ≤ chain_of P codes f l
+  stepless_at f l None at some idle value = omega arith
+  stepless_at f l (Some (stage.Act a next)) at some idle value = omega arith
+  stepless_at f l (Some (stage.Run b)) at some idle value =
+      let is = block_there f l b at in
+      let typed = is.code.typed.stages l (stage.Run b) at in
+      let to = leads_to value (block_at (Some (stage.Run b))).next in
+      let room = stepless P f (codes f).code (codes f).plan is.code.typed is.plan l (Some (stage.Run b)) at some idle value in
+      let here = low_there f l (slice_get_within (codes f).code.stages l (stage.Run b) at) in
+      let there = low_there f to (goes_within (types_of P (codes f).code) (rest_of codes f) b.operations b.next value typed.next) in
+      omega (arith, room, here, there)
 
   chains : AreChains (blocks_of codes) (plans_of codes) (chain_of P codes) no_spare (weight P)
   chains = record {
     short = λ f l. short_at f l (stage_at codes f l) refl;
-    holds = λ f l. by_test f l (λ n. own_latencies (blocks_of codes f l) ≤ n) (omega arith) (let few = low_here f l in omega (arith, few)) (nat_lt l (rest_of codes f));
-    stepless = λ f l some idle value. absurd (busy_at f l (stage_at codes f l) refl some idle);
-    bounded = λ f l. by_test f l (λ n. 2 * n + 0 ≤ 64 * (weight P + 1)) (let few = low_here f l in omega (arith, few)) (omega arith) (nat_lt l (rest_of codes f));
+    holds = λ f l.
+        by_test f l (λ n. own_latencies (blocks_of codes f l) ≤ n) (λ lt. holds_at f l (stage_at codes f l) refl)
+        (λ le. let few = own_at f l (stage_at codes f l) refl in omega (arith, few));
+    stepless = λ f l some idle value. stepless_at f l (stage_at codes f l) refl some idle value;
+    bounded = λ f l. by_test f l (λ n. 2 * n + 0 ≤ 64 * (weight P + 1)) (λ lt. let few = low_at f l lt in omega (arith, few)) (λ le. omega arith);
   }
 
   chains_there : AreChainsThere P codes (chain_of P codes)
   chains_there = record {
     chains = chains;
-    low = λ f l lt.
-        let is : chain_of P codes f l ≡ own_latencies (blocks_of codes f l) =
-        ap (λ (b : Bool). if b then own_latencies (blocks_of codes f l) else 32 * weight P + 2) (less_is l (rest_of codes f) lt) in
-        let few = low_here f l in
-        omega (arith, is, few);
-    high = λ f l le. ap (λ (b : Bool). if b then own_latencies (blocks_of codes f l) else 32 * weight P + 2) (not_less_is l (rest_of codes f) le);
+    low = λ f l lt. let is = low_there f l lt in let few = low_at f l lt in omega (arith, is, few);
+    high = high_there;
   }
 
   module _ (R : IsResolved P) where

@@ -1,6 +1,6 @@
 -- The chains of a routine of three stages: a block of one statement, a wait at a barrier, a return. It rests behind them, at 3, and meets at 5.
 use Rattle.std.specs.Prelude.{None}
-use Rattle.std.proofs.Common.{◌≡◌, ℕ, suc, ◌+◌, ◌*◌, ◌-◌, ◌≤◌, List, [], ◌∷◌, refl, sym, subst, arith}
+use Rattle.std.proofs.Common.{◌≡◌, ℕ, suc, ◌+◌, ◌*◌, ◌-◌, ◌≤◌, List, [], ◌∷◌, refl, ap, arith}
 use Rattle.hls_ints.specs.Types.{long_int}
 use Rattle.c_program.specs.Tree.{Program}
 use Rattle.c_program.specs.Weight.{weight}
@@ -22,6 +22,10 @@ use Rattle.law_routines.specs.Plans.{chain_of}
 twice : (w : ℕ) → 2 * ((32 * w + 2) - 1) ≡ 64 * w + 2
 twice w = omega arith
 
+-- a stage behind which no block without steps follows, in code that has none
+largest : (w : ℕ) → 9 * 0 + (8 * (4 * w - 2 * 0) + 1) ≡ 32 * w + 1
+largest w = omega arith
+
 module _ (P : Program) (o : Operand) (c : ThreadCode) (plan : Planned) where
   -- a statement that reads an element
   abbrev one : Block
@@ -36,12 +40,12 @@ module _ (P : Program) (o : Operand) (c : ThreadCode) (plan : Planned) where
   abbrev reserve : ℕ → ℕ
   reserve l = (hardware_code codes (chain_of P codes)).reserve 0 l
 
-  -- the chain of the block is its own latencies, 2 of the read and 1, so that it keeps nothing back
-  first_chain : chain_of P codes 0 0 ≡ 3
-  first_chain = refl
+  -- the chain of the block has what the largest may take, of which its own latencies are 2 of the read and 1
+  first_chain : chain_of P codes 0 0 ≡ 32 * weight P + 1
+  first_chain = largest (weight P)
 
-  first_keeps : reserve 0 ≡ 0
-  first_keeps = refl
+  first_keeps : reserve 0 ≡ 2 * ((32 * weight P + 1) - 3)
+  first_keeps = ap (λ n. 2 * (n - 3)) first_chain
 
   -- a rest has room for all that it may lead to, and so has a meeting, whatever stage is before it: the block's, the wait's, the return's
   rest_chain : chain_of P codes 0 3 ≡ 32 * weight P + 2
@@ -61,4 +65,4 @@ module _ (P : Program) (o : Operand) (c : ThreadCode) (plan : Planned) where
 
   -- the first stage of a routine is below the rest that leads to it
   below : suc (reserve 0) ≤ reserve 3
-  below = subst (λ z. 1 ≤ z) (sym rest_keeps) (omega arith)
+  below = let first = first_keeps in let rest = rest_keeps in omega (arith, first, rest)

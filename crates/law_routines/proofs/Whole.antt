@@ -1,15 +1,14 @@
 -- Blocks of typed code by a right plan run as the machine needs it.
-use Rattle.std.proofs.Common.{◌≡◌, ℕ, zero, suc, ◌+◌, ◌*◌, ◌<◌, List, [], ◌∷◌, length, map, Some, refl}
+use Rattle.std.proofs.Common.{◌≡◌, ℕ, zero, suc, ◌+◌, ◌<◌, List, [], ◌∷◌, length, map, Some, refl}
 use Rattle.std.specs.Prelude.{slice_get}
 use Rattle.c_program.specs.Tree.{GlobalVariable, Program}
-use Rattle.c_program.specs.Weight.{weight}
 use Rattle.block_ir.specs.declared.block.Block.{Block}
 use Rattle.block_ir.specs.declared.code.Stage.TheVariants as stage
 use Rattle.block_ir.specs.declared.code.ThreadCode.{ThreadCode}
 use Rattle.block_ir.specs.declared.plan.BlockPlan.{BlockPlan}
 use Rattle.block_ir.specs.declared.plan.Planned.{Planned}
 use Rattle.plan_conditions.specs.Right.{IsRightPlan}
-use Rattle.code_following.specs.Typed.{types_of, IsTypedCode}
+use Rattle.code_following.specs.Typed.{types_of, most_operations, IsTypedCode}
 use Rattle.thread_promise.specs.Promise.{RunsAt}
 use Rattle.bank_partition.specs.declared.banks.Spread.{Spread}
 use Rattle.bank_partition.specs.Shapes.{count_of, spreads_from}
@@ -32,12 +31,12 @@ module _ (P : Program) (threads : List ℕ) (routine : ℕ) (code : ThreadCode) 
   planned l b at =
       let p = planned_at P routine code plan typed is l b at in
       let t = typed_at P routine code plan typed is l b at in
-      let order = in_order (types_of P code) (length code.stages) (4 * weight P) b t in (
+      let order = in_order (types_of P code) (length code.stages) (most_operations P code.stages) b t in (
         p.0,
         record {
           listed = at;
           planned_so = p.1;
-          typed = block_typed (types_of P code) code refl refl (length code.stages) (4 * weight P) b t refl;
+          typed = block_typed (types_of P code) code refl refl (length code.stages) (most_operations P code.stages) b t refl;
           accesses = accesses_are (types_of P code) spreads (λ x n e. spread_at threads P.globals 0 0 x n e) [] b.operations t.operations;
           keeps = p.2.keeps order;
           registered = p.2.registered order;
