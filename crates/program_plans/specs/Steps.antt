@@ -1,8 +1,9 @@
 -- What the parts of planning make.
-use Rattle.std.specs.Prelude.{◌≡◌, ℕ, ◌*◌, List, [], ◌∷◌, map, slice_get, string_bytes}
+use Rattle.std.specs.Prelude.{◌≡◌, ℕ, List, [], ◌∷◌, map, slice_get, string_bytes}
 use Rattle.c_program.specs.Tree.{Program}
 use Rattle.c_program.specs.Counting.{capped}
 use Rattle.c_program.specs.Weight.{weight}
+use Rattle.code_following.specs.Idle.{operation_limit}
 use Rattle.code_following.specs.Typed.{IsThreadCode}
 use Rattle.block_ir.specs.declared.code.ThreadCode.{ThreadCode}
 use Rattle.block_ir.specs.declared.plan.Planned.{Planned}
@@ -13,7 +14,7 @@ use Rattle.program_plans.specs.declared.PlannedFunction.{PlannedFunction}
 -- the code of the thread function f, with maximal blocks
 pub record IsCode (P : Program) (f : ℕ) (c : ThreadCode) : Type 0 where
   pub code : IsThreadCode P f c
-  pub maximal : IsMaximal (4 * capped (weight P)) c
+  pub maximal : IsMaximal (operation_limit (capped (weight P)) c.stages) c
 
 -- the codes of these thread functions, one after another
 abbrev pub AreCodes : Program → List ℕ → List ThreadCode → Type 0

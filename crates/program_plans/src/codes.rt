@@ -1,16 +1,17 @@
 // The codes of thread functions.
 
-ghost use Rattle.std.specs.Prelude.{◌≡◌, ◌*◌, Contains, None, IfOk};
+ghost use Rattle.std.specs.Prelude.{◌≡◌, ◌≤◌, Contains, None, IfOk};
 ghost use Rattle.c_limits.specs.Counts.{first_passed};
 ghost use Rattle.c_program.specs.Counting.{capped};
 ghost use Rattle.c_program.specs.Plain.{program_of};
 ghost use Rattle.c_program.specs.Resolved.{IsResolved};
 ghost use Rattle.c_program.specs.Weight.{thread_functions, weight as weight_of};
+ghost use Rattle.code_following.specs.Idle.{idle_stage, idle_count, operation_limit};
 ghost use Rattle.code_following.specs.Typed.{IsThreadCode};
 ghost use Rattle.code_merge.specs.Maximal.{IsMaximal};
 ghost use Rattle.program_plans.specs.Steps.{AreCodes};
 
-use block_ir::code::ThreadCode;
+use block_ir::code::{Stage, ThreadCode};
 use c_program::tree::Program;
 use code_blocks::fault::LoweringFault;
 use code_merge::{drop_empty, merge};
@@ -33,8 +34,37 @@ fn lowered(alloc: Global, program: &Program, function: usize) -> Result<ThreadCo
     }
 }
 
+/// 1 for a block without steps, 0 for any other stage.
+fn idle(stage: &Stage) -> usize
+    ensures value { result ≡ idle_stage stage.now }
+    ensures one { result ≤ 1 }
+{
+    match stage {
+        Stage::Run(block) if block.steps == 0 => 1,
+        _ => 0,
+    }
+}
+
+/// How many of the stages are blocks without steps.
+fn count_idle(stages: &[Stage]) -> usize
+    ensures { result ≡ idle_count stages.now }
+{
+    let mut count = 0;
+    for stage in stages {
+        count += idle(stage);
+    }
+    count
+}
+
+/// The most operations of a block of these stages, in a program of this weight.
+fn most_operations(stages: &[Stage], weight: u32) -> usize
+    ensures { result ≡ operation_limit weight stages.now }
+{
+    2 * (2 * weight as usize).saturating_sub(count_idle(stages))
+}
+
 /// The code of a thread function of a program of this weight, with maximal blocks: they have at most four operations for each unit
-/// of the weight. What merging leaves of blocks that have become parts of others is dropped.
+/// of the weight, but two fewer for each block without steps. What merging leaves of blocks that have become parts of others is dropped.
 fn code(
     alloc: Global,
     program: &Program,
@@ -46,10 +76,11 @@ fn code(
     requires runs { Contains (thread_functions (program_of program.now)) function }
     requires weight { weight ≡ capped (weight_of (program_of program.now)) }
     ensures code { IfOk result (IsThreadCode (program_of program.now) function) }
-    ensures maximal { IfOk result (IsMaximal (4 * weight)) }
+    ensures maximal { IfOk result (λ c. IsMaximal (operation_limit weight c.stages) c) }
 {
     let code = lowered(alloc, program, function)?;
-    let merged = merge(alloc, code, 4 * weight as usize)?;
+    let most = most_operations(code.stages.as_slice(), weight);
+    let merged = merge(alloc, code, most)?;
     drop_empty(alloc, merged)
 }
 

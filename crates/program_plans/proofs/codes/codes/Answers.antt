@@ -1,7 +1,8 @@
-use Rattle.std.proofs.Common.{ℕ, ◌*◌, [], get_or, sym, subst}
+use Rattle.std.proofs.Common.{ℕ, [], get_or, sym, subst}
 use Rattle.std.specs.Prelude.{Contains}
 use Rattle.std.proofs.lemmas.List.Elements.{Contains-get_or}
 use Rattle.c_program.specs.Plain.{program_of}
+use Rattle.code_following.specs.Idle.{operation_limit}
 use Rattle.code_merge.specs.Maximal.{IsMaximal}
 use Rattle.program_plans.specs.Steps.{AreCodes}
 use Rattle.program_plans.proofs.CodesInOrder.{codes_next, codes_whole}
@@ -31,7 +32,7 @@ loop-function-preserved c =
     c.loop-function-test.true c.loop-function.invariant
     (record {
       code = c.in_ok-code.ensures.code;
-      maximal = subst (λ (w : ℕ). IsMaximal (4 * w) c.in_ok-code.code) c.requires.weight c.in_ok-code.ensures.maximal;
+      maximal = subst (λ (w : ℕ). IsMaximal (operation_limit w c.in_ok-code.code.stages) c.in_ok-code.code) c.requires.weight c.in_ok-code.ensures.maximal;
     })
     c.in_ok-push.ensures.ok
 
