@@ -26,8 +26,8 @@ struct Lowered {
     functions: usize,
     /// The number of this one; main is 0.
     number: usize,
-    /// The widths of the variables, which are signed: each scalar local, and behind them the words that hold the values of a
-    /// printf, the value of a call, or the operands of a pthread call, as many as any function needs.
+    /// The widths of the variables, which are signed: of each function the scalar locals and what keeps values, and behind them the
+    /// words that hold the values of a printf, the operands of a pthread call or what is switched, as many as any function needs.
     widths: &'static [u32],
     shapes: &'static [Shape],
 }
@@ -36,7 +36,7 @@ struct Lowered {
 const CREATING: &str =
     "pthread_t t; void *w(void *arg){return NULL;} int main(void){pthread_create(&t, NULL, w, NULL); pthread_join(t, NULL); return 0;}";
 
-const LOWERED: [Lowered; 5] = [
+const LOWERED: [Lowered; 9] = [
     // the declarator, both assignments and the values of the printf are one block
     Lowered {
         text: "int main(void){int x; x = 6; x = x * 7; printf(\"%d\", x); return 0;}",
@@ -85,6 +85,38 @@ const LOWERED: [Lowered; 5] = [
         number: 1,
         widths: &[64, 64, 64],
         shapes: &[[0, 0, 0]],
+    },
+    // the block of the switch has the comparison with the first case, and one that takes no step that with the second
+    Lowered {
+        text: "int main(void){int x = 2; switch (x) {case 1: x = 5; break; case 2: x = 6;} return 0;}",
+        functions: 1,
+        number: 0,
+        widths: &[32, 64],
+        shapes: &[[2, 1, 2], [3, 4, 0], [4, 4, 1], [4, 4, 1], [0, 0, 0]],
+    },
+    // the operand, each choice, and the assignment of what is kept
+    Lowered {
+        text: "int main(void){int x = 1; x = x ? 2 : 3; return 0;}",
+        functions: 1,
+        number: 0,
+        widths: &[32, 64],
+        shapes: &[[1, 2, 2], [3, 3, 1], [3, 3, 1], [4, 4, 1], [0, 0, 0]],
+    },
+    // the operand that decides keeps the truth, and no block does so besides
+    Lowered {
+        text: "int main(void){int x = 1; x = x && x; return 0;}",
+        functions: 1,
+        number: 0,
+        widths: &[32, 64],
+        shapes: &[[1, 2, 2], [2, 2, 1], [3, 3, 1], [0, 0, 0]],
+    },
+    // each call ends a block by its return; what main returns is not computed
+    Lowered {
+        text: "int f(int x){return x * 7;} int main(void){return f(2) + f(3);}",
+        functions: 1,
+        number: 0,
+        widths: &[32, 64, 64],
+        shapes: &[[1, 1, 2], [2, 2, 2], [0, 0, 0]],
     },
 ];
 

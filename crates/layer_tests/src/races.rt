@@ -33,7 +33,7 @@ const CROSSING: &str =
 /// that both touch.
 type Row = (&'static str, &'static str, &'static [usize], &'static str);
 
-const ROWS: [Row; 17] = [
+const ROWS: [Row; 20] = [
     (ADDING, "", &[], ""),
     (ADDING, "0*11,1*3", &[], ""),
     (ADDING, "0*11,1*3,2*3", &[], "1 and 2 at 0[0]"),
@@ -57,6 +57,26 @@ const ROWS: [Row; 17] = [
         "0",
         &[0],
         "r1[0] r1[0] r0[2] w0[2] ",
+    ),
+    // rows of three elements: of each place both indices
+    (
+        "int g[2][3]; int k; int main(void){k = 1; g[k][k + 1] = g[0][k] + 1; return 0;}",
+        "0",
+        &[0],
+        "r1[0] r0[1] r1[0] r1[0] w0[5] ",
+    ),
+    // the operand of ?:, and of a switch
+    (
+        "int x; int main(void){int y = x ? 1 : 2; return y;}",
+        "",
+        &[0],
+        "r0[0] ",
+    ),
+    (
+        "int x; int main(void){switch (x) {case 0: x = 1;} return 0;}",
+        "",
+        &[0],
+        "r0[0] ",
     ),
     ("int x; int main(void){return x;}", "", &[0], "r0[0] "),
     // the arguments of printf, and then its act

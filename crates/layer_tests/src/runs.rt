@@ -26,10 +26,15 @@ const WAITING: &str =
     "pthread_t t; pthread_barrier_t b; void *w(void *arg){pthread_barrier_wait(&b); return NULL;} int main(void){pthread_barrier_init(&b, NULL, 2); \
     pthread_create(&t, NULL, w, NULL); pthread_join(t, NULL); return 0;}";
 
+/// Calls that tell their order, as operands of `&&`, `||`, `?:` and `!`, and what is switched: 44 steps.
+const ORDERED: &str =
+    "int n; int t(int x){n = n * 10 + x; return x;} int main(void){int a = t(1) && t(0) && t(5) || t(2); int b = t(0) ? t(7) : t(3) ? t(4) : t(6); \
+    int c = !(t(0) || t(8)) + 1; switch (t(9)) { case 9: n++; } printf(\"%d %d %d %d\\n\", n, a, b, c); return 0;}";
+
 /// A text, the most steps of its run, and how what it shows begins.
 type Row = (&'static str, u32, &'static str);
 
-const ROWS: [Row; 7] = [
+const ROWS: [Row; 9] = [
     ("int main(void){return 0;}", 9, "good, 1 steps"),
     (COUNTING, 16, "good, 16 steps"),
     (COUNTING, 15, "unknown, 15 steps: too few"),
@@ -40,6 +45,13 @@ const ROWS: [Row; 7] = [
         "int main(void){int a = 0; printf(\"%d\\n\", 1 / a); return 0;}",
         9,
         "undefined at 26",
+    ),
+    (ORDERED, 100, "good, 44 steps"),
+    // the first index is outside of its dimension, before the second is evaluated
+    (
+        "int g[2][3]; int main(void){int z = 0; return g[2][1 / z];}",
+        9,
+        "undefined at 39",
     ),
 ];
 

@@ -27,7 +27,7 @@ struct Counted {
     bound: u32,
 }
 
-const COUNTED: [Counted; 3] = [
+const COUNTED: [Counted; 5] = [
     // f weighs 1, and 1 each for its return and its operator; w 1, and 1 for its return; main 1, and 1 each for the declarator,
     // the argument, the create and its index, and what f weighs; each has a parameter or a local, and main also that of f
     Counted {
@@ -52,6 +52,27 @@ const COUNTED: [Counted; 3] = [
         text: "int main(void){int i; for (i = 1; i < 4; i++) printf(\"%d\\n\", i); return 0;}",
         weights: &[9],
         locals: &[1],
+        routines: &[0],
+        weight: 9,
+        threads: 1,
+        bound: 640,
+    },
+    // f weighs 1, and 1 for its return; main 1, and 1 each for the declarator, the return, &&, ||, ?: and three indices, and four
+    // times what f weighs
+    Counted {
+        text: "int f(void){return 1;} int a[2][2][2] = {{{1}, {2, 3}}}; int main(void){int x = f() && (f() ? f() : 2); return a[x][0][f() || 0];}",
+        weights: &[2, 17],
+        locals: &[0, 1],
+        routines: &[1],
+        weight: 17,
+        threads: 1,
+        bound: 1152,
+    },
+    // main weighs 1, and 1 each for both switches, the three labels, the empty statement, the break and the return
+    Counted {
+        text: "int main(void){switch (1) {} switch (2) {case 1: case 2: ; default: break;} return 0;}",
+        weights: &[9],
+        locals: &[0],
         routines: &[0],
         weight: 9,
         threads: 1,
