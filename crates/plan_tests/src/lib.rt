@@ -8,6 +8,8 @@ mod bindings;
 #[cfg(test)]
 mod dropped;
 #[cfg(test)]
+mod loops;
+#[cfg(test)]
 mod packings;
 #[cfg(test)]
 mod plans;
