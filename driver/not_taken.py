@@ -16,9 +16,6 @@ WORDS = {
     "_Bool": ("the type `_Bool`", "`unsigned char`, of 0 and 1"),
     "_Complex": ("a complex type", "two integers"),
     "_Imaginary": ("an imaginary type", "an integer"),
-    "switch": ("a `switch`", "`if` and `else`"),
-    "case": ("a `case`", "`if` and `else` in place of the `switch`"),
-    "default": ("a `default`", "`if` and `else` in place of the `switch`"),
     "goto": ("a `goto`", "a loop with `break`, or a flag"),
     "sizeof": ("`sizeof`", "its number"),
     "volatile": (
@@ -123,7 +120,8 @@ LIMITS = {
     "name length": ("", "a shorter name"),
     "nesting": (
         "",
-        "a table in a global array in place of a long chain of `else if`; fewer blocks and parentheses in one another",
+        "a `switch`, or a table in a global array, in place of a long chain of `else if`; fewer blocks and parentheses "
+        "in one another",
     ),
     "functions": ("main", "fewer functions: a function with one more parameter in place of copies"),
     "thread ids": (
@@ -150,7 +148,7 @@ UNDEFINED = {
     "overflow": "a signed result out of its type, `MIN / -1` or `MIN % -1`",
     "divisor": "a division by 0",
     "shift": "a count below 0 or not below the width, or a left shift of a negative value or past a signed type's end",
-    "index": "an index outside of its array",
+    "index": "an index outside of its array, or of its own dimension",
     "unwritten": "a local is read that was never written",
     "no value": "the value of a call is used that returned none",
     "thread id": "a create of a thread that was not joined, a join of one not created, or a thread that joins itself",

@@ -5,6 +5,7 @@ part of what is proved."""
 from __future__ import annotations
 
 import difflib
+import math
 import re
 from typing import Callable
 
@@ -14,6 +15,7 @@ from driver.view import ASSIGNMENTS, Answer, View, here, wrong
 
 CONVERSIONS = '`%d %u %ld %lu %lld %llu %%`, without widths, and the escapes `\\n \\t \\\\ \\"`'
 MOST_VALUES = 4
+CONSTANTS = "numbers, characters, casts and operators, without `&&`, `||`, `?:` and calls"
 THREAD_OBJECTS = ("pthread_t", "pthread_mutex_t", "pthread_barrier_t")
 ARGUMENTS = {
     "pthread_create": (
@@ -70,6 +72,8 @@ def unknown_name(view: View) -> Answer:
 
 def declared_twice(view: View) -> Answer:
     name = view.word(view.at)
+    if name == "default" or view.word(view.start(view.at)) == "case":
+        return label_twice(view)
     if name == "printf" or name.startswith("pthread_"):
         return here(view, f"a declaration of `{name}`", "nothing: it is known without one")
     first = view.declaration(name, view.at)
@@ -77,7 +81,97 @@ def declared_twice(view: View) -> Answer:
     return wrong(view, f"a second declaration of `{name}`{where}", "another name, or one declaration")
 
 
+def label_twice(view: View) -> Answer:
+    """A label that stands before it in the same `switch`. Of two values that are spelled in two ways the line of the first
+    is not told."""
+    word = "default" if view.word(view.at) == "default" else "case"
+    values = [value(view, k) for k in labels(view, word)]
+    number = value(view, view.at - (word == "case"))
+    before = [k for k, other in zip(labels(view, word), values) if k < view.at - 1 and other == number]
+    where = f", first in line {view.line(before[0])}" if before else ", as converted to its type"
+    if word == "default":
+        return wrong(view, f"a second `default` in one `switch`{where}", "one `default`")
+    what = f"a second `case` of this value in one `switch`{where}"
+    return wrong(view, what, "each value once; labels side by side, `case 1: case 2:`, for one group")
+
+
+def labels(view: View, word: str) -> list[int]:
+    """The labels of this word in the braces of the `switch` round the place."""
+    opened = view.opened(view.at)
+    around = [k for k in opened if view.word(k) == "{"][-1:]
+    closed = view.closing(around[0]) if around else 0
+    inside = range(around[0] + 1, closed) if around else range(0)
+    return [k for k in inside if view.word(k) == word and view.opened(k)[-1:] == around]
+
+
+def value(view: View, label: int) -> str:
+    """How the value of a label is written, a number in decimal."""
+    words = [view.word(k) for k in range(label + 1, view.colon(label)) if view.word(k) not in ("(", ")")]
+    return str(int_of(words[0])) if len(words) == 1 and words[0][:1].isdigit() else " ".join(words)
+
+
 # ---- E6: kinds
+
+
+def dimensions(view: View, name: int) -> list[int]:
+    """The first bracket of each dimension behind a name."""
+    found, k = [], name + 1
+    while view.word(k) == "[" and k < len(view.tokens):
+        found.append(k)
+        k = view.closing(k) + 1
+    return found
+
+
+def initialised(view: View) -> tuple[int, list[int]] | None:
+    """Of a place in the braces of an initialiser at file scope the name that is declared, and the braces round it."""
+    braces = [k for k in view.opened(view.at) if view.word(k) == "{"]
+    if not braces or view.word(braces[0] - 1) != "=":
+        return None
+    name = braces[0] - 2
+    while view.word(name) == "]":
+        name = next(k for k in range(name) if view.word(k) == "[" and view.closing(k) == name) - 1
+    return name, braces
+
+
+def shape(view: View) -> Answer | None:
+    """A token that departs from the form in braces that the first item has."""
+    found = initialised(view)
+    if found is None:
+        return None
+    count = len(dimensions(view, found[0]))
+    by_levels = view.word(found[1][0] + 1) == "{"
+    form = "a level of braces for each dimension, as `{{1, 2}, {3, 4}}`, or one list without braces in it"
+    if view.word(view.at) == "{" and not by_levels:
+        return here(view, "braces within a list whose first value has none", form)
+    if view.word(view.at) == "{":
+        return here(view, f"more levels of braces than `{view.word(found[0])}` has dimensions", form)
+    if by_levels and len(found[1]) < count:
+        return here(view, "a value where a list in braces is due", form)
+    return None
+
+
+def declared_form(view: View) -> Answer | None:
+    """An initialiser of another form than what is declared with it, or a thread object of two dimensions."""
+    name, first = view.word(view.at), view.start(view.at)
+    if not view.is_name(view.at) or not view.declares(view.at):
+        return None
+    words, brackets = [view.word(k) for k in range(first, view.at)], dimensions(view, view.at)
+    kind = next((it for it in THREAD_OBJECTS if it in words), "")
+    end = view.closing(brackets[-1]) + 1 if brackets else view.at + 1
+    if kind and len(brackets) > 1:
+        return here(view, f"a `{kind}` of {len(brackets)} dimensions", f"one dimension, `{name}[i * 8 + j]`")
+    if view.word(end) != "=":
+        return None
+    if kind:
+        write = "`PTHREAD_MUTEX_INITIALIZER` for one mutex, `pthread_mutex_init(&m[i], NULL);` for each of an array"
+        return here(view, f"this initialiser of `{name}`", write)
+    if brackets and view.is_inside(view.at):
+        return here(view, "an initialiser of a local array", "assignments to its elements, or a global array")
+    if brackets:
+        return here(view, f"an initialiser of the array `{name}` without braces", "a list in braces, `{1, 2}`")
+    if view.word(end + 1) == "{":
+        return here(view, f"a list in braces for the scalar `{name}`", "one value")
+    return None
 
 
 def static_local(view: View) -> Answer | None:
@@ -132,6 +226,9 @@ def used_name(view: View) -> Answer:
     k = view.declaration(name, view.at)
     words = [view.word(it) for it in range(view.start(k), k)] if k is not None else []
     is_array, is_function = (k is not None and view.word(k + 1) == it for it in ("[", "("))
+    has, given = (len(dimensions(view, it)) if it is not None else 0 for it in (k, view.at))
+    element = "a" + "".join(f"[{index}]" for index in "ijk"[:has])
+    indices = f"{given} ind{'ex' if given == 1 else 'ices'}"
     is_const = "const" in words and (
         follows in ASSIGNMENTS | {"++", "--", "["} or view.word(view.at - 1) in ("++", "--")
     )
@@ -144,10 +241,19 @@ def used_name(view: View) -> Answer:
         (
             is_function and follows != "(",
             f"the function `{name}` as a value",
-            "a call of it, in a statement of its own",
+            f"a call of it, `{name}(..)`",
         ),
         (follows == "(" and not is_function, f"a call of `{name}`, which is no function", "the name of a function"),
-        (is_array and follows != "[", f"the array `{name}` without an index", "`a[i]`; as an argument the index alone"),
+        (
+            is_array and follows != "[",
+            f"the array `{name}` without an index",
+            f"`{element}`; as an argument the index alone",
+        ),
+        (
+            is_array and given != has,
+            f"the array `{name}` of {has} dimension{'s' * (has != 1)} with {indices}",
+            f"an index for each dimension, `{element}`",
+        ),
         (follows == "[" and not is_array, f"`{name}` with an index, which is no array", "a scalar without an index"),
         (is_const, f"a change of `{name}`, which is `const`", "an object without `const`"),
         ("*" in words, f"the pointer `{name}` in another form", "`(long)p` in a start routine"),
@@ -159,7 +265,7 @@ def used_name(view: View) -> Answer:
 
 
 def wrong_kind(view: View) -> Answer:
-    rules = (returned, pointer_object, static_local, thread_argument, start_routine)
+    rules = (returned, pointer_object, static_local, thread_argument, start_routine, shape, declared_form)
     return next((answer for rule in rules for answer in [rule(view)] if answer), used_name(view))
 
 
@@ -233,17 +339,13 @@ def is_other_create(view: View, k: int, object_name: str, name: str) -> bool:
 
 def out_of_place(view: View) -> Answer:
     name = view.word(view.at)
-    if name == "?":
-        return here(view, "a choice, `?:`", "`if (c) x = a; else x = b;`")
-    if name in ("&&", "||"):
-        return here(view, f"`{name}` outside of a condition", f"`if (a {name} b) x = 1; else x = 0;`")
-    if name in ("break", "continue"):
-        return here(view, f"a `{name}` outside of a loop", "it inside of a `while`, `do` or `for`")
-    if name == "printf" or name.startswith("pthread_"):
-        return here(view, f"the result of `{name}`", "the call as a statement of its own: it does not fail")
-    before = "before the loop and at the end of its body" if view.call(view.at)[0] == "while" else "before it"
-    write = f"`t = {name}(..);` {before}, and `t` in the call's place"
-    return here(view, f"a call inside of an expression, `{name}(..)`", write)
+    if name == "break":
+        write = "it inside of a `while`, `do`, `for` or `switch`"
+        return wrong(view, "a `break` outside of a loop or a `switch`", write)
+    if name == "continue":
+        leave = "; `break` leaves a `switch`" if view.switch(view.at) is not None else ""
+        return wrong(view, "a `continue` outside of a loop", f"it inside of a `while`, `do` or `for`{leave}")
+    return here(view, f"the result of `{name}`", "the call as a statement of its own: it does not fail")
 
 
 def constant_range(view: View) -> Answer:
@@ -251,12 +353,29 @@ def constant_range(view: View) -> Answer:
     if view.kind(view.at) == "number" and int_of(word) > (1 << 63) - 1:
         write = "at most 18446744073709551615, with a suffix `u` from 9223372036854775808 on"
         return here(view, f"the constant `{word}`, which no type holds", write)
+    if view.word(view.start(view.at)) == "case":
+        write = f"{CONSTANTS}; `if` and `else` for what is computed"
+        return here(view, "a `case` that is not constant", write)
     if around[-1:] == ["["] and view.is_type(view.start(view.at)):
         return length(view)
-    if around[-1:] == ["{"]:
-        what = "this value of a list: not constant, or more of them than elements"
-        return here(view, what, "constants, at most as many as the array has elements")
+    found = initialised(view)
+    if found is not None:
+        return listed_value(view, *found)
     return here(view, "an initialiser of a global that is not constant", "an assignment in `main`")
+
+
+def listed_value(view: View, name: int, braces: list[int]) -> Answer:
+    """A value of a list in braces: one more than there are elements, or one that is not constant."""
+    lengths = [constant(view, k) or 0 for k in dimensions(view, name)]
+    by_levels = view.word(braces[0] + 1) == "{"
+    before = sum(view.word(k) == "," and view.opened(k)[-1:] == braces[-1:] for k in range(braces[-1], view.at))
+    most = lengths[len(braces) - 1 : len(braces)] if by_levels else [math.prod(lengths)]
+    if most and 0 < most[0] <= before:
+        whole = f"`{view.word(name)}`" if not by_levels or len(braces) == 1 else "a row"
+        kind, part = ("lists", "row") if view.word(view.at) == "{" else ("values", "element")
+        what = f"more {kind} than the {most[0]} {part}{'s' * (most[0] != 1)} of {whole}"
+        return wrong(view, what, "at most as many as its length, or a greater length")
+    return here(view, "a value of a list that is not constant", f"{CONSTANTS}; an assignment in `main`")
 
 
 def length(view: View) -> Answer:
@@ -264,6 +383,8 @@ def length(view: View) -> Answer:
     tokens = range(view.at, view.closing(view.opened(view.at)[-1]))
     inner = "".join(view.word(k) for k in tokens)
     name = next((view.word(k) for k in tokens if view.is_name(k)), "")
+    if any(view.word(k) in ("?", "&&", "||") for k in tokens):
+        return here(view, f"a length that is not constant, `{inner}`", CONSTANTS)
     if name:
         write = f"`#define {name} integer`, or an array of the greatest length"
         return here(view, f"a length that is not constant, `{inner}`", write)
@@ -296,7 +417,7 @@ def first_of(view: View, word: str, name: str, number: int) -> int:
     """Where that begins which is too much, as far as the text shows it."""
     arrays = [k for k in range(len(view.tokens)) if view.word(k + 1) == "[" and view.is_type(view.start(k))]
     if name == "one array":
-        arrays = [k for k in arrays if constant(view, k + 1) == number]
+        arrays = [k for k in arrays if math.prod(constant(view, it) or 0 for it in dimensions(view, k)) == number]
     elif name in ("global elements", "local elements"):
         arrays = [k for k in arrays if view.is_inside(k) == (name == "local elements")]
     else:

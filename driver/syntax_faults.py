@@ -5,7 +5,7 @@ import difflib
 from typing import Callable
 
 from driver.not_taken import NAMES, TYPES, WORDS
-from driver.view import ASSIGNMENTS, CONTROL_WORDS, OPERATORS, Answer, View, here, wrong
+from driver.view import ASSIGNMENTS, CONTROL_WORDS, LABELS, OPERATORS, Answer, View, here, wrong
 
 POINTER = "a global array, and an index as the parameter"
 PAIRS = {"(": ")", "[": "]", "{": "}"}
@@ -77,7 +77,7 @@ def unknown_type(view: View) -> Answer | None:
 def begins_declaration(view: View, k: int) -> bool:
     """Whether a declaration, a parameter or a cast may begin with the token."""
     before = view.word(k - 1) if k else ";"
-    if before in (";", "{", "}", "(", "static", "const", "unsigned", "signed"):
+    if before in (";", "{", "}", "(", ":", "static", "const", "unsigned", "signed"):
         return True
     return before == "," and any(view.word(it) == "(" for it in view.opened(k))
 
@@ -90,10 +90,10 @@ def array_parameter(view: View) -> Answer | None:
 
 
 def array_form(view: View) -> Answer | None:
-    """A second dimension, or brackets without a length or an index."""
+    """A fourth dimension, or brackets without a length or an index."""
     word, before = view.word(view.at), view.word(view.at - 1)
     if word == "[" and before == "]":
-        return here(view, "a second dimension", "one dimension, `a[i * 8 + j]` for `a[i][j]`")
+        return here(view, "a fourth dimension", "three: two of them in one, `a[i * 8 + j][k][l]` for `a[i][j][k][l]`")
     if word == "[" and before in ("{", ","):
         return Answer(
             view.place(view.at), "an initialiser for an element by its number", "all values from the first on"
@@ -116,12 +116,9 @@ def initialiser(view: View) -> Answer | None:
                 view.place(view.at), "an initialiser of a local array", "assignments to its elements, or a global array"
             )
         return here(view, "a list in braces here", "one value for a scalar, a list for a global array")
-    if word == "{" and before in ("{", ",", ")"):
-        return Answer(
-            view.place(view.at),
-            "a list within a list, or a value of a type in braces",
-            "one list of integers for a global array",
-        )
+    if word == "{" and before in ("{", ",", "(", ")"):
+        write = "each value by itself: braces stand round the values of a global array alone"
+        return here(view, "values in braces here", write)
     if word == "}" and before == "{":
         return Answer(view.place(view.at - 1), "an empty list", "`{0}`: globals begin at 0")
     if word == "PTHREAD_MUTEX_INITIALIZER":
@@ -131,6 +128,47 @@ def initialiser(view: View) -> Answer | None:
             "`pthread_mutex_init(&m[i], NULL);` for each mutex of an array",
         )
     return None
+
+
+def switch_form(view: View) -> Answer | None:
+    """What a `switch` has elsewhere than C of the profile: braces, then groups of labels and statements."""
+    k = view.at
+    if view.heads(k) == "switch":
+        return here(view, "a `switch` without braces", "`switch (x) { case 1: .. }`")
+    around = view.opened(k)
+    if not around or not view.is_switch(around[-1]) or view.word(k) in LABELS | {"}"}:
+        return None
+    if k == around[-1] + 1:
+        what = "declaration" if view.is_type(k) else "statement"
+        write = f"the {what} before the `switch`, or behind a label: no way leads to it here"
+        return here(view, f"a {what} before the first label of a `switch`", write)
+    if view.is_type(k) and view.start(k) == k:
+        return here(view, "a declaration in the braces of a `switch`", "a block round it: `case 1: { int x; .. }`")
+    return None
+
+
+def label_form(view: View) -> Answer | None:
+    """A `case` without a value, or a label without its `:`."""
+    first = view.start(view.at)
+    if view.word(first) not in LABELS or first == view.at:
+        return None
+    if view.word(view.at - 1) == "case":
+        return wrong(view, "a value is missing behind `case`", "`case 1:`")
+    if view.word(view.at) in OPERATORS | {"++", "--", ")"} or view.word(view.at - 1) in OPERATORS:
+        return None
+    last = view.at - 1
+    return Answer(view.place(last), f"a `:` is missing behind `{view.word(last)}`", "`case 1:`, `default:`", True, "")
+
+
+def misplaced_label(view: View) -> Answer | None:
+    """A label elsewhere than right in the braces of a `switch`, where a statement might begin."""
+    word, before = view.word(view.at), view.word(view.at - 1)
+    if word not in LABELS or not (before in (";", "{", "}", ":", "else", "do", "") or view.heads(view.at)):
+        return None
+    if view.switch(view.at) is None:
+        return wrong(view, f"a `{word}` outside of a `switch`", "each label in the braces of its `switch`")
+    write = "each label right in the braces of its `switch`, in no block, loop or `if` within"
+    return here(view, f"a `{word}` inside of another statement of its `switch`", write)
 
 
 def text_literal(view: View) -> Answer | None:
@@ -249,7 +287,7 @@ def dropped_value(view: View) -> Answer | None:
     if (
         not view.is_inside(view.at)
         or view.is_type(first)
-        or view.word(first) in ("if", "while", "for", "do", "else", "return")
+        or view.word(first) in ("if", "while", "for", "do", "else", "return", "switch", *LABELS)
     ):
         return None
     is_operator = view.word(view.at) in OPERATORS | {"&&", "||", "?", ";"} - ASSIGNMENTS - {"(", "[", ":"}
@@ -270,7 +308,7 @@ def missing_semicolon(view: View) -> Answer | None:
     if not ends or not (view.kind(view.at) in ("name", "number") or word in ("}", "{", "++", "--")):
         return None
     meant = difflib.get_close_matches(view.word(last), sorted(CONTROL_WORDS), 1, 0.7)
-    if meant and view.start(view.at) == last and view.declaration(view.word(last)) is None:
+    if meant and view.is_name(last) and view.start(view.at) == last and view.declaration(view.word(last)) is None:
         return Answer(
             view.place(last), f"`{view.word(last)}`, which is no word of C", f"`{meant[0]}`, if that is meant", lead=""
         )
@@ -278,6 +316,18 @@ def missing_semicolon(view: View) -> Answer | None:
         return wrong(view, f"`{word}` behind `{view.word(last)}`", "an operator or a `;` between them")
     what = f"a `;` is missing behind `{view.word(last)}`"
     return Answer(view.place(last), what, "a `;` at the end of each statement", True, "")
+
+
+def unfinished_choice(view: View) -> Answer | None:
+    """A `?` without its `:`."""
+    around, word = view.opened(view.at), view.word(view.at)
+    if not view.ends_operand(view.at - 1) or word not in (";", ",", ")", "]", "}"):
+        return None
+    first = max(view.start(view.at), around[-1] + 1 if around else 0)
+    marks = [k for k in range(first, view.at) if view.word(k) in ("?", ":") and view.opened(k) == around]
+    if 2 * sum(view.word(k) == "?" for k in marks) <= len(marks):
+        return None
+    return wrong(view, f"a `:` is missing before `{word}`, for the `?` of line {view.line(marks[0])}", "`c ? a : b`")
 
 
 def missing_bracket(view: View) -> Answer | None:
@@ -290,7 +340,7 @@ def missing_bracket(view: View) -> Answer | None:
             f"a `{closed}` is missing, for the `{opened}` of line {view.line(around[-1])}",
             f"a `{closed}` before `{word}`",
         )
-    if view.word(view.at - 1) in ("if", "while", "for") and word != "(":
+    if view.word(view.at - 1) in ("if", "while", "for", "switch") and word != "(":
         return wrong(view, f"a `(` is missing behind `{view.word(view.at - 1)}`", "the condition in parentheses")
     if word in (")", "]", "}") and PAIRS.get(view.word(around[-1]) if around else "") != word:
         return wrong(view, f"a `{word}` that closes nothing", "the text without it")
@@ -319,8 +369,9 @@ def other(view: View) -> Answer:
 
 RULES: tuple[Callable[[View], Answer | None], ...] = (
     *(at_end, word_not_taken, main_arguments, unknown_type, array_parameter, array_form, initialiser, text_literal),
-    *(inner_function, label, pointer, stray_else, missing_bracket, dropped_value, change_inside, missing_semicolon),
-    *(untyped_function, untyped_parameter, comma, missing_operand),
+    *(switch_form, misplaced_label, label_form, inner_function, label, pointer, stray_else, unfinished_choice),
+    *(missing_bracket, dropped_value, change_inside, missing_semicolon, untyped_function, untyped_parameter, comma),
+    missing_operand,
 )
 
 

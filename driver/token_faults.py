@@ -72,6 +72,8 @@ def number(view: View) -> Answer | None:
 
 def member(view: View) -> Answer | None:
     """A `.`: that of a member, or three of them."""
+    if view.word(view.at) == "..." and view.word(view.start(view.at)) == "case":
+        return Answer(view.offset, "a range of values, `...`", "a `case` for each value")
     if view.word(view.at) == "...":
         return Answer(view.offset, "arguments without a number, `...`", "a function of a fixed number of integers")
     if view.word(view.at) != ".":

@@ -15,6 +15,7 @@ OPERATORS = frozenset(
     "= += -= *= /= %= &= |= ^= <<= >>= + - * / % & | ^ << >> < > <= >= == != && || ! ~ ? : ( [ ,".split()
 )
 CONTROL_WORDS = frozenset("if else while do for return break continue switch case default goto".split())
+LABELS = frozenset("case default".split())
 ASSIGNMENTS = frozenset("= += -= *= /= %= &= |= ^= <<= >>=".split())
 
 
@@ -81,10 +82,24 @@ class View:
         return len(self.tokens)
 
     def start(self, k: int) -> int:
-        """The first token of the statement or declaration of the token."""
-        while k > 0 and self.word(k - 1) not in (";", "{", "}"):
-            k -= 1
-        return k
+        """The first token of the statement or declaration of the token, or of the label that it belongs to."""
+        first = k
+        while first > 0 and self.word(first - 1) not in (";", "{", "}"):
+            first -= 1
+        while self.word(first) in LABELS and self.colon(first) < k:
+            first = self.colon(first) + 1
+        return first
+
+    def colon(self, k: int) -> int:
+        """The `:` of a `case` or `default`, or how many tokens there are."""
+        choices = 0
+        for i in range(k + 1, len(self.tokens)):
+            if self.word(i) in (";", "{", "}"):
+                break
+            if self.word(i) == ":" and not choices:
+                return i
+            choices += {"?": 1, ":": -1}.get(self.word(i), 0)
+        return len(self.tokens)
 
     def stop(self, k: int) -> int:
         """The `;`, `{` or `}` behind the token, or how many tokens there are."""
@@ -93,8 +108,23 @@ class View:
         return k
 
     def is_inside(self, k: int) -> bool:
-        """Whether the token stands in a block."""
-        return any(self.word(i) == "{" and self.word(i - 1) != "=" for i in self.opened(k))
+        """Whether the token stands in a block, and not in the braces of an initialiser at file scope."""
+        return next((self.word(i - 1) != "=" for i in self.opened(k) if self.word(i) == "{"), False)
+
+    def heads(self, k: int) -> str:
+        """The word whose head in parentheses ends before the token: `if`, `while`, `for` or `switch`, or nothing."""
+        if self.word(k - 1) != ")":
+            return ""
+        opened = next((i for i in range(k) if self.word(i) == "(" and self.closing(i) == k - 1), 0)
+        return self.word(opened - 1) if self.word(opened - 1) in ("if", "while", "for", "switch") else ""
+
+    def is_switch(self, k: int) -> bool:
+        """Whether the `{` is that of a `switch`."""
+        return self.word(k) == "{" and self.heads(k) == "switch"
+
+    def switch(self, k: int) -> int | None:
+        """The innermost `{` of a `switch` round the token, or none."""
+        return next((i for i in reversed(self.opened(k)) if self.is_switch(i)), None)
 
     def function(self, k: int) -> str:
         """The name of the function in whose body the token stands, or nothing."""
@@ -115,16 +145,17 @@ class View:
         return self.word(around[-1] - 1), len(commas)
 
     def declaration(self, name: str, before: int | None = None) -> int | None:
-        """Where a name is declared: behind words of a type, or behind a comma of such a declaration."""
+        """Where a name is declared."""
         for k in range(len(self.tokens) if before is None else before):
-            if self.word(k) != name or self.kind(k) != "name":
-                continue
-            ahead = k - 1 - (self.word(k - 1) == "*")
-            if self.is_type(ahead) or (
-                self.word(ahead) == "," and self.is_type(self.start(k)) and self.word(k + 1) != "("
-            ):
+            if self.word(k) == name and self.kind(k) == "name" and self.declares(k):
                 return k
         return None
+
+    def declares(self, k: int) -> bool:
+        """Whether the name is declared there: behind words of a type, or behind a comma of such a declaration."""
+        ahead = k - 1 - (self.word(k - 1) == "*")
+        is_next = self.word(ahead) == "," and self.is_type(self.start(k)) and self.word(k + 1) != "("
+        return self.is_type(ahead) or is_next
 
     def line(self, k: int) -> int:
         return self.text.count("\n", 0, self.place(k)) + 1
