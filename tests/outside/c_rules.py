@@ -311,11 +311,10 @@ class Program:
 
 
 class Rules:
-    """Goes through a tree in the order of the text. Where `more` is false calls, choices and short circuits have the
-    places that they had before they might stand in any expression."""
+    """Goes through a tree in the order of the text."""
 
-    def __init__(self, tree: list[c.External], more: bool = True) -> None:
-        self.tree, self.more = tree, more
+    def __init__(self, tree: list[c.External]) -> None:
+        self.tree = tree
         self.faults: list[tuple[int, int]] = []
         self.scopes: list[dict[str, Meaning]] = [{}]
         self.definitions: list[Definition] = []
@@ -511,7 +510,7 @@ class Rules:
                 # the name is in scope in its initialiser (6.2.1)
                 self.broken_if(not isinstance(meaning, Variable) or bool(lengths), 6, declarator.at)
                 assert not isinstance(declarator.initial, (c.Braces, c.MutexInitial))
-                self.right_side(declarator.initial)
+                self.value(declarator.initial)
 
     # ---- functions
 
@@ -666,7 +665,7 @@ class Rules:
         if isinstance(value, c.Pointer):
             self.pointer(value)
         elif value is not None:
-            self.right_side(value)
+            self.value(value)
 
     # ---- assignments
 
@@ -678,10 +677,7 @@ class Rules:
         self.target(tree.place)
         self.weigh(int(isinstance(tree, c.Step) or tree.operator != "="))
         if isinstance(tree, c.Assign):
-            if tree.operator == "=":
-                self.right_side(tree.right)
-            else:
-                self.value(tree.right)
+            self.value(tree.right)
 
     def target(self, place: c.Place) -> None:
         meaning = place.meaning = self.look_up(place.name)
@@ -690,13 +686,6 @@ class Rules:
             self.broken_if(meaning.is_const or len(meaning.lengths) != len(place.indices), 6, place.name_at)
         elif meaning is not UNUSABLE:
             self.broken(4 if meaning is None else 6, place.name_at)
-
-    def right_side(self, e: c.Expression) -> None:
-        """A right side, of which the whole could be a call before a call might stand anywhere."""
-        if isinstance(e, c.Call) and isinstance(self.look_up(e.name), Header):
-            self.call(e, True, False)
-        else:
-            self.value(e)
 
     # ---- expressions
 
@@ -725,7 +714,7 @@ class Rules:
         if isinstance(e, c.Place):
             return self.object_value(e)
         if isinstance(e, c.Call):
-            return self.call(e, True, not self.more)
+            return self.call(e, True)
         self.weigh()
         if isinstance(e, c.Unary):
             kind = self.value(e.operand).promoted()
@@ -733,11 +722,9 @@ class Rules:
         elif isinstance(e, c.Cast):
             self.cast(e)
         elif isinstance(e, c.Choice):
-            self.broken_if(not self.more, 10, e.question_at)
             self.condition(e.condition)
             e.type = usual(self.value(e.first), self.value(e.second))
         elif e.operator in ("&&", "||"):
-            self.broken_if(not self.more, 10, e.operator_at)
             self.condition(e.left)
             self.condition(e.right)
         else:
@@ -770,11 +757,10 @@ class Rules:
 
     # ---- calls
 
-    def call(self, call: c.Call, is_value: bool, is_misplaced: bool) -> Integer:
+    def call(self, call: c.Call, is_value: bool) -> Integer:
         """A call of a function of the text, or of a name that is none; as a value also one of the library."""
         meaning = call.meaning = self.look_up(call.name)
         at = call.name_at
-        self.broken_if(is_misplaced, 10, at)
         if isinstance(meaning, Header):
             self.function_called(meaning, call, is_value)
             for argument in call.arguments:
@@ -809,7 +795,7 @@ class Rules:
     def call_statement(self, call: c.Call) -> None:
         meaning = call.meaning = self.look_up(call.name)
         if not isinstance(meaning, Library):
-            self.call(call, False, False)
+            self.call(call, False)
             return
         self.library_called(meaning, call)
         arguments = call.arguments
@@ -925,15 +911,15 @@ class Rules:
         return None
 
 
-def resolved(text: str, more: bool = True) -> Program:
+def resolved(text: str) -> Program:
     """The program of a text whose characters are its bytes; Refused where it has none."""
-    return Rules(c.read(text, more), more).program()
+    return Rules(c.read(text)).program()
 
 
-def built(text: str, more: bool = True) -> str:
+def built(text: str) -> str:
     """How the line of a build begins, or the whole line of a refusal."""
     try:
-        program = resolved(text, more)
+        program = resolved(text)
     except Refused as why:
         return f"hls: refused {why}\n"
     return f"hls: built, {program.threads()} threads, weight {program.weight()}, "

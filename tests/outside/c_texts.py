@@ -23,6 +23,7 @@ WORDS = {
     13: "format",
 }
 MOST_BYTES, MOST_TOKENS, MOST_NAME, MOST_NESTING = 65_536, 16_384, 63, 64
+MOST_DIMENSIONS = 3
 
 
 class Refused(Exception):
@@ -265,7 +266,6 @@ class Cast:
 class Binary:
     at: int
     operator: str
-    operator_at: int
     left: Expression
     right: Expression
     type: Integer = INT
@@ -274,7 +274,6 @@ class Binary:
 @dataclass
 class Choice:
     at: int
-    question_at: int
     condition: Expression
     first: Expression
     second: Expression
@@ -457,12 +456,10 @@ ASSIGNMENTS = set("= *= /= %= += -= <<= >>= &= ^= |=".split())
 
 class Parser:
     """By recursive descent, one token ahead but where a pointer may begin. Each token is looked at as it is taken, so
-    the first one that no text goes on with is found, and the first one that is nested too deep. Where `more` is false
-    it is the grammar without switch and with one dimension."""
+    the first one that no text goes on with is found, and the first one that is nested too deep."""
 
-    def __init__(self, tokens: list[Token], more: bool = True) -> None:
+    def __init__(self, tokens: list[Token]) -> None:
         self.tokens, self.next, self.depth = tokens, 0, 0
-        self.more, self.dimensions = more, 3 if more else 1
 
     # ---- tokens
 
@@ -518,20 +515,19 @@ class Parser:
         condition = self.binary(0)
         if not self.sees("?"):
             return condition
-        question = self.take("?").at
+        self.take("?")
         first = self.expression()
         self.take(":")
         second = self.nested(self.expression)
-        return Choice(condition.at, question, condition, first, second)
+        return Choice(condition.at, condition, first, second)
 
     def binary(self, level: int) -> Expression:
         if level == len(LEVELS):
             return self.cast()
         left = self.binary(level + 1)
         while LEVEL.get(self.tokens[self.next].kind) == level:
-            operator = self.take(self.tokens[self.next].kind)
-            right = self.binary(level + 1)
-            left = Binary(left.at, operator.kind, operator.at, left, right)
+            operator = self.take(self.tokens[self.next].kind).kind
+            left = Binary(left.at, operator, left, self.binary(level + 1))
         return left
 
     def begins_cast(self) -> bool:
@@ -561,7 +557,7 @@ class Parser:
 
     def indices(self) -> list[Expression]:
         found: list[Expression] = []
-        while len(found) < self.dimensions and self.sees("["):
+        while len(found) < MOST_DIMENSIONS and self.sees("["):
             found.append(self.within("[", self.expression, "]"))
         return found
 
@@ -617,9 +613,8 @@ class Parser:
             "while": self.while_statement,
             "do": self.do_statement,
             "for": self.for_statement,
+            "switch": self.switch_statement,
         }
-        if self.more:
-            compound["switch"] = self.switch_statement
         if kind in compound:
             return compound[kind]()
         found: Statement
@@ -726,19 +721,19 @@ class Parser:
         self.take(";")
         return Declaration(words, at, False, found)
 
-    def initial(self, depth: int = 0) -> Initial:
-        """A value, or a list in braces; without `more` no braces stand in braces."""
-        if not self.sees("{") or (depth and not self.more):
+    def initial(self) -> Initial:
+        """A value, or a list in braces."""
+        if not self.sees("{"):
             return self.expression()
         at = self.tokens[self.next].at
 
         def items() -> list[Initial]:
-            found = [self.initial(depth + 1)]
+            found = [self.initial()]
             while self.sees(","):
                 self.take(",")
                 if self.sees("}"):
                     break
-                found.append(self.initial(depth + 1))
+                found.append(self.initial())
             return found
 
         return Braces(at, self.within("{", items, "}"))
@@ -791,6 +786,6 @@ class Parser:
         return found
 
 
-def read(text: str, more: bool = True) -> list[External]:
+def read(text: str) -> list[External]:
     """The tree of a text whose characters are its bytes; Refused where it has none."""
-    return Parser(Lexer(text).lexed(), more).unit()
+    return Parser(Lexer(text).lexed()).unit()
