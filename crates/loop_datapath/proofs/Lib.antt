@@ -1,0 +1,19 @@
+mod AheadOperands
+mod AheadWires
+mod LastFinals
+mod LoopFinals
+mod LoopOperands
+mod LoopOperations
+mod LoopValues
+mod LoopWrites
+mod OperandRounds
+mod RoundWires
+mod Settled
+mod StateBits
+mod BitGates
+mod InsideStages
+mod KeptChains
+mod ChainWires
+mod LeftLoops
+mod LoopLinks
+pub mod SeenLoops
